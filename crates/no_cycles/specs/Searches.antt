@@ -15,10 +15,10 @@ is_turn_limit Memory = false
 
 -- the search was given up for such a cause
 abbrev pub is_for : (Cause → Bool) → Outcome → Bool
-is_for such (Optimal x v ns) = false
-is_for such (Infeasible ns) = false
-is_for such (Unbounded x v r) = false
-is_for such (BestSoFar x v c) = such c
+is_for such (Optimal x vs cs) = false
+is_for such (Infeasible cert) = false
+is_for such (Unbounded x vs cs r) = false
+is_for such (BestSoFar x vs c) = such c
 is_for such (Unsure c) = such c
 
 -- and for that one

@@ -1,11 +1,11 @@
 //! What is known of runs and of searches.
 ghost use Rattle.std.specs.Prelude.{◌≡◌, ℕ, ◌+◌, ◌^◌, ◌<◌, ◌≤◌, Bool, false, Some};
-ghost use Rattle.evidence.specs.Instance.{Instance, IsInstance, width, height};
+ghost use Rattle.evidence.specs.Instance.{Instance, IsInstance, alone, width, height};
 ghost use Rattle.bases.specs.Program.{goal_column};
 ghost use Rattle.simplex_rules.specs.Ends.{Terms, Clock, End, TurnsOut};
 ghost use Rattle.simplex_rules.specs.Runs.{Moment, To, IsNext, HasNoClash, ComesInRun, Run, IsRun};
 ghost use Rattle.search_rules.specs.Search.{Outcome, IsSearchAnswer};
-ghost use Rattle.search_rules.specs.Outcomes.{IsPlain};
+ghost use Rattle.search_rules.specs.Outcomes.{HaveOneRange, IsPlain};
 ghost use Rattle.no_cycles.specs.Phase.{IsImprovingTurn, AreTurns, HaveSamePlaces, IsSettled, BeginsSettled, HasNoneTwice, came_through};
 ghost use Rattle.no_cycles.specs.Beginning.{BeginsFeasible};
 ghost use Rattle.no_cycles.specs.Searches.{is_out_of_turns};
@@ -41,13 +41,13 @@ pub fn limit_never_comes()
     ensures { (I : Instance) (zeroed : Bool) (t : Terms) (c d : Clock) → IsInstance I → BeginsSettled I zeroed → c.turns + 4 ^ (width I + height I) ≤ t.turns → Run I zeroed t c TurnsOut d → ⊥ }
 {}
 
-/// Law: a search without whole variables whose first values keep each row between its ends isn't given up for its turns, where the
-/// limit is as many as are enough.
+/// Law: the search of one goal, without variables that are whole or may be 0 besides, whose first values keep each row between its
+/// ends, isn't given up for its turns, where the limit is as many as are enough.
 pub fn plain_searches_stay_within_turns()
-    ensures { (I : Instance) (t : Terms) (o : Outcome) (c : Clock) → IsInstance I → IsPlain I → BeginsFeasible I → 4 ^ (width I + height I) ≤ t.turns → IsSearchAnswer I t o c → is_out_of_turns o ≡ false }
+    ensures { (I : Instance) (t : Terms) (o : Outcome) (c : Clock) → IsInstance I → IsPlain I → HaveOneRange I → BeginsFeasible I → 4 ^ (width I + height I) ≤ t.turns → IsSearchAnswer (alone I) t o c → is_out_of_turns o ≡ false }
 {}
 
 /// Law: nor is such a search where the limit is at least the safe one of its program.
 pub fn safe_limits_are_enough()
-    ensures { (I : Instance) (t : Terms) (o : Outcome) (c : Clock) (l : ℕ) → IsInstance I → IsPlain I → BeginsFeasible I → safe_limit (width I) (height I) ≡ Some l → l ≤ t.turns → IsSearchAnswer I t o c → is_out_of_turns o ≡ false }
+    ensures { (I : Instance) (t : Terms) (o : Outcome) (c : Clock) (l : ℕ) → IsInstance I → IsPlain I → HaveOneRange I → BeginsFeasible I → safe_limit (width I) (height I) ≡ Some l → l ≤ t.turns → IsSearchAnswer (alone I) t o c → is_out_of_turns o ≡ false }
 {}

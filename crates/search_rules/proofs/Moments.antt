@@ -1,290 +1,369 @@
 -- What holds at each moment of a search stays so.
-use Rattle.std.proofs.Common.{◌≡◌, ℕ, ◌⊎◌, inl, inr, ℤ, pos, ◌+ℤ◌, false, Option, None, Some, List, [], ◌∷◌, ◌++◌, arith, refl, sym, ◌∙◌, subst}
+use Rattle.std.proofs.Common.{◌≡◌, ℕ, ◌⊎◌, inl, inr, ℤ, pos, ◌+ℤ◌, false, Option, None, Some, List, [], ◌∷◌, ◌++◌, get_or, refl, sym, ◌∙◌, ap, subst}
 use Rattle.std.specs.List.{All}
 use Rattle.std.specs.Option.{is_some}
-use Rattle.std.proofs.lemmas.Int.{ints}
-use Rattle.std.proofs.lemmas.List.Elements.{All-head, All-tail, All-cons, All-nil}
-use Rattle.rational.specs.Ratio.{Ratio, product, IsSame, IsBelow, IsNumber, IsAtMost}
-use Rattle.evidence.specs.Instance.{Instance, IsInstance, alone, width, cost_at, minimising}
-use Rattle.evidence.specs.Point.{value_at, objective, IsFeasible, IsRay}
-use Rattle.evidence.specs.Cases.{Multiplier, Node, ClashAt, FarkasBy, BoundBy, SplitAt, IsBound, at_most, at_least}
-use Rattle.evidence.specs.Width.{PointFits}
+use Rattle.std.proofs.lemmas.List.Elements.{All-head, All-tail, All-cons, All-nil, All-push}
+use Rattle.rational.specs.Ratio.{Ratio, product, IsSame, IsNumber, IsAtMost}
 use Rattle.rational.proofs.Scaling.{IsSame-trans}
+use Rattle.evidence.specs.Instance.{Variable, Goal, Instance, Problem, IsInstance, IsProblem, no_variable, width, cost_at, variable_at, minimising}
+use Rattle.evidence.specs.Point.{value_at, objective, IsFeasible}
+use Rattle.evidence.specs.Cases.{Multiplier, Node, ClashAt, FarkasBy, BoundBy, SplitAt, ZeroAt, IsBound, IsZeroBranch}
+use Rattle.evidence.specs.Rounds.{Certificate, derive}
+use Rattle.evidence.specs.Levels.{IsReachedEnd}
+use Rattle.evidence.specs.Width.{PointFits}
 use Rattle.evidence.proofs.Totals.{total-number}
 use Rattle.evidence.proofs.Numbers.{product-number}
 use Rattle.evidence.proofs.Columns.{value-number}
 use Rattle.evidence.proofs.Duality.{minimising-number}
-use Rattle.simplex_rules.specs.Ends.{Terms, Clock, End, Clash, Empty, Best, Endless, TurnsOut, TooWide, Stopped, Shown, IsDirection, IsBest, IsRelaxed}
-use Rattle.search_rules.specs.Search.{Found, Moment, To, first, closed_by_leaf, branch, IsPassed, IsHopeful, IsValue, IsSplit, IsWholeBelow, MeetsPoint, GoesFrom, IsNext, ComesInSearch, begins, goes_on}
-use Rattle.search_rules.specs.Outcomes.{HaveOneRange, IsPoint}
-use Rattle.evidence.specs.PendingNodes.{ProvesAll}
-use Rattle.search_rules.proofs.Nodes.{Within, Leads, leads_first, leads_on, clash_first, farkas_first, bound_first, split_first, at_most-trans, at_most-below, at_most-same, minimising_by-same}
+use Rattle.simplex_rules.specs.declared.columns.Status.{Status}
+use Rattle.simplex_rules.specs.Ends.{Terms, Clock, End, Clash, Empty, Best, Endless, TurnsOut, TooWide, Stopped, Shown, IsDirection, IsBest}
+use Rattle.simplex_rules.specs.Runs.{looked_once}
 use Rattle.simplex_rules.proofs.Moments.{run_true}
+use Rattle.search_rules.specs.Branching.{Case, AreMetBelow, NoneMoves, split_cases, divided_cases}
+use Rattle.search_rules.specs.Cuts.{IsCut, Trial, NoCut, WideCut, Cut, TriesMultipliers, TriesEquation, TriesBasis}
 use Rattle.search_rules.specs.Rays.{IsScaled}
-use Rattle.search_rules.proofs.Rays.{ray_of}
-use Rattle.search_rules.proofs.RelaxedPoints.{IsLow, HasNoLow, low_of_bound, no_low}
-use Rattle.search_rules.proofs.Cases.{IsCase, itself, case_most, case_least, feasible, objective_of}
+use Rattle.search_rules.specs.Search.{Found, Level, SearchMoment, To, first, undivided, shown_at, reached, closed_by_leaf, branch, divide, with_cut, next_level_at, IsPassed, IsHopeful, IsValue, AreValuesAt, Branches, MayCut, Takes, TakesPoint, MeetsPoint, GoesFromTrial, Improves, GoesFromBest, GoesFrom, Closes, IsNext, ComesInSearch, begins, goes_on}
+use Rattle.search_rules.specs.Outcomes.{IsPoint, Proves, CertificateProves}
+use Rattle.search_rules.proofs.Nodes.{ProvesAll, no_nodes, Within, Leads, leads_first, leads_on, leads_out, clash_first, farkas_first, bound_first, split_first, zero_first, at_most-trans, at_most-below, at_most-same, minimising_by-same}
+use Rattle.search_rules.proofs.Cases.{IsCase, itself, case_cut, IsEndless, IsOpen, open_most, open_least, open_zero, open_own, open_undivided, feasible, objective_of}
+use Rattle.search_rules.proofs.Endless.{endless_case}
+use Rattle.search_rules.proofs.Rays.{scaled_as}
+use Rattle.search_rules.proofs.Levels.{IsAfter, after_on, proves_after, IsLevel, level_first, level_on, feasible_on, value_of, width_is}
 
-pub record HasLow (I : Instance) : Type 0 where
-  pub low : Ratio
-  pub number : IsNumber low
-  pub is : IsLow I low
+-- a point that was found is one of its level
+pub record IsFound (P : Problem) (l : Level) (f : Found) : Type 0 where
+  pub feasible : IsFeasible l.program f.point
+  pub values : AreValuesAt P f.point f.values
+  pub fits : PointFits P f.point
 
--- no node, or one with no open case below it, or the goal zero, or a lowest objective of relaxed points
-abbrev pub IsGrounded : Instance → Moment → Type 0
-IsGrounded I m = (m.waiting ≡ []) ⊎ (m.nodes ≡ []) ⊎ ((m.ray ≡ None) → ⊥) ⊎ HasLow I
+pub found_point : (P : Problem) (l : Level) (f : Found) → IsLevel P l → IsFound P l f → IsPoint P f.point f.values
+found_point P l f is h = record { feasible = is.feasible f.point h.feasible; values = h.values; fits = h.fits }
 
--- a point with its value, feasible where no variable may be 0 besides
-pub record IsFound (I : Instance) (f : Found) : Type 0 where
-  pub feasible : HaveOneRange I → IsFeasible I f.point
-  pub value : IsValue I f.point f.value
-  pub fits : PointFits (alone I) f.point
+abbrev pub HasNoRounds : Certificate → Type 0
+HasNoRounds c = c.rounds ≡ []
 
-pub found_point : (I : Instance) (f : Found) → HaveOneRange I → IsFound I f → IsPoint I f
-found_point I f one is = record { feasible = is.feasible one; value = is.value; fits = is.fits }
+pub record Holds (P : Problem) (m : SearchMoment) : Type 0 where
+  pub level : IsLevel P m.level
+  pub cut : Instance
+  pub after : IsAfter m.level.program m.rounds cut
+  pub within : IsCase m.level.program cut
+  pub cases : All (IsOpen m.level.program) m.waiting
+  pub best : (f : Found) → m.best ≡ Some f → IsFound P m.level f
+  pub first : m.best ≡ None → m.level.shown ≡ []
+  pub leads : Leads m.level cut m.waiting m.nodes m.best
+  pub root : m.nodes ≡ [] → m.waiting ≡ undivided cut ∷ []
+  pub rounds : (P.later ≡ []) ⊎ (All HasNoRounds m.level.shown × (m.rounds ≡ []))
 
--- and a direction is a ray from each point on
-abbrev pub IsEndless : Instance → List Ratio → Type 0
-IsEndless I r = HaveOneRange I → (x : List Ratio) → IsRay I x r
+none_derived : (P : Problem) (l : Level) (derived : List (List Multiplier)) → derived ≡ [] → (P.later ≡ []) ⊎ All HasNoRounds l.shown → (P.later ≡ []) ⊎ (All HasNoRounds l.shown × (derived ≡ []))
+none_derived P l derived none (inl e) = inl e
+none_derived P l derived none (inr a) = inr (a, none)
 
-pub record Holds (I : Instance) (m : Moment) : Type 0 where
-  pub cases : All (IsCase I) m.waiting
-  pub best : (f : Found) → m.best ≡ Some f → IsFound I f
-  pub leads : Leads I m.waiting m.nodes m.best
-  pub root : m.nodes ≡ [] → (m.waiting ≡ I ∷ []) × (m.best ≡ None)
-  pub zero : (m.ray ≡ None → ⊥) → m.best ≡ None
-  pub ray : (r : List Ratio) → m.ray ≡ Some r → IsEndless I r
-  pub grounded : IsGrounded I m
-
-pub holds_first : (I : Instance) → IsInstance I → Holds I (first I)
-holds_first I n = record {
-  cases = All-cons (IsCase I) I [] (itself I n) (All-nil (IsCase I));
-  best = λ f e. absurd (cc);
-  leads = leads_first I;
-  root = λ e. (refl, refl);
-  zero = λ e. refl;
-  ray = λ r e. absurd (cc);
-  grounded = inr (inl refl);
+-- a level's first moment
+begun_holds : (P : Problem) (l : Level) (c : Clock) (best : Option Found) → IsLevel P l → ((f : Found) → best ≡ Some f → IsFound P l f) → (best ≡ None → l.shown ≡ []) → (P.later ≡ []) ⊎ All HasNoRounds l.shown
+    → Holds P (record { level = l; rounds = []; waiting = undivided l.program ∷ []; nodes = []; clock = c; best = best })
+begun_holds P l c best is found first rounds = record {
+  level = is;
+  cut = l.program;
+  after = refl;
+  within = itself l.program is.good;
+  cases = All-cons (IsOpen l.program) (undivided l.program) [] (open_undivided l.program l.program (itself l.program is.good)) (All-nil (IsOpen l.program));
+  best = found;
+  first = first;
+  leads = leads_first l l.program best;
+  root = λ e. refl;
+  rounds = none_derived P l [] refl rounds;
 }
 
-no_nodes : (nodes : List Node) (n : Node) → nodes ++ n ∷ [] ≡ [] → ⊥
-no_nodes [] n e = cc
-no_nodes (x ∷ xs) n e = cc
-
--- a better best value asks less of the value that is shown
-weaker : (I : Instance) (best : Option Found) (f : Found) → ((g : Found) → best ≡ Some g → IsAtMost (minimising I f.value) (minimising I g.value)) → IsNumber (minimising I f.value) → (z : Option Ratio) → Within I z (Some f) → Within I z best
-weaker I None f h n z w = tt
-weaker I (Some g) f h n None w = w
-weaker I (Some g) f h n (Some a) w = at_most-trans a (minimising I f.value) (minimising I g.value) n w (h g refl)
-
-abbrev found_at : List Ratio → Ratio → Found
-found_at x v = record { point = x; value = v }
-
-objective-number : (I : Instance) (x : List Ratio) → IsInstance I → IsRelaxed I x → IsNumber (objective I x)
-objective-number I x n r =
-    total-number I.goal.constant (width I) (λ j. product (cost_at I j) (value_at x j)) n.constant
-    (λ j. product-number (cost_at I j) (value_at x j) (value-number I.goal.costs n.costs j) (value-number x r.numbers j))
-
--- the first open case, and the others
-module _ (I J : Instance) (rest : List Instance) (m : Moment) (is : m.waiting ≡ J ∷ rest) (h : Holds I m) where
-  both : All (IsCase I) (J ∷ rest)
-  both = subst (All (IsCase I)) is h.cases
-
-  pub this : IsCase I J
-  this = All-head (IsCase I) J rest both
-
-  others : All (IsCase I) rest
-  others = All-tail (IsCase I) J rest both
-
-  so_far : Leads I (J ∷ rest) m.nodes m.best
-  so_far = subst (λ l. Leads I l m.nodes m.best) is h.leads
-
-  after_leaf : (m.nodes ≡ []) → rest ≡ []
-  after_leaf e = let q = (h.root e).0 in cc
-
-  grounded_leaf : IsGrounded I m → (rest ≡ []) ⊎ ((m.ray ≡ None) → ⊥) ⊎ HasLow I
-  grounded_leaf (inl e) = absurd (cc)
-  grounded_leaf (inr (inl e)) = inl (after_leaf e)
-  grounded_leaf (inr (inr q)) = inr q
-
-  grounded_on : (rest ≡ []) ⊎ ((m.ray ≡ None) → ⊥) ⊎ HasLow I → (n : Moment) → n.waiting ≡ rest → n.ray ≡ m.ray → IsGrounded I n
-  grounded_on (inl e) n f g = inl (f ∙ e)
-  grounded_on (inr (inl q)) n f g = inr (inr (inl (λ e. q (sym g ∙ e))))
-  grounded_on (inr (inr q)) n f g = inr (inr (inr q))
-
-  -- a leaf that shows its case, whatever is to be shown
-  leaf_holds : (node : Node) → ((z : Option Ratio) → Within I z m.best → (nodes : List Node) → ProvesAll rest nodes z → ProvesAll (J ∷ rest) (node ∷ nodes) z) → Holds I (closed_by_leaf m rest node)
-  leaf_holds node step = record {
-    cases = others;
-    best = h.best;
-    leads = leads_on I (J ∷ rest) rest m.nodes node m.best m.best (λ z w. w) step so_far;
-    root = λ e. absurd (no_nodes m.nodes node e);
-    zero = h.zero;
-    ray = h.ray;
-    grounded = grounded_on (grounded_leaf h.grounded) (closed_by_leaf m rest node) refl refl;
-  }
-
-  -- a leaf by a bound that isn't better than the best value
-  passed_holds : (b : Ratio) (ms : List Multiplier) → IsNumber b → IsBound J ms b → IsPassed I m.best b → Holds I (closed_by_leaf m rest (BoundBy ms))
-  passed_holds b ms n bound p =
-      leaf_holds (BoundBy ms) (λ z w nodes o. closes z (subst (Within I z) p.is w) nodes o)
-    where
-      number : IsNumber (minimising I p.found.value)
-      number = minimising-number I p.found.value (h.best p.found p.is).value.reduced.0
-
-      closes : (z : Option Ratio) → Within I z (Some p.found) → (nodes : List Node) → ProvesAll rest nodes z → ProvesAll (J ∷ rest) (BoundBy ms ∷ nodes) z
-      closes None w nodes o = absurd w
-      closes (Some a) w nodes o = bound_first J rest ms b a nodes n bound (at_most-trans a (minimising I p.found.value) b number w p.passed) o
-
-  -- a leaf at a point that becomes the best
-  found_holds : (b : Ratio) (x : List Ratio) (ms : List Multiplier) (v : Ratio) → IsBest J b x ms → IsHopeful I m.best b → IsWholeBelow J x (width J) → PointFits (alone I) x → IsValue I x v → m.ray ≡ None → Holds I (closed_by_leaf (record m { best = Some (record { point = x; value = v }) }) rest (BoundBy ms))
-  found_holds b x ms v is_best hopeful whole fits value none = record {
-    cases = others;
-    best = λ f e. let q : record { point = x; value = v } ≡ f = cc in subst (IsFound I) q point;
-    leads = leads_on I (J ∷ rest) rest m.nodes (BoundBy ms) m.best (Some (found_at x v)) (weaker I m.best (found_at x v) better number) (λ z w nodes o. closes z w nodes o) so_far;
-    root = λ e. absurd (no_nodes m.nodes (BoundBy ms) e);
-    zero = λ e. absurd (e none);
-    ray = h.ray;
-    grounded = grounded_on (grounded_leaf h.grounded) (closed_by_leaf (record m { best = Some (found_at x v) }) rest (BoundBy ms)) refl refl;
-  }
-    where
-      relaxed : IsRelaxed I x
-      relaxed = this.relaxed x is_best.relaxed
-
-      point : IsFound I (found_at x v)
-      point = record { feasible = λ one. feasible I J x one this is_best.relaxed whole; value = value; fits = fits }
-
-      number : IsNumber (minimising I v)
-      number = minimising-number I v value.reduced.0
-
-      reached : IsSame b (minimising I (objective I x))
-      reached = subst (IsSame b) (objective_of I J x this) is_best.reached
-
-      turned : IsSame (minimising I v) (minimising I (objective I x))
-      turned = minimising_by-same I.goal.sense v (objective I x) value.same
-
-      aim : IsNumber (minimising I (objective I x))
-      aim = subst IsNumber (objective_of I J x this) (minimising-number J (objective J x) (objective-number J x this.numbers is_best.relaxed))
-
-      same : IsSame (minimising I v) b
-      same = IsSame-trans (minimising I v) (minimising I (objective I x)) b aim turned (sym reached)
-
-      better : (g : Found) → m.best ≡ Some g → IsAtMost (minimising I v) (minimising I g.value)
-      better g e = at_most-trans (minimising I v) b (minimising I g.value) is_best.number (at_most-same (minimising I v) b same) (at_most-below b (minimising I g.value) (hopeful g e))
-
-      closes : (z : Option Ratio) → Within I z (Some (found_at x v)) → (nodes : List Node) → ProvesAll rest nodes z → ProvesAll (J ∷ rest) (BoundBy ms ∷ nodes) z
-      closes None w nodes o = absurd w
-      closes (Some a) w nodes o = bound_first J rest ms b a nodes is_best.number is_best.bound (at_most-trans a (minimising I v) b number w (at_most-same (minimising I v) b same)) o
-
-  -- two cases more
-  branch_holds : (x : List Ratio) (j : ℕ) (k : ℤ) (r : Option (List Ratio)) → IsSplit J x j k → ((s : List Ratio) → r ≡ Some s → IsEndless I s) → ((r ≡ None → ⊥) → m.best ≡ None) → ((r ≡ None → ⊥) ⊎ HasLow I) → Holds I (branch (record m { ray = r }) J rest j k)
-  branch_holds x j k r split rays zero ground = record {
-    cases = All-cons (IsCase I) (at_most J j k) (at_least J j (k +ℤ pos 1) ∷ rest) (case_most I J j k split.branch.variable this)
-        (All-cons (IsCase I) (at_least J j (k +ℤ pos 1)) rest (case_least I J j (k +ℤ pos 1) split.branch.variable this) others);
-    best = h.best;
-    leads = leads_on I (J ∷ rest) (at_most J j k ∷ at_least J j (k +ℤ pos 1) ∷ rest) m.nodes (SplitAt j k) m.best m.best (λ z w. w) (λ z w nodes o. split_first J rest j k nodes z split.branch o) so_far;
-    root = λ e. absurd (no_nodes m.nodes (SplitAt j k) e);
-    zero = zero;
-    ray = rays;
-    grounded = inr (inr ground);
-  }
-
-  -- a bound of the first case is one of all
-  low_from : (b : Ratio) → IsNumber b → IsLow J b → m.ray ≡ None → HasLow I
-  low_from b n low none = from h.grounded
-    where
-      from : IsGrounded I m → HasLow I
-      from (inl e) = absurd (cc)
-      from (inr (inl e)) = let q = (h.root e).0 in let p : J ≡ I = cc in record { low = b; number = n; is = subst (λ K. IsLow K b) p low }
-      from (inr (inr (inl f))) = absurd (f none)
-      from (inr (inr (inr l))) = l
-
-  -- points without a lowest objective are found in the first case alone
-  at_first : HasNoLow J → m.ray ≡ None → m.nodes ≡ []
-  at_first endless none = from h.grounded
-    where
-      from : IsGrounded I m → m.nodes ≡ []
-      from (inl e) = absurd (cc)
-      from (inr (inl e)) = e
-      from (inr (inr (inl f))) = absurd (f none)
-      from (inr (inr (inr l))) =
-          let (x, r, below) = endless l.low l.number in
-          let below : IsBelow (minimising I (objective I x)) l.low = subst (λ v. IsBelow v l.low) (objective_of I J x this) below in
-          let above = l.is x (this.relaxed x r) in
-          absurd (omega (arith, ints))
-
-  -- where a point of the case is met
-  meets_holds : (x : List Ratio) (ms : List Multiplier) (r : Option (List Ratio)) (n : Moment)
-      → ((s : List Ratio) → r ≡ Some s → IsEndless I s) → (r ≡ None → (b : Ratio) × IsBest J b x ms × IsHopeful I m.best b) → (r ≡ None → m.ray ≡ None) → ((r ≡ None → ⊥) → m.best ≡ None) → ((r ≡ None → ⊥) ⊎ HasLow I)
-      → MeetsPoint I J rest (record m { ray = r }) x ms (To n) → Holds I n
-  meets_holds x ms r n rays is_best same zero ground (inl (j, k, split, e)) = let q : branch (record m { ray = r }) J rest j k ≡ n = cc in subst (Holds I) q (branch_holds x j k r split rays zero ground)
-  meets_holds x ms r n rays is_best same zero ground (inr (inl (w, f, e))) = absurd (cc)
-  meets_holds x ms r n rays is_best same zero ground (inr (inr (inl (v, whole, fits, value, none, e)))) =
-      let (b, best, hope) = is_best none in
-      let q : closed_by_leaf (record m { best = Some (record { point = x; value = v }); ray = r }) rest (BoundBy ms) ≡ n = cc in
-      subst (Holds I) q (subst (λ s. Holds I (closed_by_leaf (record m { best = Some (record { point = x; value = v }); ray = s }) rest (BoundBy ms))) (same none ∙ sym none) (found_holds b x ms v best hope whole fits value (same none)))
-  meets_holds x ms r n rays is_best same zero ground (inr (inr (inr (v, s, whole, fits, value, some, e)))) = absurd (cc)
+pub holds_first : (P : Problem) → IsProblem P → Holds P (first P)
+holds_first P n = begun_holds P (record { program = P.program; later = P.later; shown = [] }) (record { turns = 0; looks = 0 }) None (level_first P n) (λ f e. absurd (cc)) (λ e. refl) (inr (All-nil HasNoRounds))
 
 -- only the clock is another
-pub clocked : (I : Instance) (m : Moment) (c : Clock) → Holds I m → Holds I (record m { clock = c })
-clocked I m c h = record { cases = h.cases; best = h.best; leads = h.leads; root = h.root; zero = h.zero; ray = h.ray; grounded = h.grounded }
+pub clocked : (P : Problem) (m : SearchMoment) (c : Clock) → Holds P m → Holds P (record m { clock = c })
+clocked P m c h = record { level = h.level; cut = h.cut; after = h.after; within = h.within; cases = h.cases; best = h.best; first = h.first; leads = h.leads; root = h.root; rounds = h.rounds }
 
-some_not : {X : Type 0} (x : X) → (Some x ≡ None) → ⊥
-some_not x e = cc
+-- a better best point asks less of the value that is shown
+weaker : (l : Level) (best : Option Found) (f : Found) → ((g : Found) → best ≡ Some g → IsAtMost (minimising l.program (reached l f)) (minimising l.program (reached l g))) → IsNumber (minimising l.program (reached l f)) → (z : Option Ratio) → Within l z (Some f) → Within l z best
+weaker l None f h n z w = tt
+weaker l (Some g) f h n None w = w
+weaker l (Some g) f h n (Some a) w = at_most-trans a (minimising l.program (reached l f)) (minimising l.program (reached l g)) n w (h g refl)
 
-none_false : {X : Type 0} (o : Option X) → o ≡ None → is_some o ≡ false
-none_false None e = refl
-none_false (Some x) e = absurd (cc)
+pub objective-number : (I : Instance) (x : List Ratio) → IsInstance I → All IsNumber x → IsNumber (objective I x)
+objective-number I x n p =
+    total-number I.goal.constant (width I) (λ j. product (cost_at I j) (value_at x j)) n.constant
+    (λ j. product-number (cost_at I j) (value_at x j) (value-number I.goal.costs n.costs j) (value-number x p j))
 
-false_none : {X : Type 0} (o : Option X) → is_some o ≡ false → o ≡ None
-false_none None e = refl
-false_none (Some x) e = absurd (cc)
+-- the number of the best value
+pub best_number : (P : Problem) (l : Level) (f : Found) → IsLevel P l → IsFound P l f → IsNumber (reached l f)
+best_number P l f is h = let v = value_of P l is f.point f.values h.values in let r = v.reduced in r.0
 
-module _ (t : Terms) (I J : Instance) (rest : List Instance) (m : Moment) (is : m.waiting ≡ J ∷ rest) (h : Holds I m) where
-  -- a direction is met in the first case alone, which is the searched instance
-  pub ray_at_first : (x d r : List Ratio) → Shown (is_some m.ray) J (Endless x d) → IsScaled I d r → IsEndless I r
-  ray_at_first x d r s u =
-      let first = at_first I J rest m is h (no_low J x d (this I J rest m is h).numbers s.1 s.2) (false_none m.ray s.0) in
-      let q = (h.root first).0 in
-      let p : J ≡ I = cc in
-      λ one y. ray_of I y d r (subst IsInstance p (this I J rest m is h).numbers) one (subst (λ K. IsDirection K d) p s.2) u
+-- case C is open before the rest
+module _ (P : Problem) (C : Case) (rest : List Case) (m : SearchMoment) (h : Holds P m) (this : IsOpen m.level.program C) (others : All (IsOpen m.level.program) rest) (so_far : Leads m.level h.cut (C ∷ rest) m.nodes m.best) where
+  abbrev l : Level
+  l = m.level
 
-  -- what the end of the first case's run makes of it
-  goes_holds : (e : End) (n : Moment) → Shown (is_some m.ray) J e → GoesFrom t I J rest m e (To n) → Holds I n
-  goes_holds (Clash c) n s g = let q : closed_by_leaf m rest (ClashAt c) ≡ n = cc in subst (Holds I) q (leaf_holds I J rest m is h (ClashAt c) (λ z w nodes o. clash_first J rest c nodes z s o))
-  goes_holds (Empty ms) n s g = let q : closed_by_leaf m rest (FarkasBy ms) ≡ n = cc in subst (Holds I) q (leaf_holds I J rest m is h (FarkasBy ms) (λ z w nodes o. farkas_first J rest ms nodes z s o))
-  goes_holds (Best b x ms) n s (inl (p, e)) =
-      let none : m.ray ≡ None = passed_none m.ray refl in
-      let best = s.1 (none_false m.ray none) in
-      let q : closed_by_leaf m rest (BoundBy ms) ≡ n = cc in
-      subst (Holds I) q (passed_holds I J rest m is h b ms best.number best.bound p)
+  abbrev L : Instance
+  L = m.level.program
+
+  -- one node more
+  node_holds : (after : List Case) (node : Node) (better : Option Found) → All (IsOpen L) after → ((f : Found) → better ≡ Some f → IsFound P l f) → (better ≡ None → m.best ≡ None) → ((z : Option Ratio) → Within l z better → Within l z m.best)
+      → ((z : Option Ratio) → Within l z better → (more : List Node) → ProvesAll after more z → ProvesAll (C ∷ rest) (node ∷ more) z) → Holds P (record m { waiting = after; nodes = m.nodes ++ node ∷ []; best = better })
+  node_holds after node better cases found none back step = record {
+    level = h.level;
+    cut = h.cut;
+    after = h.after;
+    within = h.within;
+    cases = cases;
+    best = found;
+    first = λ e. h.first (none e);
+    leads = leads_on l h.cut (C ∷ rest) after m.nodes node m.best better back step so_far;
+    root = λ e. absurd (no_nodes m.nodes node e);
+    rounds = h.rounds;
+  }
+
+  -- the best point stays
+  same_best : (after : List Case) (node : Node) → All (IsOpen L) after → ((z : Option Ratio) → Within l z m.best → (more : List Node) → ProvesAll after more z → ProvesAll (C ∷ rest) (node ∷ more) z) → Holds P (record m { waiting = after; nodes = m.nodes ++ node ∷ [] })
+  same_best after node cases step = node_holds after node m.best cases h.best (λ e. e) (λ z w. w) step
+
+  -- a leaf by a bound that isn't better than the best value
+  passed_holds : (b : Ratio) (ms : List Multiplier) → IsNumber b → IsBound C.program ms b → IsPassed l m.best b → Holds P (closed_by_leaf m rest (BoundBy ms))
+  passed_holds b ms n bound p = same_best rest (BoundBy ms) others (λ z w more o. closes z (subst (Within l z) p.is w) more o)
     where
-      passed_none : (r : Option (List Ratio)) → m.ray ≡ r → m.ray ≡ None
-      passed_none None e = e
-      passed_none (Some r) e = let q = h.zero (λ f. some_not r (sym e ∙ f)) in let u = p.is in absurd (cc)
-  goes_holds (Best b x ms) n s (inr (hope, g)) =
-      meets_holds I J rest m is h x ms m.ray n h.ray (λ e. (b, s.1 (none_false m.ray e), hope)) (λ e. e) h.zero (ground m.ray refl) g
+      number : IsNumber (minimising L (reached l p.found))
+      number = minimising-number L (reached l p.found) (best_number P l p.found h.level (h.best p.found p.is))
+
+      closes : (z : Option Ratio) → Within l z (Some p.found) → (more : List Node) → ProvesAll rest more z → ProvesAll (C ∷ rest) (BoundBy ms ∷ more) z
+      closes None w more o = absurd w
+      closes (Some a) w more o = bound_first C rest ms b a more n bound (at_most-trans a (minimising L (reached l p.found)) b number w p.passed) o
+
+  -- a leaf at a point that becomes the best
+  taken_holds : (b : Ratio) (x : List Ratio) (ms : List Multiplier) (vs : List Ratio) → IsBest C.program b x ms → IsHopeful l m.best b → AreMetBelow C.program x (width C.program) → PointFits P x → AreValuesAt P x vs → Holds P (closed_by_leaf (record m { best = Some (record { point = x; values = vs }) }) rest (BoundBy ms))
+  taken_holds b x ms vs is_best hopeful met fits values =
+      node_holds rest (BoundBy ms) (Some f) others (λ g e. let q : f ≡ g = cc in subst (IsFound P l) q found) (λ e. absurd (cc)) (weaker l m.best f better number) closes
     where
-      ground : (r : Option (List Ratio)) → m.ray ≡ r → (m.ray ≡ None → ⊥) ⊎ HasLow I
-      ground None e = let best = s.1 (none_false m.ray e) in inr (low_from I J rest m is h b best.number (low_of_bound J ms b (this I J rest m is h).numbers best.number best.bound) e)
-      ground (Some r) e = inl (λ f. some_not r (sym e ∙ f))
-  goes_holds (Endless x d) n s (inl (f, e)) = absurd (cc)
-  goes_holds (Endless x d) n s (inr (r, u, g)) =
-      let first = at_first I J rest m is h (no_low J x d (this I J rest m is h).numbers s.1 s.2) (false_none m.ray s.0) in
-      meets_holds I J rest m is h x [] (Some r) n (λ q e. let p : r ≡ q = cc in subst (IsEndless I) p (ray_at_first x d r s u)) (λ e. absurd (some_not r e)) (λ e. absurd (some_not r e)) (λ e. (h.root first).1) (inl (λ e. some_not r e)) g
-  goes_holds TurnsOut n s g = absurd (cc)
-  goes_holds (TooWide w) n s g = absurd (cc)
-  goes_holds Stopped n s g = absurd (cc)
+      f : Found
+      f = record { point = x; values = vs }
 
-module _ (I : Instance) (t : Terms) where
-  pub next_holds : (m n : Moment) → Holds I m → IsNext I t m (To n) → Holds I n
-  next_holds m n h (inl (e, f)) = absurd (cc)
-  next_holds m n h (inr (inl (e, f, g))) = absurd (cc)
-  next_holds m n h (inr (inr (inl (e, f, s, g)))) = absurd (cc)
-  next_holds m n h (inr (inr (inr v))) =
-      goes_holds t I v.visit.case v.visit.rest (record m { clock = v.clock }) v.visit.is (clocked I m v.clock h) v.end n
-      (run_true v.visit.case (is_some m.ray) t _ v.end v.clock (this I v.visit.case v.visit.rest m v.visit.is h).numbers v.visit.run) v.goes
+      found : IsFound P l f
+      found = record { feasible = feasible L C.program x this.case is_best.relaxed met; values = values; fits = fits }
 
-  pub comes_holds : IsInstance I → (m : Moment) → ComesInSearch I t m → Holds I m
-  comes_holds n m begins = holds_first I n
-  comes_holds n m (goes_on {m = before} c next) = next_holds before m (comes_holds n before c) next
+      v : Ratio
+      v = reached l f
+
+      value : IsValue L x v
+      value = value_of P l h.level x vs values
+
+      number : IsNumber (minimising L v)
+      number = minimising-number L v (best_number P l f h.level found)
+
+      same : IsSame (minimising L v) b
+      same =
+          let aim : IsNumber (minimising L (objective L x)) = minimising-number L (objective L x) (objective-number L x h.level.good is_best.relaxed.numbers) in
+          let back : IsSame (minimising L (objective L x)) b = sym (subst (IsSame b) (objective_of L C.program x this.case) is_best.reached) in
+          IsSame-trans (minimising L v) (minimising L (objective L x)) b aim (minimising_by-same L.goal.sense v (objective L x) value.same) back
+
+      better : (g : Found) → m.best ≡ Some g → IsAtMost (minimising L v) (minimising L (reached l g))
+      better g e = at_most-trans (minimising L v) b (minimising L (reached l g)) is_best.number (at_most-same (minimising L v) b same) (at_most-below b (minimising L (reached l g)) (hopeful g e))
+
+      closes : (z : Option Ratio) → Within l z (Some f) → (more : List Node) → ProvesAll rest more z → ProvesAll (C ∷ rest) (BoundBy ms ∷ more) z
+      closes None w more o = absurd w
+      closes (Some a) w more o = bound_first C rest ms b a more is_best.number is_best.bound (at_most-trans a (minimising L v) b number w (at_most-same (minimising L v) b same)) o
+
+  -- two cases in place of one
+  both_open : (A B : Case) → IsOpen L A → IsOpen L B → All (IsOpen L) (A ∷ B ∷ rest)
+  both_open A B a b = All-cons (IsOpen L) A (B ∷ rest) a (All-cons (IsOpen L) B rest b others)
+
+  divide_holds : (j : ℕ) → IsZeroBranch C.program j → Holds P (divide m C rest j)
+  divide_holds j zero =
+      same_best (divided_cases C j rest) (ZeroAt j) (both_open _ _ (open_zero L C this j zero.variable) (open_own L C this j zero.variable))
+      (λ z w more o. zero_first C rest j more z zero o)
+
+  branches_hold : (x : List Ratio) (n : SearchMoment) → Branches C rest m x (To n) → Holds P n
+  branches_hold x n (inl (j, k, s, e)) =
+      let q : branch m C rest j k ≡ n = cc in
+      subst (Holds P) q
+      (same_best (split_cases C j k rest) (SplitAt j k) (both_open _ _ (open_most L C this j s.branch.variable k) (open_least L C this j s.branch.variable (k +ℤ pos 1)))
+      (λ z w more o. split_first C rest j k more z s.branch o))
+  branches_hold x n (inr (j, s, e)) = let q : divide m C rest j ≡ n = cc in subst (Holds P) q (divide_holds j s.branch)
+
+  -- a point is taken where there is no ray
+  taken : (t : Terms) (ray : Option (List Ratio)) (f : Found) (ms : List Multiplier) (n : SearchMoment) → Takes P t ray rest m f ms (To n) → (ray ≡ None) × (closed_by_leaf (record m { best = Some f }) rest (BoundBy ms) ≡ n)
+  taken t None f ms n e = (refl, cc)
+  taken t (Some r) f ms n e = absurd (cc)
+
+  takes_hold : (t : Terms) (x : List Ratio) (ms : List Multiplier) (n : SearchMoment) → (C.ray ≡ None → (b : Ratio) × IsBest C.program b x ms × IsHopeful l m.best b) → TakesPoint P t C rest m x ms (To n) → Holds P n
+  takes_hold t x ms n is_best (met, inl (f, e)) = absurd (cc)
+  takes_hold t x ms n is_best (met, inr (vs, fits, values, e)) =
+      let (none, q) = taken t C.ray (record { point = x; values = vs }) ms n e in
+      let (b, best, hope) = is_best none in
+      subst (Holds P) q (taken_holds b x ms vs best hope met fits values)
+
+  meets_hold : (t : Terms) (x : List Ratio) (ms : List Multiplier) (n : SearchMoment) → (C.ray ≡ None → ⊥) → MeetsPoint P t C rest m x ms (To n) → Holds P n
+  meets_hold t x ms n some (inl b) = branches_hold x n b
+  meets_hold t x ms n some (inr p) = takes_hold t x ms n (λ e. absurd (some e)) p
+
+-- a cut that was tried is one of the program
+cut_of : (I : Instance) (x : List Ratio) (ss : List Status) (ms : List Multiplier) (cs : List ℤ) (k : ℤ) → TriesBasis I x ss (Cut ms cs k) → IsCut I ms cs k
+cut_of I x ss ms cs k (inl (w, e)) = absurd (cc)
+cut_of I x ss ms cs k (inr (inl (j, p, n, e))) = absurd (cc)
+cut_of I x ss ms cs k (inr (inr (j, u, p, n, d, t))) = of_equation t
+  where
+    of_multipliers : (ns : List Multiplier) → TriesMultipliers I ns (Cut ms cs k) → IsCut I ms cs k
+    of_multipliers ns (inl (n, e)) = absurd (cc)
+    of_multipliers ns (inr (inl (n, e))) = absurd (cc)
+    of_multipliers ns (inr (inr (ds, l, c, e))) =
+        let a : ns ≡ ms = cc in
+        let b : ds ≡ cs = cc in
+        let d : l ≡ k = cc in
+        subst (λ l. IsCut I ms cs l) d (subst (λ ds. IsCut I ms ds l) b (subst (λ ns. IsCut I ns ds l) a c))
+
+    of_equation : TriesEquation I ss u j (Cut ms cs k) → IsCut I ms cs k
+    of_equation (inl (w, e)) = absurd (cc)
+    of_equation (inr (inl (f, z, e))) = absurd (cc)
+    of_equation (inr (inr (ns, f, z, are, m))) = of_multipliers ns m
+
+-- the first open case, and the others
+module _ (P : Problem) (C : Case) (rest : List Case) (m : SearchMoment) (is : m.waiting ≡ C ∷ rest) (h : Holds P m) where
+  both : All (IsOpen m.level.program) (C ∷ rest)
+  both = subst (All (IsOpen m.level.program)) is h.cases
+
+  pub this : IsOpen m.level.program C
+  this = All-head (IsOpen m.level.program) C rest both
+
+  others : All (IsOpen m.level.program) rest
+  others = All-tail (IsOpen m.level.program) C rest both
+
+  so_far : Leads m.level h.cut (C ∷ rest) m.nodes m.best
+  so_far = subst (λ cs. Leads m.level h.cut cs m.nodes m.best) is h.leads
+
+  -- the case with the ray of its direction
+  pub open_along : (d r : List Ratio) → IsDirection C.program d → NoneMoves C d → IsScaled P.program d r → IsOpen m.level.program (record C { ray = Some r })
+  open_along d r along none scaled =
+      let good = h.level.good in
+      let same : (j : ℕ) → (variable_at P.program j).whole ≡ (variable_at m.level.program j).whole = λ j. let v = h.level.variables in ap (λ (vs : List Variable). (get_or vs j no_variable).whole) (sym v) in
+      let of_level : IsScaled m.level.program d r = scaled_as P.program m.level.program d same r (sym (width_is P m.level h.level)) scaled in
+      record {
+        case = this.case;
+        divided = this.divided;
+        ray = λ s e. let q : r ≡ s = cc in subst (IsEndless m.level.program C.program) q (endless_case m.level.program C good this d along none r of_level);
+      }
+
+  -- a cut is a row more of the one case
+  cut_holds : (ms : List Multiplier) (cs : List ℤ) (k : ℤ) → P.later ≡ [] → m.nodes ≡ [] → IsCut C.program ms cs k → Holds P (with_cut m C rest ms cs k)
+  cut_holds ms cs k one none c =
+      let root = h.root none in
+      let all : C ∷ rest ≡ undivided h.cut ∷ [] = sym is ∙ root in
+      let p : C ≡ undivided h.cut = cc in
+      let q : rest ≡ [] = cc in
+      let D : Instance = derive h.cut cs k in
+      let is_cut : IsCut h.cut ms cs k = subst (λ K. IsCut K.program ms cs k) p c in
+      let narrow : IsCase m.level.program D = case_cut m.level.program h.cut ms cs k is_cut.cut h.within in
+      let next : record C { program = derive C.program cs k } ∷ rest ≡ undivided D ∷ [] = ap (λ (K : Case). record K { program = derive K.program cs k } ∷ rest) p ∙ ap (λ (r : List Case). undivided D ∷ r) q in
+      record {
+        level = h.level;
+        cut = D;
+        after = after_on m.rounds m.level.program h.cut ms cs k h.after is_cut.cut is_cut.fits;
+        within = narrow;
+        cases = subst (All (IsOpen m.level.program)) (sym next) (All-cons (IsOpen m.level.program) (undivided D) [] (open_undivided m.level.program D narrow) (All-nil (IsOpen m.level.program)));
+        best = h.best;
+        first = h.first;
+        leads = subst (λ cs. Leads m.level D cs m.nodes m.best) (sym next) (subst (λ ns. Leads m.level D (undivided D ∷ []) ns m.best) (sym none) (leads_first m.level D m.best));
+        root = λ e. next;
+        rounds = inl one;
+      }
+
+  module _ (t : Terms) where
+    here_hold : (x : List Ratio) (n : SearchMoment) → Branches C rest m x (To n) → Holds P n
+    here_hold x n b = branches_hold P C rest m h this others so_far x n b
+
+    trial_holds : (x : List Ratio) (ss : List Status) (trial : Trial) (n : SearchMoment) → MayCut P t m → TriesBasis C.program x ss trial → GoesFromTrial P t C rest m x trial (To n) → Holds P n
+    trial_holds x ss NoCut n may tries g = here_hold x n g
+    trial_holds x ss WideCut n may tries g = absurd (cc)
+    trial_holds x ss (Cut ms cs k) n may tries g =
+        let q : with_cut m C rest ms cs k ≡ n = cc in
+        subst (Holds P) q (cut_holds ms cs k may.one_goal may.first_case (cut_of C.program x ss ms cs k tries))
+
+    improves_hold : (before : Clock) (b : Ratio) (x : List Ratio) (ms : List Multiplier) (n : SearchMoment) → IsBest C.program b x ms → IsHopeful m.level m.best b → Improves P t C rest m before b x ms (To n) → Holds P n
+    improves_hold before b x ms n best hope (inl p) = takes_hold P C rest m h this others so_far t x ms n (λ e. (b, best, hope)) p
+    improves_hold before b x ms n best hope (inr (inl (never, p))) = here_hold x n p
+    improves_hold before b x ms n best hope (inr (inr (ss, trial, may, other, ends, tries, g))) = trial_holds x ss trial n may tries g
+
+    best_holds : (before : Clock) (b : Ratio) (x : List Ratio) (ms : List Multiplier) (n : SearchMoment) → (is_some C.ray ≡ false → IsBest C.program b x ms) → (ray : Option (List Ratio)) → C.ray ≡ ray → GoesFromBest P t ray C rest m before b x ms (To n) → Holds P n
+    best_holds before b x ms n is_best None e (inl (p, f)) =
+        let best : IsBest C.program b x ms = is_best (ap is_some e) in
+        let q : closed_by_leaf m rest (BoundBy ms) ≡ n = cc in
+        subst (Holds P) q (passed_holds P C rest m h this others so_far b ms best.number best.bound p)
+    best_holds before b x ms n is_best None e (inr (hope, g)) = improves_hold before b x ms n (is_best (ap is_some e)) hope g
+    best_holds before b x ms n is_best (Some r) e g = meets_hold P C rest m h this others so_far t x ms n (λ none. let no : Some r ≡ None = sym e ∙ none in absurd (cc)) g
+
+    -- what the end of the case's run makes of it
+    goes_hold : (before : Clock) (e : End) (n : SearchMoment) → Shown (is_some C.ray) C.program e → GoesFrom P t C rest m before e (To n) → Holds P n
+    goes_hold before (Clash c) n s g =
+        let q : closed_by_leaf m rest (ClashAt c) ≡ n = cc in
+        subst (Holds P) q (same_best P C rest m h this others so_far rest (ClashAt c) others (λ z w more o. clash_first C rest c more z s o))
+    goes_hold before (Empty ms) n s g =
+        let q : closed_by_leaf m rest (FarkasBy ms) ≡ n = cc in
+        subst (Holds P) q (same_best P C rest m h this others so_far rest (FarkasBy ms) others (λ z w more o. farkas_first C rest ms more z s o))
+    goes_hold before (Best b x ms) n s g = best_holds before b x ms n s.1 C.ray refl g
+    goes_hold before (Endless x d) n s (inl (j, f, e)) =
+        let q : divide m C rest j ≡ n = cc in
+        subst (Holds P) q (divide_holds P C rest m h this others so_far j (let i = f.moving in i.branch))
+    goes_hold before (Endless x d) n s (inr (inl (none, f, e))) = absurd (cc)
+    goes_hold before (Endless x d) n s (inr (inr (r, none, scaled, g))) =
+        meets_hold P (record C { ray = Some r }) rest m h (open_along d r s.2 none scaled) others so_far t x [] n (λ e. absurd (cc)) g
+    goes_hold before TurnsOut n s g = absurd (cc)
+    goes_hold before (TooWide w) n s g = absurd (cc)
+    goes_hold before Stopped n s g = absurd (cc)
+
+-- a level without open cases
+module _ (P : Problem) (m : SearchMoment) (h : Holds P m) (none : m.waiting ≡ []) where
+  closed_leads : (z : Option Ratio) → Within m.level z m.best → Proves h.cut m.nodes z
+  closed_leads z w = leads_out m.level h.cut m.nodes m.best (subst (λ cs. Leads m.level h.cut cs m.nodes m.best) none h.leads) z w
+
+  -- what its certificate proves
+  pub closed_proves : (z : Option Ratio) → Within m.level z m.best → CertificateProves m.level.program (shown_at m) z
+  closed_proves z w = proves_after m.rounds m.level.program h.cut m.nodes z h.after (closed_leads z w)
+
+  pub best_proves : (f : Found) → m.best ≡ Some f → CertificateProves m.level.program (shown_at m) (Some (minimising m.level.program (reached m.level f)))
+  best_proves f e =
+      let v = minimising m.level.program (reached m.level f) in
+      closed_proves (Some v) (subst (Within m.level (Some v)) (sym e) (at_most-same v v refl))
+
+  rounds_on : (g : Goal) (gs : List Goal) → m.level.later ≡ g ∷ gs → (P.later ≡ []) ⊎ All HasNoRounds (m.level.shown ++ shown_at m ∷ [])
+  rounds_on g gs later = by h.rounds
+    where
+      by : (P.later ≡ []) ⊎ (All HasNoRounds m.level.shown × (m.rounds ≡ [])) → (P.later ≡ []) ⊎ All HasNoRounds (m.level.shown ++ shown_at m ∷ [])
+      by (inl e) = inl e
+      by (inr (a, e)) = inr (All-push HasNoRounds m.level.shown (shown_at m) a e)
+
+  next_level_holds : (f : Found) (e : Ratio) (g : Goal) (gs : List Goal) → m.best ≡ Some f → m.level.later ≡ g ∷ gs → IsReachedEnd m.level.program (reached m.level f) e → Holds P (next_level_at m f e g gs)
+  next_level_holds f e g gs some later end =
+      let found = h.best f some in
+      let proves = best_proves f some in
+      let level = level_on P m.level h.level (shown_at m) f found.values e end g gs later proves in
+      let there = feasible_on P m.level h.level (shown_at m) f found.values e end g gs later proves found.feasible in
+      begun_holds P (next_level_at m f e g gs).level m.clock (Some f) level
+      (λ k q. let same : f ≡ k = cc in subst (IsFound P (next_level_at m f e g gs).level) same (record { feasible = there; values = found.values; fits = found.fits }))
+      (λ q. absurd (cc)) (rounds_on g gs later)
+
+  closes_hold : (t : Terms) (n : SearchMoment) (best : Option Found) (gs : List Goal) → m.best ≡ best → m.level.later ≡ gs → Closes P t m best gs (To n) → Holds P n
+  closes_hold t n None gs some later e = absurd (cc)
+  closes_hold t n (Some f) [] some later e = absurd (cc)
+  closes_hold t n (Some f) (g ∷ gs) some later (inl (e, end, q)) = let same : next_level_at m f e g gs ≡ n = cc in subst (Holds P) same (next_level_holds f e g gs some later end)
+  closes_hold t n (Some f) (g ∷ gs) some later (inr (wide, inl (inl (limit, q)))) = absurd (cc)
+  closes_hold t n (Some f) (g ∷ gs) some later (inr (wide, inl (inr (within, stop, q)))) = absurd (cc)
+  closes_hold t n (Some f) (g ∷ gs) some later (inr (wide, inr (goes, q))) = absurd (cc)
+
+module _ (P : Problem) (t : Terms) where
+  pub next_holds : (m n : SearchMoment) → Holds P m → IsNext P t m (To n) → Holds P n
+  next_holds m n h (inl (none, c)) = closes_hold P m h none t n m.best m.level.later refl refl c
+  next_holds m n h (inr (inl (some, inl (limit, e)))) = absurd (cc)
+  next_holds m n h (inr (inl (some, inr (within, stop, e)))) = absurd (cc)
+  next_holds m n h (inr (inr v)) =
+      let C = v.visit.case in
+      let opened = this P C v.visit.rest m v.visit.is h in
+      goes_hold P C v.visit.rest (record m { clock = v.clock }) v.visit.is (clocked P m v.clock h) t (looked_once m.clock) v.end n
+      (run_true C.program (is_some C.ray) t (looked_once m.clock) v.end v.clock opened.case.numbers v.visit.run) v.goes
+
+  pub comes_hold : IsProblem P → (m : SearchMoment) → ComesInSearch P t m → Holds P m
+  comes_hold n m begins = holds_first P n
+  comes_hold n m (goes_on {m = before} c next) = next_holds before m (comes_hold n before c) next

@@ -1,15 +1,24 @@
--- What holds at each moment of a search: its nodes, with trees for the cases still open, show what its best value asks.
-use Rattle.std.proofs.Common.{ℕ, ◌+◌, ◌<◌, ℤ, pos, neg_ℤ, ◌+ℤ◌, ◌*ℤ◌, Option, None, Some, List, [], ◌∷◌, ◌++◌, append_assoc, append-nil, arith, refl, sym, ◌∙◌, ap, subst}
+-- What the nodes of a level show, with trees for the cases still open.
+use Rattle.std.proofs.Common.{◌≡◌, ℕ, ◌+◌, ◌<◌, ℤ, pos, neg_ℤ, ◌*ℤ◌, Option, None, Some, List, [], ◌∷◌, ◌++◌, map, append_assoc, append-nil, arith, refl, sym, ◌∙◌, ap, subst}
 use Rattle.std.proofs.lemmas.Int.{ints}
 use Rattle.rational.specs.Ratio.{Ratio, IsSame, IsBelow, IsNumber, IsAtMost}
 use Rattle.rational.proofs.Integers.{more-times, most-from_times, neg-times}
 use Rattle.rational.proofs.Scaling.{times_swap}
 use Rattle.evidence.specs.Instance.{Instance, Sense, Minimum, Maximum, width, height, column_at, minimising, minimising_by}
-use Rattle.evidence.specs.Cases.{Multiplier, Clash, Farkas, Bound, Node, ClashAt, FarkasBy, BoundBy, SplitAt, preorder, IsEmpty, IsFarkas, IsBound, IsBranch, low_sum, at_most, at_least}
-use Rattle.evidence.specs.PendingNodes.{ProvesAll, anything}
+use Rattle.evidence.specs.Cases.{Multiplier, Clash, Farkas, Bound, Zero, Node, ClashAt, FarkasBy, BoundBy, SplitAt, ZeroAt, preorder, IsEmpty, IsFarkas, IsBound, IsBranch, IsZeroBranch, low_sum}
+use Rattle.evidence.specs.PendingNodes.{anything, ProvesAll as AllProve}
 use Rattle.evidence.proofs.PendingNodes.{split_back}
+use Rattle.search_rules.specs.Branching.{Case, split_cases, divided_cases}
+use Rattle.search_rules.specs.Search.{Found, Level, undivided, reached}
 use Rattle.search_rules.specs.Outcomes.{Proves}
-use Rattle.search_rules.specs.Search.{Found}
+
+-- the programs of cases
+abbrev programs : List Case → List Instance
+programs cases = map (λ C. C.program) cases
+
+-- a tree for each case, one after the other, and nothing after them
+abbrev pub ProvesAll : List Case → List Node → Option Ratio → Type 0
+ProvesAll cases nodes z = AllProve (programs cases) nodes z
 
 -- order, where the middle one is a number
 pub at_most-trans : (x y z : Ratio) → IsNumber y → IsAtMost x y → IsAtMost y z → IsAtMost x z
@@ -31,42 +40,52 @@ pub minimising_by-same : (s : Sense) (x y : Ratio) → IsSame x y → IsSame (mi
 minimising_by-same Minimum x y h = h
 minimising_by-same Maximum x y h = neg-times x.num (pos y.den) ∙ ap neg_ℤ h ∙ sym (neg-times y.num (pos x.den))
 
--- the value that is to be shown is at most the best value; without a best value nothing is asked
-abbrev pub Within : Instance → Option Ratio → Option Found → Type 0
-Within I z None = Unit {0}
-Within I None (Some f) = ⊥
-Within I (Some w) (Some f) = IsAtMost w (minimising I f.value)
+-- the value that is to be shown is at most the best one of the level's goal; without a best point nothing is asked
+abbrev pub Within : Level → Option Ratio → Option Found → Type 0
+Within l z None = Unit {0}
+Within l None (Some f) = ⊥
+Within l (Some w) (Some f) = IsAtMost w (minimising l.program (reached l f))
 
-pub clash_first : (J : Instance) (js : List Instance) (c : ℕ) (rest : List Node) (z : Option Ratio) → (c < width J + height J) × IsEmpty (column_at J c) → ProvesAll js rest z → ProvesAll (J ∷ js) (ClashAt c ∷ rest) z
-clash_first J js c rest z h o = (Clash c, rest, refl, h, tt, o)
+pub clash_first : (C : Case) (rest : List Case) (c : ℕ) (after : List Node) (z : Option Ratio) → (c < width C.program + height C.program) × IsEmpty (column_at C.program c) → ProvesAll rest after z → ProvesAll (C ∷ rest) (ClashAt c ∷ after) z
+clash_first C rest c after z h o = (Clash c, after, refl, h, tt, o)
 
-pub farkas_first : (J : Instance) (js : List Instance) (ms : List Multiplier) (rest : List Node) (z : Option Ratio) → IsFarkas J ms → ProvesAll js rest z → ProvesAll (J ∷ js) (FarkasBy ms ∷ rest) z
-farkas_first J js ms rest z h o = (Farkas ms, rest, refl, h, tt, o)
+pub farkas_first : (C : Case) (rest : List Case) (ms : List Multiplier) (after : List Node) (z : Option Ratio) → IsFarkas C.program ms → ProvesAll rest after z → ProvesAll (C ∷ rest) (FarkasBy ms ∷ after) z
+farkas_first C rest ms after z h o = (Farkas ms, after, refl, h, tt, o)
 
-pub bound_first : (J : Instance) (js : List Instance) (ms : List Multiplier) (b w : Ratio) (rest : List Node) → IsNumber b → IsBound J ms b → IsAtMost w b → ProvesAll js rest (Some w) → ProvesAll (J ∷ js) (BoundBy ms ∷ rest) (Some w)
-bound_first J js ms b w rest n h le o =
-    (Bound ms, rest, refl, record { legal = h.legal; costs = h.costs; reaches = at_most-trans w b (low_sum J (minimising J J.goal.constant) ms) n le h.reaches }, tt, o)
+pub bound_first : (C : Case) (rest : List Case) (ms : List Multiplier) (b w : Ratio) (after : List Node) → IsNumber b → IsBound C.program ms b → IsAtMost w b → ProvesAll rest after (Some w) → ProvesAll (C ∷ rest) (BoundBy ms ∷ after) (Some w)
+bound_first C rest ms b w after n h le o =
+    let J = C.program in
+    (Bound ms, after, refl, record { legal = h.legal; costs = h.costs; reaches = at_most-trans w b (low_sum J (minimising J J.goal.constant) ms) n le h.reaches }, tt, o)
 
-pub split_first : (J : Instance) (js : List Instance) (j : ℕ) (k : ℤ) (rest : List Node) (z : Option Ratio) → IsBranch J j k → ProvesAll (at_most J j k ∷ at_least J j (k +ℤ pos 1) ∷ js) rest z → ProvesAll (J ∷ js) (SplitAt j k ∷ rest) z
-split_first J js j k rest z br s = split_back anything J js z rest j k (λ a b v w. tt) br s
+pub split_first : (C : Case) (rest : List Case) (j : ℕ) (k : ℤ) (after : List Node) (z : Option Ratio) → IsBranch C.program j k → ProvesAll (split_cases C j k rest) after z → ProvesAll (C ∷ rest) (SplitAt j k ∷ after) z
+split_first C rest j k after z br s = split_back anything C.program (programs rest) z after j k (λ a b v w. tt) br s
 
--- the nodes so far, with trees for the open cases, prove what the best value asks
-abbrev pub Leads : Instance → List Instance → List Node → Option Found → Type 0
-Leads I js nodes best = (z : Option Ratio) → Within I z best → (rest : List Node) → ProvesAll js rest z → ProvesAll (I ∷ []) (nodes ++ rest) z
+pub zero_first : (C : Case) (rest : List Case) (j : ℕ) (after : List Node) (z : Option Ratio) → IsZeroBranch C.program j → ProvesAll (divided_cases C j rest) after z → ProvesAll (C ∷ rest) (ZeroAt j ∷ after) z
+zero_first C rest j after z br (a, ra, ea, sa, wa, (b, rb, eb, sb, wb, o)) =
+    (Zero j a b, rb, ap (λ r. ZeroAt j ∷ r) (ea ∙ ap (λ r. preorder a ++ r) eb ∙ sym (append_assoc (preorder a) (preorder b) rb)), (br, sa, sb), tt, o)
 
-pub leads_first : (I : Instance) → Leads I (I ∷ []) [] None
-leads_first I z w rest p = p
+-- the nodes so far, with trees for the open cases, prove of D what the best point asks
+abbrev pub Leads : Level → Instance → List Case → List Node → Option Found → Type 0
+Leads l D waiting nodes best = (z : Option Ratio) → Within l z best → (after : List Node) → ProvesAll waiting after z → ProvesAll (undivided D ∷ []) (nodes ++ after) z
+
+pub leads_first : (l : Level) (D : Instance) (best : Option Found) → Leads l D (undivided D ∷ []) [] best
+leads_first l D best z w after p = p
 
 -- one node more
-pub leads_on : (I : Instance) (js after : List Instance) (nodes : List Node) (node : Node) (best better : Option Found)
-    → ((z : Option Ratio) → Within I z better → Within I z best)
-    → ((z : Option Ratio) → Within I z better → (rest : List Node) → ProvesAll after rest z → ProvesAll js (node ∷ rest) z)
-    → Leads I js nodes best → Leads I after (nodes ++ node ∷ []) better
-leads_on I js after nodes node best better back step leads z w rest p =
-    subst (λ l. ProvesAll (I ∷ []) l z) (sym (append_assoc nodes (node ∷ []) rest)) (leads z (back z w) (node ∷ rest) (step z w rest p))
+pub leads_on : (l : Level) (D : Instance) (waiting after : List Case) (nodes : List Node) (node : Node) (best better : Option Found)
+    → ((z : Option Ratio) → Within l z better → Within l z best)
+    → ((z : Option Ratio) → Within l z better → (more : List Node) → ProvesAll after more z → ProvesAll waiting (node ∷ more) z)
+    → Leads l D waiting nodes best → Leads l D after (nodes ++ node ∷ []) better
+leads_on l D waiting after nodes node best better back step leads z w more p =
+    subst (λ ns. ProvesAll (undivided D ∷ []) ns z) (sym (append_assoc nodes (node ∷ []) more)) (leads z (back z w) (node ∷ more) (step z w more p))
+
+-- a list with one node more has a node
+pub no_nodes : (nodes : List Node) (n : Node) → nodes ++ n ∷ [] ≡ [] → ⊥
+no_nodes [] n e = cc
+no_nodes (x ∷ xs) n e = cc
 
 -- at the end
-pub leads_out : (I : Instance) (nodes : List Node) (best : Option Found) → Leads I [] nodes best → (z : Option Ratio) → Within I z best → Proves I nodes z
-leads_out I nodes best leads z w =
+pub leads_out : (l : Level) (D : Instance) (nodes : List Node) (best : Option Found) → Leads l D [] nodes best → (z : Option Ratio) → Within l z best → Proves D nodes z
+leads_out l D nodes best leads z w =
     let p = leads z w [] refl in
     record { tree = p.0; listed = sym (append-nil nodes) ∙ p.2 ∙ ap (λ r. preorder p.0 ++ r) p.5 ∙ append-nil (preorder p.0); shows = p.3 }

@@ -1,147 +1,227 @@
 -- A search has one outcome, where each case's run has one end.
-use Rattle.std.proofs.Common.{◌≡◌, Bool, ℕ, inl, inr, ℤ, pos, ◌+ℤ◌, ◌<ℤ◌, Option, Some, List, [], ◌∷◌, arith, refl, sym, ◌∙◌, ap, subst}
+use Rattle.std.proofs.Common.{◌≡◌, false, ℕ, ◌<◌, inl, inr, ℤ, Option, None, Some, List, [], ◌∷◌, length, get_or, arith, refl, sym, ◌∙◌, ap, subst}
+use Rattle.std.specs.List.{All}
 use Rattle.std.specs.Option.{is_some}
 use Rattle.std.proofs.lemmas.Int.{ints}
-use Rattle.rational.specs.Ratio.{Ratio, product, IsFloor, IsNumber}
-use Rattle.rational.proofs.Integers.{below-from_times}
+use Rattle.std.proofs.lemmas.List.{ext_get_or}
+use Rattle.std.proofs.lemmas.List.Elements.{All-cons, All-nil}
+use Rattle.rational.specs.Ratio.{Ratio, IsFloor, IsNumber}
 use Rattle.rational.proofs.Scaling.{IsSame-trans}
 use Rattle.rational.proofs.ReducedForms.{same_reduced}
-use Rattle.evidence.specs.Instance.{Instance, IsInstance, width, cost_at}
+use Rattle.evidence.specs.Sums.{none}
+use Rattle.evidence.specs.Instance.{Goal, Instance, Problem, IsInstance, IsProblem, IsGoalOfNumbers, goals, asking, no_goal, width, variable_at}
 use Rattle.evidence.specs.Point.{value_at, objective}
 use Rattle.evidence.specs.Cases.{Multiplier}
-use Rattle.evidence.proofs.Columns.{by_lt, value-number}
-use Rattle.evidence.proofs.Numbers.{product-number}
-use Rattle.evidence.proofs.Totals.{total-number}
+use Rattle.evidence.proofs.Columns.{by_lt, none-number, All-anywhere}
+use Rattle.evidence.proofs.AddedRows.{instance_asking}
+use Rattle.evidence.proofs.UniqueRows.{one_end}
 use Rattle.simplex_rules.specs.Ends.{Terms, Clock, End, Shown, Clash, Empty, Best, Endless, TurnsOut, TooWide, Stopped}
-use Rattle.search_rules.specs.Search.{Found, Moment, Outcome, Next, To, Out, first, branch, IsPassed, IsHopeful, IsSplit, IsWholeBelow, IsValue, MeetsPoint, GoesFrom, IsVisit, IsNext, ComesInSearch, begins, goes_on, Search}
 use Rattle.simplex_rules.specs.Runs.{Run, looked_once}
 use Rattle.simplex_rules.proofs.Moments.{run_true}
-use Rattle.simplex_rules.proofs.OneEnd.{run_once}
+use Rattle.simplex_rules.proofs.OneEnd.{run_once, basis_once}
+use Rattle.search_rules.specs.Branching.{Case, IsMet, AreMetBelow, IsSplit, IsDivided, IsFirstMoving}
+use Rattle.search_rules.specs.Cuts.{Trial, NoCut, WideCut, Cut, TriesBasis}
+use Rattle.search_rules.specs.Search.{Found, Level, SearchMoment, Outcome, NextOfSearch, To, Out, first, branch, divide, next_level_at, reached, IsPassed, IsHopeful, IsValue, AreValuesAt, StopsBefore, Begins, Branches, Takes, TakesPoint, MeetsPoint, GoesFromTrial, Improves, GoesFromBest, GoesAlong, GoesFrom, AsksNext, Closes, IsVisit, IsNext, ComesInSearch, begins, goes_on, Search}
 use Rattle.search_rules.proofs.Rays.{one_ray}
-use Rattle.search_rules.proofs.Moments.{Holds, holds_first, this, next_holds}
+use Rattle.search_rules.proofs.OneCut.{one_floor, trial_once}
+use Rattle.search_rules.proofs.Moments.{Holds, holds_first, this, best_number, objective-number, next_holds}
 
-one_floor : (x : Ratio) (k l : ℤ) → IsFloor x k → IsFloor x l → k ≡ l
-one_floor x k l f g =
-    let a : k <ℤ (l +ℤ pos 1) = below-from_times k (l +ℤ pos 1) x.den (let p = f.low in let q = g.high in omega (arith, ints)) in
-    let b : l <ℤ (k +ℤ pos 1) = below-from_times l (k +ℤ pos 1) x.den (let p = g.low in let q = f.high in omega (arith, ints)) in
-    omega (arith, ints)
+-- the least variable whose value isn't as it must be
+abbrev IsUnmet : Instance → List Ratio → ℕ → Type 0
+IsUnmet I x j = AreMetBelow I x j × (IsMet (variable_at I j) (value_at x j) → ⊥)
 
-one_variable : (J : Instance) (x : List Ratio) (i j : ℕ) (k l : ℤ) → IsSplit J x i k → IsSplit J x j l → i ≡ j
-one_variable J x i j k l s t =
-    by_lt i j (λ below. absurd (s.other (t.below i below s.branch.whole)))
-    (λ up. by_lt j i (λ above. absurd (t.other (s.below j above t.branch.whole))) (λ down. omega arith))
+module _ (I : Instance) (x : List Ratio) where
+  one_unmet : (i j : ℕ) → IsUnmet I x i → IsUnmet I x j → i ≡ j
+  one_unmet i j p q = by_lt i j (λ below. absurd (p.1 (q.0 i below))) (λ up. by_lt j i (λ above. absurd (q.1 (p.0 j above))) (λ down. omega arith))
 
-one_split : (J : Instance) (x : List Ratio) (i j : ℕ) (k l : ℤ) → IsSplit J x i k → IsSplit J x j l → k ≡ l
-one_split J x i j k l s t =
-    let e : i ≡ j = one_variable J x i j k l s t in
-    one_floor (value_at x j) k l (subst (λ i. IsFloor (value_at x i) k) e s.floor) t.floor
+  split_unmet : (j : ℕ) (k : ℤ) → IsSplit I x j k → IsUnmet I x j
+  split_unmet j k s = (s.below, λ m. s.other (m.whole (let b = s.branch in b.whole)))
+
+  divided_unmet : (j : ℕ) → IsDivided I x j → IsUnmet I x j
+  divided_unmet j s = (s.below, λ m. s.other m.either)
+
+  not_both_ways : (i j : ℕ) (k : ℤ) → IsSplit I x i k → IsDivided I x j → ⊥
+  not_both_ways i j k s d = let e : j ≡ i = one_unmet j i (divided_unmet j d) (split_unmet i k s) in let d : IsDivided I x i = subst (IsDivided I x) e d in d.other s.either
+
+module _ (C : Case) (rest : List Case) (m : SearchMoment) (x : List Ratio) where
+  branches_once : (a b : NextOfSearch) → Branches C rest m x a → Branches C rest m x b → a ≡ b
+  branches_once a b (inl (i, k, s, e)) (inl (j, l, u, f)) =
+      let p : i ≡ j = one_unmet C.program x i j (split_unmet C.program x i k s) (split_unmet C.program x j l u) in
+      let q : k ≡ l = one_floor (value_at x j) k l (subst (λ i. IsFloor (value_at x i) k) p s.floor) u.floor in
+      e ∙ ap (λ i. To (branch m C rest i k)) p ∙ ap (λ k. To (branch m C rest j k)) q ∙ sym f
+  branches_once a b (inl (i, k, s, e)) (inr (j, d, f)) = absurd (not_both_ways C.program x i j k s d)
+  branches_once a b (inr (i, d, e)) (inl (j, l, u, f)) = absurd (not_both_ways C.program x j i l u d)
+  branches_once a b (inr (i, d, e)) (inr (j, u, f)) = e ∙ ap (λ i. To (divide m C rest i)) (one_unmet C.program x i j (divided_unmet C.program x i d) (divided_unmet C.program x j u)) ∙ sym f
+
+  branches_met : (a : NextOfSearch) → Branches C rest m x a → AreMetBelow C.program x (width C.program) → ⊥
+  branches_met a (inl (j, k, s, e)) met = let u = split_unmet C.program x j k s in u.1 (met j (let b = s.branch in b.variable))
+  branches_met a (inr (j, d, e)) met = let u = divided_unmet C.program x j d in u.1 (met j (let b = d.branch in b.variable))
 
 one_value : (I : Instance) (x : List Ratio) (v w : Ratio) → IsInstance I → IsValue I x v → IsValue I x w → v ≡ w
-one_value I x v w good p q = same_reduced v w p.reduced q.reduced (IsSame-trans v (objective I x) w number p.same (sym q.same))
-  where
-    number : IsNumber (objective I x)
-    number =
-        total-number I.goal.constant (width I) (λ j. product (cost_at I j) (value_at x j)) good.constant
-        (λ j. product-number (cost_at I j) (value_at x j) (value-number I.goal.costs good.costs j) (value-number x p.numbers j))
+one_value I x v w good p q = same_reduced v w p.reduced q.reduced (IsSame-trans v (objective I x) w (objective-number I x good p.numbers) p.same (sym q.same))
 
-not_whole : (J : Instance) (x : List Ratio) (j : ℕ) (k : ℤ) → IsSplit J x j k → IsWholeBelow J x (width J) → ⊥
-not_whole J x j k s w = s.other (w j s.branch.variable s.branch.whole)
+module _ (P : Problem) (good : IsProblem P) where
+  asking_numbers : (k : ℕ) → IsInstance (asking P k)
+  asking_numbers k =
+      let program = good.program in
+      let own : IsGoalOfNumbers P.program.goal = record { constant = program.constant; costs = program.costs } in
+      let nothing : IsGoalOfNumbers no_goal = record { constant = none-number; costs = All-nil IsNumber } in
+      instance_asking P.program (get_or (goals P) k no_goal) program (All-anywhere IsGoalOfNumbers (goals P) no_goal nothing (All-cons IsGoalOfNumbers P.program.goal P.later own good.later) k)
 
-module _ (I J : Instance) (good : IsInstance I) (rest : List Instance) (m : Moment) (x : List Ratio) (ms : List Multiplier) where
-  meets_once : (a b : Next) → MeetsPoint I J rest m x ms a → MeetsPoint I J rest m x ms b → a ≡ b
-  meets_once a b (inl (i, k, s, e)) (inl (j, l, t, f)) =
-      let p : i ≡ j = one_variable J x i j k l s t in
-      let q : k ≡ l = one_split J x i j k l s t in
-      e ∙ ap (λ i. To (branch m J rest i k)) p ∙ ap (λ k. To (branch m J rest j k)) q ∙ sym f
-  meets_once a b (inl (i, k, s, e)) (inr (inl (w, f, g))) = absurd (not_whole J x i k s w)
-  meets_once a b (inl (i, k, s, e)) (inr (inr (inl (v, w, f, g, n, h)))) = absurd (not_whole J x i k s w)
-  meets_once a b (inl (i, k, s, e)) (inr (inr (inr (v, r, w, f, g, n, h)))) = absurd (not_whole J x i k s w)
-  meets_once a b (inr (inl (w, f, g))) (inl (i, k, s, e)) = absurd (not_whole J x i k s w)
-  meets_once a b (inr (inl (w, f, g))) (inr (inl (z, h, i))) = g ∙ sym i
-  meets_once a b (inr (inl (w, f, g))) (inr (inr (inl (v, z, h, i, n, j)))) = absurd (f h)
-  meets_once a b (inr (inl (w, f, g))) (inr (inr (inr (v, r, z, h, i, n, j)))) = absurd (f h)
-  meets_once a b (inr (inr (inl (v, w, f, g, n, h)))) (inl (i, k, s, e)) = absurd (not_whole J x i k s w)
-  meets_once a b (inr (inr (inl (v, w, f, g, n, h)))) (inr (inl (z, i, j))) = absurd (i f)
-  meets_once a b (inr (inr (inl (v, w, f, g, n, h)))) (inr (inr (inl (u, z, i, j, o, l)))) = let e : v ≡ u = one_value I x v u good g j in cc
-  meets_once a b (inr (inr (inl (v, w, f, g, n, h)))) (inr (inr (inr (u, r, z, i, j, o, l)))) = absurd (cc)
-  meets_once a b (inr (inr (inr (v, r, w, f, g, n, h)))) (inl (i, k, s, e)) = absurd (not_whole J x i k s w)
-  meets_once a b (inr (inr (inr (v, r, w, f, g, n, h)))) (inr (inl (z, i, j))) = absurd (i f)
-  meets_once a b (inr (inr (inr (v, r, w, f, g, n, h)))) (inr (inr (inl (u, z, i, j, o, l)))) = absurd (cc)
-  meets_once a b (inr (inr (inr (v, r, w, f, g, n, h)))) (inr (inr (inr (u, s, z, i, j, o, l)))) = let e : v ≡ u = one_value I x v u good g j in let q : r ≡ s = cc in cc
+  one_values : (x vs ws : List Ratio) → AreValuesAt P x vs → AreValuesAt P x ws → vs ≡ ws
+  one_values x vs ws p q =
+      ext_get_or none vs ws (p.count ∙ sym q.count)
+      (λ k h.
+      let low : k < length (goals P) = subst (λ n. k < n) p.count h in
+      one_value (asking P k) x (value_at vs k) (value_at ws k) (asking_numbers k) (p.values k low) (q.values k low))
 
-not_both : (I : Instance) (best : Option Found) (b : Ratio) → IsPassed I best b → IsHopeful I best b → ⊥
-not_both I best b p h = let q = h p.found p.is in let r = p.passed in omega (arith, ints)
+  module _ (t : Terms) (C : Case) (rest : List Case) (m : SearchMoment) where
+    taken_once : (ray : Option (List Ratio)) (f : Found) (ms : List Multiplier) (a b : NextOfSearch) → Takes P t ray rest m f ms a → Takes P t ray rest m f ms b → a ≡ b
+    taken_once None f ms a b p q = p ∙ sym q
+    taken_once (Some r) f ms a b p q = p ∙ sym q
 
-module _ (t : Terms) (zeroed : Bool) (I J : Instance) (good : IsInstance I) (rest : List Instance) (m : Moment) where
-  goes_once : (e : End) (a b : Next) → Shown zeroed J e → GoesFrom t I J rest m e a → GoesFrom t I J rest m e b → a ≡ b
-  goes_once (Clash c) a b shown p q = p ∙ sym q
-  goes_once (Empty ms) a b shown p q = p ∙ sym q
-  goes_once (Best c x ms) a b shown (inl (p, e)) (inl (q, f)) = e ∙ sym f
-  goes_once (Best c x ms) a b shown (inl (p, e)) (inr (q, f)) = absurd (not_both I m.best c p q)
-  goes_once (Best c x ms) a b shown (inr (p, e)) (inl (q, f)) = absurd (not_both I m.best c q p)
-  goes_once (Best c x ms) a b shown (inr (p, e)) (inr (q, f)) = meets_once I J good rest m x ms a b e f
-  goes_once (Endless x d) a b shown (inl (p, e)) (inl (q, f)) = e ∙ sym f
-  goes_once (Endless x d) a b shown (inl (p, e)) (inr (r, s, f)) = absurd (p r s)
-  goes_once (Endless x d) a b shown (inr (r, s, f)) (inl (p, e)) = absurd (p r s)
-  goes_once (Endless x d) a b shown (inr (r, s, e)) (inr (q, u, f)) =
-      let g : r ≡ q = one_ray I d (let h = shown.2 in h.numbers) r q s u in
-      meets_once I J good rest (record m { ray = Some q }) x [] a b (subst (λ r. MeetsPoint I J rest (record m { ray = Some r }) x [] a) g e) f
-  goes_once TurnsOut a b shown p q = p ∙ sym q
-  goes_once (TooWide s) a b shown p q = p ∙ sym q
-  goes_once Stopped a b shown p q = p ∙ sym q
+    takes_once : (x : List Ratio) (ms : List Multiplier) (a b : NextOfSearch) → TakesPoint P t C rest m x ms a → TakesPoint P t C rest m x ms b → a ≡ b
+    takes_once x ms a b (met, inl (f, e)) (also, inl (g, h)) = e ∙ sym h
+    takes_once x ms a b (met, inl (f, e)) (also, inr (ws, fits, w, q)) = absurd (f fits)
+    takes_once x ms a b (met, inr (vs, fits, v, p)) (also, inl (g, h)) = absurd (g fits)
+    takes_once x ms a b (met, inr (vs, fits, v, p)) (also, inr (ws, fit, w, q)) =
+        let e : vs ≡ ws = one_values x vs ws v w in
+        taken_once C.ray (record { point = x; values = ws }) ms a b (subst (λ vs. Takes P t C.ray rest m (record { point = x; values = vs }) ms a) e p) q
 
-module _ (I : Instance) (t : Terms) (good : IsInstance I) where
-  visit_once : (m : Moment) (a b : Next) → Holds I m → IsVisit I t m a → IsVisit I t m b → a ≡ b
-  visit_once m a b h v w =
-      let l : v.visit.case ∷ v.visit.rest ≡ w.visit.case ∷ w.visit.rest = sym v.visit.is ∙ w.visit.is in
-      let j : v.visit.case ≡ w.visit.case = cc in
-      let k : v.visit.rest ≡ w.visit.rest = cc in
-      let n : IsInstance w.visit.case = let c = this I w.visit.case w.visit.rest m w.visit.is h in c.numbers in
-      let r = run_once w.visit.case (is_some m.ray) t (looked_once m.clock) v.end w.end v.clock w.clock n (subst (λ J. Run J (is_some m.ray) t (looked_once m.clock) v.end v.clock) j v.visit.run) w.visit.run in
-      let g = subst (λ J. GoesFrom t I J v.visit.rest (record m { clock = v.clock }) v.end a) j v.goes in
-      let g = subst (λ l. GoesFrom t I w.visit.case l (record m { clock = v.clock }) v.end a) k g in
-      let g = subst (λ e. GoesFrom t I w.visit.case w.visit.rest (record m { clock = v.clock }) e a) r.0 g in
-      let g = subst (λ c. GoesFrom t I w.visit.case w.visit.rest (record m { clock = c }) w.end a) r.1 g in
-      goes_once t (is_some m.ray) I w.visit.case good w.visit.rest (record m { clock = w.clock }) w.end a b (run_true w.visit.case (is_some m.ray) t (looked_once m.clock) w.end w.clock n w.visit.run) g w.goes
+    meets_once : (x : List Ratio) (ms : List Multiplier) (a b : NextOfSearch) → MeetsPoint P t C rest m x ms a → MeetsPoint P t C rest m x ms b → a ≡ b
+    meets_once x ms a b (inl p) (inl q) = branches_once C rest m x a b p q
+    meets_once x ms a b (inl p) (inr q) = absurd (branches_met C rest m x a p q.0)
+    meets_once x ms a b (inr p) (inl q) = absurd (branches_met C rest m x b q p.0)
+    meets_once x ms a b (inr p) (inr q) = takes_once x ms a b p q
 
-  waits : (m : Moment) (J : Instance) (rest : List Instance) → m.waiting ≡ J ∷ rest → m.waiting ≡ [] → ⊥
-  waits m J rest e f = cc
+    trials_once : (x : List Ratio) (trial : Trial) (a b : NextOfSearch) → GoesFromTrial P t C rest m x trial a → GoesFromTrial P t C rest m x trial b → a ≡ b
+    trials_once x NoCut a b p q = branches_once C rest m x a b p q
+    trials_once x WideCut a b p q = p ∙ sym q
+    trials_once x (Cut ms cs k) a b p q = p ∙ sym q
 
-  next_once : (m : Moment) (a b : Next) → Holds I m → IsNext I t m a → IsNext I t m b → a ≡ b
-  next_once m a b hold (inl (e, f)) (inl (g, h)) = f ∙ sym h
-  next_once m a b hold (inl (e, f)) (inr (inl (g, h, i))) = absurd (g e)
-  next_once m a b hold (inl (e, f)) (inr (inr (inl (g, h, i, j)))) = absurd (g e)
-  next_once m a b hold (inl (e, f)) (inr (inr (inr w))) = absurd (waits m w.visit.case w.visit.rest w.visit.is e)
-  next_once m a b hold (inr (inl (g, h, i))) (inl (e, f)) = absurd (g e)
-  next_once m a b hold (inr (inl (g, h, i))) (inr (inl (j, k, l))) = i ∙ sym l
-  next_once m a b hold (inr (inl (g, h, i))) (inr (inr (inl (j, k, s, l)))) = absurd (omega arith)
-  next_once m a b hold (inr (inl (g, h, i))) (inr (inr (inr w))) = let k = w.visit.within in absurd (omega arith)
-  next_once m a b hold (inr (inr (inl (g, h, s, i)))) (inl (e, f)) = absurd (g e)
-  next_once m a b hold (inr (inr (inl (g, h, s, i)))) (inr (inl (j, k, l))) = absurd (omega arith)
-  next_once m a b hold (inr (inr (inl (g, h, s, i)))) (inr (inr (inl (j, k, u, l)))) = i ∙ sym l
-  next_once m a b hold (inr (inr (inl (g, h, s, i)))) (inr (inr (inr w))) = absurd (w.visit.goes_on s)
-  next_once m a b hold (inr (inr (inr v))) (inl (e, f)) = absurd (waits m v.visit.case v.visit.rest v.visit.is e)
-  next_once m a b hold (inr (inr (inr v))) (inr (inl (j, k, l))) = let h = v.visit.within in absurd (omega arith)
-  next_once m a b hold (inr (inr (inr v))) (inr (inr (inl (j, k, u, l)))) = absurd (v.visit.goes_on u)
-  next_once m a b hold (inr (inr (inr v))) (inr (inr (inr w))) = visit_once m a b hold v w
+    module _ (here : IsInstance C.program) (before : Clock) where
+      improves_once : (c : Ratio) (x : List Ratio) (ms : List Multiplier) (a b : NextOfSearch) → Improves P t C rest m before c x ms a → Improves P t C rest m before c x ms b → a ≡ b
+      improves_once c x ms a b (inl p) (inl q) = takes_once x ms a b p q
+      improves_once c x ms a b (inl p) (inr (inl (never, q))) = absurd (branches_met C rest m x b q p.0)
+      improves_once c x ms a b (inl p) (inr (inr (ss, trial, may, other, ends, tries, q))) = absurd (other p.0)
+      improves_once c x ms a b (inr (inl (never, p))) (inl q) = absurd (branches_met C rest m x a p q.0)
+      improves_once c x ms a b (inr (inl (never, p))) (inr (inl (nor, q))) = branches_once C rest m x a b p q
+      improves_once c x ms a b (inr (inl (never, p))) (inr (inr (ss, trial, may, other, ends, tries, q))) = absurd (never may)
+      improves_once c x ms a b (inr (inr (ss, trial, may, other, ends, tries, p))) (inl q) = absurd (other q.0)
+      improves_once c x ms a b (inr (inr (ss, trial, may, other, ends, tries, p))) (inr (inl (never, q))) = absurd (never may)
+      improves_once c x ms a b (inr (inr (ss, trial, may, other, ends, tries, p))) (inr (inr (us, tried, can, also, end, tries_too, q))) =
+          let e : ss ≡ us = basis_once C.program false t before (Best c x ms) (Best c x ms) m.clock m.clock ss us here ends end in
+          let f : trial ≡ tried = trial_once C.program here x us trial tried (subst (λ ss. TriesBasis C.program x ss trial) e tries) tries_too in
+          trials_once x tried a b (subst (λ k. GoesFromTrial P t C rest m x k a) f p) q
 
-  -- the moments from one on, to the end
-  data Halts : Moment → Outcome → Clock → Type 0 where
-    now : {m : Moment} {o : Outcome} {c : Clock} → IsNext I t m (Out o c) → Halts m o c
-    later : {m n : Moment} {o : Outcome} {c : Clock} → IsNext I t m (To n) → Halts n o c → Halts m o c
+      not_both : (l : Level) (best : Option Found) (c : Ratio) → IsPassed l best c → IsHopeful l best c → ⊥
+      not_both l best c p h = let q = h p.found p.is in let r = p.passed in omega (arith, ints)
 
-  from_first : (m : Moment) (o : Outcome) (c : Clock) → ComesInSearch I t m → Halts m o c → Halts (first I) o c
-  from_first m o c begins h = h
-  from_first m o c (goes_on {m = before} p next) h = from_first before o c p (later next h)
+      best_once : (ray : Option (List Ratio)) (c : Ratio) (x : List Ratio) (ms : List Multiplier) (a b : NextOfSearch) → GoesFromBest P t ray C rest m before c x ms a → GoesFromBest P t ray C rest m before c x ms b → a ≡ b
+      best_once None c x ms a b (inl (p, e)) (inl (q, f)) = e ∙ sym f
+      best_once None c x ms a b (inl (p, e)) (inr (q, f)) = absurd (not_both m.level m.best c p q)
+      best_once None c x ms a b (inr (p, e)) (inl (q, f)) = absurd (not_both m.level m.best c q p)
+      best_once None c x ms a b (inr (p, e)) (inr (q, f)) = improves_once c x ms a b e f
+      best_once (Some r) c x ms a b p q = meets_once x ms a b p q
 
-  halts_once : (m : Moment) (o : Outcome) (c : Clock) → Holds I m → Halts m o c → (n : Moment) (p : Outcome) (d : Clock) → n ≡ m → Halts n p d → (o ≡ p) × (c ≡ d)
-  halts_once m o c h (now a) n p d e (now b) = let q = next_once m (Out o c) (Out p d) h a (subst (λ k. IsNext I t k (Out p d)) e b) in (cc, cc)
-  halts_once m o c h (now a) n p d e (later {n = k} b i) = let q = next_once m (Out o c) (To k) h a (subst (λ i. IsNext I t i (To k)) e b) in absurd (cc)
-  halts_once m o c h (later {n = k} a i) n p d e (now b) = let q = next_once m (To k) (Out p d) h a (subst (λ i. IsNext I t i (Out p d)) e b) in absurd (cc)
-  halts_once m o c h (later {n = k} a i) n p d e (later {n = l} b j) =
-      let q = next_once m (To k) (To l) h a (subst (λ i. IsNext I t i (To l)) e b) in
-      let r : l ≡ k = cc in
-      halts_once k o c (next_holds I t m k h a) i l p d r j
+  one_moving : (C : Case) (d : List Ratio) (i j : ℕ) → IsFirstMoving C d i → IsFirstMoving C d j → i ≡ j
+  one_moving C d i j p q = by_lt i j (λ below. absurd (q.before i below p.moving)) (λ up. by_lt j i (λ above. absurd (p.before j above q.moving)) (λ down. omega arith))
 
-  pub search_once : (o p : Outcome) (c d : Clock) → Search I t o c → Search I t p d → (o ≡ p) × (c ≡ d)
-  search_once o p c d s u = halts_once (first I) o c (holds_first I good) (from_first s.last o c s.comes (now s.ends)) (first I) p d refl (from_first u.last p d u.comes (now u.ends))
+  module _ (t : Terms) (C : Case) (rest : List Case) (m : SearchMoment) (x d : List Ratio) (numbers : All IsNumber d) where
+    along_once : (a b : NextOfSearch) → GoesAlong P t C rest m x d a → GoesAlong P t C rest m x d b → a ≡ b
+    along_once a b (inl (i, p, e)) (inl (j, q, f)) = e ∙ ap (λ j. To (divide m C rest j)) (one_moving C d i j p q) ∙ sym f
+    along_once a b (inl (i, p, e)) (inr (inl (still, wide, f))) = absurd (still i p.moving)
+    along_once a b (inl (i, p, e)) (inr (inr (r, still, s, f))) = absurd (still i p.moving)
+    along_once a b (inr (inl (still, wide, e))) (inl (j, q, f)) = absurd (still j q.moving)
+    along_once a b (inr (inl (still, wide, e))) (inr (inl (nor, far, f))) = e ∙ sym f
+    along_once a b (inr (inl (still, wide, e))) (inr (inr (r, nor, s, f))) = absurd (wide r s)
+    along_once a b (inr (inr (r, still, s, e))) (inl (j, q, f)) = absurd (still j q.moving)
+    along_once a b (inr (inr (r, still, s, e))) (inr (inl (nor, wide, f))) = absurd (wide r s)
+    along_once a b (inr (inr (r, still, s, e))) (inr (inr (q, nor, u, f))) =
+        let g : r ≡ q = one_ray P.program d numbers r q s u in
+        meets_once t (record C { ray = Some q }) rest m x [] a b (subst (λ r. MeetsPoint P t (record C { ray = Some r }) rest m x [] a) g e) f
+
+  module _ (t : Terms) (C : Case) (rest : List Case) (m : SearchMoment) (here : IsInstance C.program) (before : Clock) where
+    goes_once : (e : End) (a b : NextOfSearch) → Shown (is_some C.ray) C.program e → GoesFrom P t C rest m before e a → GoesFrom P t C rest m before e b → a ≡ b
+    goes_once (Clash c) a b shown p q = p ∙ sym q
+    goes_once (Empty ms) a b shown p q = p ∙ sym q
+    goes_once (Best c x ms) a b shown p q = best_once t C rest m here before C.ray c x ms a b p q
+    goes_once (Endless x d) a b shown p q = along_once t C rest m x d (let h = shown.2 in h.numbers) a b p q
+    goes_once TurnsOut a b shown p q = p ∙ sym q
+    goes_once (TooWide s) a b shown p q = p ∙ sym q
+    goes_once Stopped a b shown p q = p ∙ sym q
+
+  module _ (t : Terms) where
+    stops_once : (m : SearchMoment) (a b : NextOfSearch) → StopsBefore P t m a → StopsBefore P t m b → a ≡ b
+    stops_once m a b (inl (l, e)) (inl (k, f)) = e ∙ sym f
+    stops_once m a b (inl (l, e)) (inr (k, s, f)) = absurd (omega arith)
+    stops_once m a b (inr (l, s, e)) (inl (k, f)) = absurd (omega arith)
+    stops_once m a b (inr (l, s, e)) (inr (k, u, f)) = e ∙ sym f
+
+    stops_begun : (m : SearchMoment) (a : NextOfSearch) → StopsBefore P t m a → Begins P t m → ⊥
+    stops_begun m a (inl (l, e)) g = let k = g.within in omega arith
+    stops_begun m a (inr (l, s, e)) g = g.goes_on s
+
+    asks_once : (m : SearchMoment) (f : Found) (g : Goal) (gs : List Goal) (a b : NextOfSearch) → IsInstance m.level.program → IsNumber (reached m.level f) → AsksNext P t m f g gs a → AsksNext P t m f g gs b → a ≡ b
+    asks_once m f g gs a b here n (inl (e, end, p)) (inl (d, last, q)) = p ∙ ap (λ e. To (next_level_at m f e g gs)) (one_end m.level.program here (reached m.level f) e d n end last) ∙ sym q
+    asks_once m f g gs a b here n (inl (e, end, p)) (inr (wide, q)) = absurd (wide end.fits)
+    asks_once m f g gs a b here n (inr (wide, p)) (inl (d, last, q)) = absurd (wide last.fits)
+    asks_once m f g gs a b here n (inr (wide, inl p)) (inr (far, inl q)) = stops_once m a b p q
+    asks_once m f g gs a b here n (inr (wide, inl p)) (inr (far, inr (k, q))) = absurd (stops_begun m a p k)
+    asks_once m f g gs a b here n (inr (wide, inr (k, p))) (inr (far, inl q)) = absurd (stops_begun m b q k)
+    asks_once m f g gs a b here n (inr (wide, inr (k, p))) (inr (far, inr (i, q))) = p ∙ sym q
+
+    closes_once : (m : SearchMoment) (a b : NextOfSearch) → Holds P m → (best : Option Found) (gs : List Goal) → m.best ≡ best → Closes P t m best gs a → Closes P t m best gs b → a ≡ b
+    closes_once m a b h None gs e p q = p ∙ sym q
+    closes_once m a b h (Some f) [] e p q = p ∙ sym q
+    closes_once m a b h (Some f) (g ∷ gs) e p q = asks_once m f g gs a b (let l = h.level in l.good) (best_number P m.level f h.level (h.best f e)) p q
+
+    visit_once : (m : SearchMoment) (a b : NextOfSearch) → Holds P m → IsVisit P t m a → IsVisit P t m b → a ≡ b
+    visit_once m a b h v w =
+        let C = w.visit.case in
+        let k : Clock = looked_once m.clock in
+        let l : v.visit.case ∷ v.visit.rest ≡ C ∷ w.visit.rest = sym v.visit.is ∙ w.visit.is in
+        let p : v.visit.case ≡ C = cc in
+        let q : v.visit.rest ≡ w.visit.rest = cc in
+        let n : IsInstance C.program = let c = this P C w.visit.rest m w.visit.is h in c.case.numbers in
+        let r = run_once C.program (is_some C.ray) t k v.end w.end v.clock w.clock n (subst (λ D. Run D.program (is_some D.ray) t k v.end v.clock) p v.visit.run) w.visit.run in
+        let g = subst (λ D. GoesFrom P t D v.visit.rest (record m { clock = v.clock }) k v.end a) p v.goes in
+        let g = subst (λ l. GoesFrom P t C l (record m { clock = v.clock }) k v.end a) q g in
+        let g = subst (λ e. GoesFrom P t C w.visit.rest (record m { clock = v.clock }) k e a) r.0 g in
+        let g = subst (λ c. GoesFrom P t C w.visit.rest (record m { clock = c }) k w.end a) r.1 g in
+        goes_once t C w.visit.rest (record m { clock = w.clock }) n k w.end a b (run_true C.program (is_some C.ray) t k w.end w.clock n w.visit.run) g w.goes
+
+    waits : (m : SearchMoment) (a : NextOfSearch) → IsVisit P t m a → m.waiting ≡ [] → ⊥
+    waits m a v e = let q = v.visit.is in cc
+
+    next_once : (m : SearchMoment) (a b : NextOfSearch) → Holds P m → IsNext P t m a → IsNext P t m b → a ≡ b
+    next_once m a b h (inl (e, p)) (inl (f, q)) = closes_once m a b h m.best m.level.later refl p q
+    next_once m a b h (inl (e, p)) (inr (inl (f, q))) = absurd (f e)
+    next_once m a b h (inl (e, p)) (inr (inr w)) = absurd (waits m b w e)
+    next_once m a b h (inr (inl (e, p))) (inl (f, q)) = absurd (e f)
+    next_once m a b h (inr (inl (e, p))) (inr (inl (f, q))) = stops_once m a b p q
+    next_once m a b h (inr (inl (e, p))) (inr (inr w)) = absurd (stops_begun m a p (let c = w.visit in c.begins))
+    next_once m a b h (inr (inr v)) (inl (f, q)) = absurd (waits m a v f)
+    next_once m a b h (inr (inr v)) (inr (inl (f, q))) = absurd (stops_begun m b q (let c = v.visit in c.begins))
+    next_once m a b h (inr (inr v)) (inr (inr w)) = visit_once m a b h v w
+
+    -- the moments from one on, to the end
+    data Halts : SearchMoment → Outcome → Clock → Type 0 where
+      now : {m : SearchMoment} {o : Outcome} {c : Clock} → IsNext P t m (Out o c) → Halts m o c
+      later : {m n : SearchMoment} {o : Outcome} {c : Clock} → IsNext P t m (To n) → Halts n o c → Halts m o c
+
+    from_first : (m : SearchMoment) (o : Outcome) (c : Clock) → ComesInSearch P t m → Halts m o c → Halts (first P) o c
+    from_first m o c begins h = h
+    from_first m o c (goes_on {m = before} p next) h = from_first before o c p (later next h)
+
+    halts_once : (m : SearchMoment) (o : Outcome) (c : Clock) → Holds P m → Halts m o c → (n : SearchMoment) (p : Outcome) (d : Clock) → n ≡ m → Halts n p d → (o ≡ p) × (c ≡ d)
+    halts_once m o c h (now a) n p d e (now b) = let q = next_once m (Out o c) (Out p d) h a (subst (λ k. IsNext P t k (Out p d)) e b) in (cc, cc)
+    halts_once m o c h (now a) n p d e (later {n = k} b i) = let q = next_once m (Out o c) (To k) h a (subst (λ i. IsNext P t i (To k)) e b) in absurd (cc)
+    halts_once m o c h (later {n = k} a i) n p d e (now b) = let q = next_once m (To k) (Out p d) h a (subst (λ i. IsNext P t i (Out p d)) e b) in absurd (cc)
+    halts_once m o c h (later {n = k} a i) n p d e (later {n = l} b j) =
+        let q = next_once m (To k) (To l) h a (subst (λ i. IsNext P t i (To l)) e b) in
+        let r : l ≡ k = cc in
+        halts_once k o c (next_holds P t m k h a) i l p d r j
+
+    pub search_once : (o p : Outcome) (c d : Clock) → Search P t o c → Search P t p d → (o ≡ p) × (c ≡ d)
+    search_once o p c d s u = halts_once (first P) o c (holds_first P good) (from_first s.last o c s.comes (now s.ends)) (first P) p d refl (from_first u.last p d u.comes (now u.ends))

@@ -1,52 +1,114 @@
--- Without whole variables a search has one case.
-use Rattle.std.proofs.Common.{◌≡◌, ◌⊎◌, inl, inr, ℕ, Some, List, [], ◌∷◌, refl, sym, ◌∙◌, subst}
+-- Without whole variables, and without any that may be 0 besides, each level has one case.
+use Rattle.std.proofs.Common.{◌≡◌, ◌⊎◌, inl, inr, ℕ, ◌<◌, Option, None, Some, IsSome, IsTrue, List, [], ◌∷◌, length, get_or, refl, sym, ◌∙◌, ap, subst}
 use Rattle.rational.specs.Ratio.{Ratio}
-use Rattle.evidence.specs.Instance.{Instance}
-use Rattle.evidence.specs.Cases.{Multiplier}
-use Rattle.simplex_rules.specs.Ends.{Terms, End, Clash, Empty, Best, Endless, TurnsOut, TooWide, Stopped}
-use Rattle.search_rules.specs.Search.{Moment, To, IsSplit, MeetsPoint, GoesFrom, IsNext, ComesInSearch, begins, goes_on}
-use Rattle.search_rules.specs.Outcomes.{IsPlain}
+use Rattle.evidence.specs.Instance.{Range, Variable, Goal, Problem, no_variable, width, variable_at}
+use Rattle.evidence.specs.Cases.{Multiplier, IsZeroBranch}
+use Rattle.simplex_rules.specs.Ends.{Terms, Clock, End, Clash, Empty, Best, Endless, TurnsOut, TooWide, Stopped}
+use Rattle.simplex_rules.specs.Runs.{looked_once}
+use Rattle.simplex_rules.specs.declared.columns.Status.{Status}
+use Rattle.search_rules.specs.Branching.{Case}
+use Rattle.search_rules.specs.Cuts.{Trial, NoCut, WideCut, Cut, TriesBasis}
+use Rattle.search_rules.specs.Search.{Found, SearchMoment, To, undivided, next_level_at, Branches, Takes, TakesPoint, GoesFromTrial, GoesFrom, Closes, IsVisit, IsNext, ComesInSearch, begins, goes_on}
+use Rattle.search_rules.specs.Outcomes.{HaveOneRange, IsPlain}
 
--- the instance itself is still to be searched, or nothing is
-abbrev pub IsEither : Instance → Moment → Type 0
-IsEither I m = (m.waiting ≡ I ∷ []) ⊎ (m.waiting ≡ [])
+-- the level's own program is still to be searched, or nothing is
+abbrev pub IsEither : SearchMoment → Type 0
+IsEither m = (m.waiting ≡ undivided m.level.program ∷ []) ⊎ (m.waiting ≡ [])
 
-module _ (I : Instance) (plain : IsPlain I) where
-  no_split : (x : List Ratio) (j : ℕ) (k : _) → IsSplit I x j k → ⊥
-  no_split x j k s = plain j s.branch.variable s.branch.whole
+-- the variables are those of the problem
+pub record IsPlainMoment (P : Problem) (m : SearchMoment) : Type 0 where
+  pub variables : m.level.program.variables ≡ P.program.variables
+  pub either : IsEither m
 
-  meets_plain : (m n : Moment) (x : List Ratio) (ms : List Multiplier) → MeetsPoint I I [] m x ms (To n) → n.waiting ≡ []
-  meets_plain m n x ms (inl (j, k, s, e)) = absurd (no_split x j k s)
-  meets_plain m n x ms (inr (inl (w, f, e))) = absurd (cc)
-  meets_plain m n x ms (inr (inr (inl (v, w, f, g, r, e)))) = cc
-  meets_plain m n x ms (inr (inr (inr (v, s, w, f, g, r, e)))) = absurd (cc)
+module _ (P : Problem) (t : Terms) (plain : IsPlain P.program) (ranges : HaveOneRange P.program) where
+  module _ (m : SearchMoment) (same : m.level.program.variables ≡ P.program.variables) where
+    abbrev C : Case
+    C = undivided m.level.program
 
-  goes_plain : (t : Terms) (m n : Moment) (e : End) → GoesFrom t I I [] m e (To n) → n.waiting ≡ []
-  goes_plain t m n (Clash c) e = cc
-  goes_plain t m n (Empty ms) e = cc
-  goes_plain t m n (Best b x ms) (inl (p, e)) = cc
-  goes_plain t m n (Best b x ms) (inr (p, g)) = meets_plain m n x ms g
-  goes_plain t m n (Endless x d) (inl (f, e)) = absurd (cc)
-  goes_plain t m n (Endless x d) (inr (r, s, g)) = meets_plain (record m { ray = Some r }) n x [] g
-  goes_plain t m n TurnsOut e = absurd (cc)
-  goes_plain t m n (TooWide w) e = absurd (cc)
-  goes_plain t m n Stopped e = absurd (cc)
+    inside : (j : ℕ) → j < width m.level.program → j < width P.program
+    inside j low = subst (λ (vs : List Variable). j < length vs) same low
 
-  module _ (t : Terms) where
-    -- the one case is searched once
-    pub next_closed : (m n : Moment) → IsEither I m → IsNext I t m (To n) → n.waiting ≡ []
-    next_closed m n h (inl (e, f)) = absurd (cc)
-    next_closed m n h (inr (inl (e, f, g))) = absurd (cc)
-    next_closed m n h (inr (inr (inl (e, f, s, g)))) = absurd (cc)
-    next_closed m n (inr e) (inr (inr (inr v))) = let q = v.visit.is in absurd (cc)
-    next_closed m n (inl e) (inr (inr (inr v))) =
-        let l : v.visit.case ∷ v.visit.rest ≡ I ∷ [] = sym v.visit.is ∙ e in
-        let p : v.visit.case ≡ I = cc in
-        let q : v.visit.rest ≡ [] = cc in
-        let g = subst (λ J. GoesFrom t I J v.visit.rest (record m { clock = v.clock }) v.end (To n)) p v.goes in
-        let g = subst (λ r. GoesFrom t I I r (record m { clock = v.clock }) v.end (To n)) q g in
-        goes_plain t (record m { clock = v.clock }) n v.end g
+    variable_is : (j : ℕ) → variable_at m.level.program j ≡ variable_at P.program j
+    variable_is j = ap (λ (vs : List Variable). get_or vs j no_variable) same
 
-    pub comes_plain : (m : Moment) → ComesInSearch I t m → IsEither I m
-    comes_plain m begins = inl refl
-    comes_plain m (goes_on {m = before} c next) = inr (next_closed before m (comes_plain before c) next)
+    no_whole : (j : ℕ) → j < width m.level.program → IsTrue (variable_at m.level.program j).whole → ⊥
+    no_whole j low w = plain j (inside j low) (subst (λ v. IsTrue v.whole) (variable_is j) w)
+
+    no_zero : (j : ℕ) → IsZeroBranch m.level.program j → ⊥
+    no_zero j z =
+        let e : (variable_at m.level.program j).unless_zero ≡ None = ap (λ v. v.unless_zero) (variable_is j) ∙ ranges j no_variable (inside j z.variable) in
+        let s : IsSome {T = Range} None = subst IsSome e z.further in absurd (cc)
+
+    no_branch : (D : Case) (rest : List Case) (x : List Ratio) (n : SearchMoment) → D.program ≡ m.level.program → Branches D rest m x (To n) → ⊥
+    no_branch D rest x n e (inl (j, k, s, f)) = let b = s.branch in no_whole j (subst (λ I. j < width I) e b.variable) (subst (λ I. IsTrue (variable_at I j).whole) e b.whole)
+    no_branch D rest x n e (inr (j, s, f)) = no_zero j (subst (λ I. IsZeroBranch I j) e s.branch)
+
+    -- the level stays, and its case is closed
+    abbrev pub IsClosedIn : SearchMoment → Type 0
+    IsClosedIn n = (n.level ≡ m.level) × (n.waiting ≡ [])
+
+    takes_plain : (D : Case) (x : List Ratio) (ms : List Multiplier) (n : SearchMoment) → TakesPoint P t D [] m x ms (To n) → IsClosedIn n
+    takes_plain D x ms n (met, inl (f, e)) = absurd (cc)
+    takes_plain D x ms n (met, inr (vs, fits, values, takes)) = by D.ray takes
+      where
+        by : (ray : Option (List Ratio)) → Takes P t ray [] m (record { point = x; values = vs }) ms (To n) → IsClosedIn n
+        by None e = (cc, cc)
+        by (Some r) e = absurd (cc)
+
+    -- no cut is tried where all is whole that must be, and a trial without one branches
+    trial_plain : (x : List Ratio) (ss : List Status) (trial : Trial) (n : SearchMoment) → TriesBasis m.level.program x ss trial → GoesFromTrial P t C [] m x trial (To n) → ⊥
+    trial_plain x ss NoCut n tries g = no_branch C [] x n refl g
+    trial_plain x ss WideCut n tries g = cc
+    trial_plain x ss (Cut ms cs k) n (inl (w, e)) g = cc
+    trial_plain x ss (Cut ms cs k) n (inr (inl (j, f, b, e))) g = cc
+    trial_plain x ss (Cut ms cs k) n (inr (inr (j, u, f, b, d, e))) g = no_whole j f.inside f.whole
+
+    goes_plain : (before : Clock) (e : End) (n : SearchMoment) → GoesFrom P t C [] m before e (To n) → IsClosedIn n
+    goes_plain before (Clash c) n e = (cc, cc)
+    goes_plain before (Empty ms) n e = (cc, cc)
+    goes_plain before (Best b x ms) n (inl (p, e)) = (cc, cc)
+    goes_plain before (Best b x ms) n (inr (hope, inl p)) = takes_plain C x ms n p
+    goes_plain before (Best b x ms) n (inr (hope, inr (inl (never, p)))) = absurd (no_branch C [] x n refl p)
+    goes_plain before (Best b x ms) n (inr (hope, inr (inr (ss, trial, may, other, ends, tries, g)))) = absurd (trial_plain x ss trial n tries g)
+    goes_plain before (Endless x d) n (inl (j, f, e)) = absurd (no_zero j (let i = f.moving in i.branch))
+    goes_plain before (Endless x d) n (inr (inl (none, f, e))) = absurd (cc)
+    goes_plain before (Endless x d) n (inr (inr (r, none, scaled, inl p))) = absurd (no_branch (record C { ray = Some r }) [] x n refl p)
+    goes_plain before (Endless x d) n (inr (inr (r, none, scaled, inr p))) = takes_plain (record C { ray = Some r }) x [] n p
+    goes_plain before TurnsOut n e = absurd (cc)
+    goes_plain before (TooWide w) n e = absurd (cc)
+    goes_plain before Stopped n e = absurd (cc)
+
+    -- the next level's program has the same variables
+    closes_plain : (best : Option Found) (gs : List Goal) (n : SearchMoment) → Closes P t m best gs (To n) → IsPlainMoment P n
+    closes_plain None gs n e = absurd (cc)
+    closes_plain (Some f) [] n e = absurd (cc)
+    closes_plain (Some f) (g ∷ gs) n (inl (e, end, q)) =
+        let q : next_level_at m f e g gs ≡ n = cc in
+        subst (IsPlainMoment P) q (record { variables = same; either = inl refl })
+    closes_plain (Some f) (g ∷ gs) n (inr (wide, inl (inl (limit, q)))) = absurd (cc)
+    closes_plain (Some f) (g ∷ gs) n (inr (wide, inl (inr (within, stop, q)))) = absurd (cc)
+    closes_plain (Some f) (g ∷ gs) n (inr (wide, inr (goes, q))) = absurd (cc)
+
+  -- the one case is searched once
+  pub visit_closed : (m n : SearchMoment) → IsPlainMoment P m → IsVisit P t m (To n) → (n.level ≡ m.level) × (n.waiting ≡ [])
+  visit_closed m n h v = by h.either
+    where
+      by : IsEither m → (n.level ≡ m.level) × (n.waiting ≡ [])
+      by (inr e) = let q = v.visit.is in absurd (cc)
+      by (inl e) =
+          let l : v.visit.case ∷ v.visit.rest ≡ undivided m.level.program ∷ [] = sym v.visit.is ∙ e in
+          let p : v.visit.case ≡ undivided m.level.program = cc in
+          let q : v.visit.rest ≡ [] = cc in
+          let g = subst (λ D. GoesFrom P t D v.visit.rest (record m { clock = v.clock }) (looked_once m.clock) v.end (To n)) p v.goes in
+          let g = subst (λ r. GoesFrom P t (undivided m.level.program) r (record m { clock = v.clock }) (looked_once m.clock) v.end (To n)) q g in
+          goes_plain (record m { clock = v.clock }) h.variables (looked_once m.clock) v.end n g
+
+  pub next_plain : (m n : SearchMoment) → IsPlainMoment P m → IsNext P t m (To n) → IsPlainMoment P n
+  next_plain m n h (inl (none, c)) = closes_plain m h.variables m.best m.level.later n c
+  next_plain m n h (inr (inl (some, inl (limit, e)))) = absurd (cc)
+  next_plain m n h (inr (inl (some, inr (within, stop, e)))) = absurd (cc)
+  next_plain m n h (inr (inr v)) = let c = visit_closed m n h v in record { variables = ap (λ l. l.program.variables) c.0 ∙ h.variables; either = inr c.1 }
+
+  pub comes_plain : (m : SearchMoment) → ComesInSearch P t m → IsPlainMoment P m
+  comes_plain m begins = record { variables = refl; either = inl refl }
+  comes_plain m (goes_on {m = before} c next) = next_plain before m (comes_plain before c) next

@@ -1,5 +1,5 @@
 -- A direction times its factor is a ray, and it has no other one.
-use Rattle.std.proofs.Common.{◌≡◌, ℕ, zero, suc, ◌*◌, ◌/◌, ◌<◌, pos, ◌*ℤ◌, ◌<ℤ◌, Bool, true, false, IsTrue, Option, None, Some, IfSome, List, arith, lit<, sym, ◌∙◌, ap, subst}
+use Rattle.std.proofs.Common.{◌≡◌, ℕ, zero, suc, ◌*◌, ◌/◌, ◌<◌, pos, ◌*ℤ◌, ◌<ℤ◌, Bool, true, false, inl, inr, IsTrue, Option, None, Some, IfSome, List, arith, lit<, sym, ◌∙◌, ap, subst}
 use Rattle.std.specs.Int.{◌∣◌}
 use Rattle.std.specs.List.{All}
 use Rattle.std.proofs.lemmas.Int.{ints}
@@ -13,7 +13,7 @@ use Rattle.rational.proofs.Integers.{above-times}
 use Rattle.rational.proofs.Scaling.{IsSame-trans, times-times}
 use Rattle.rational.proofs.ReducedForms.{same_reduced}
 use Rattle.evidence.specs.Sums.{none, total, IsWhole}
-use Rattle.evidence.specs.Instance.{Range, Instance, Sense, Minimum, Maximum, IsInstance, no_variable, width, variable_at, row_at, cost_at, entry_at, minimising, minimising_by}
+use Rattle.evidence.specs.Instance.{Range, Instance, Sense, Minimum, Maximum, IsInstance, width, variable_at, row_at, cost_at, entry_at, minimising, minimising_by}
 use Rattle.evidence.specs.Point.{value_at, activity, NeverLeaves, NeverLeavesZeroOr, IsRay}
 use Rattle.evidence.proofs.Numbers.{◌≈◌, ≈-refl, ≈-sym, ◌⊙◌, ◌▹◌, ◌≲◌, ≲-from, ≲-trans, ◌⋖◌, ≲-⋖, product-number, product-≈, product_up, product_swap, product_assoc, negative-product, times_none, one_times}
 use Rattle.evidence.proofs.Inverses.{negative-≈}
@@ -22,8 +22,7 @@ use Rattle.evidence.proofs.Totals.{total-number, total-≈, total_times}
 use Rattle.evidence.proofs.Columns.{by_lt, none-number, value-number, entry-number}
 use Rattle.simplex_rules.specs.Ends.{IsDirection}
 use Rattle.simplex_rules.proofs.Facts.{below_none}
-use Rattle.search_rules.specs.Outcomes.{HaveOneRange}
-use Rattle.search_rules.specs.Rays.{IsNextFactor, IsFactor, IsMultiple, IsScaled}
+use Rattle.search_rules.specs.Rays.{IsNextFactor, IsFactor, IsMultiple, IsScaled, StaysEither}
 
 module _ (I : Instance) (d : List Ratio) where
   one_next : (b : Bool) (x : Ratio) (e f g : ℕ) → IsNextFactor b x e f → IsNextFactor b x e g → f ≡ g
@@ -95,6 +94,13 @@ module _ (f : ℕ) (up : 0 < f) where
   never_leaves : (r : Range) (x y : Ratio) → IsNumber x → y ≈ product F x → NeverLeaves r x → NeverLeaves r y
   never_leaves r x y n e h = record { low = low_scaled r.lb x y n e h.low; high = high_scaled r.ub x y n e h.high }
 
+  stays_scaled : (o : Option Range) (v x y : Ratio) → IsNumber x → y ≈ product F x → IfSome o (λ e. NeverLeavesZeroOr e v x) → IfSome o (λ e. NeverLeavesZeroOr e v y)
+  stays_scaled None v x y n e h = tt
+  stays_scaled (Some r) v x y n e (inl s) =
+      let z : x ≈ none = record { left = n; right = none-number; is = s } in
+      let all : y ≈ none = e ⊙ product-≈ (≈-refl {x = F} f-number) z ⊙ times_none F f-number in inl all.is
+  stays_scaled (Some r) v x y n e (inr (b, m)) = inr (b, never_leaves r x y n e m)
+
   below_scaled : (x y : Ratio) → IsNumber x → y ≈ product F x → IsBelow x none → IsBelow y none
   below_scaled x y n e h =
       let z = zero-*ℤ (pos x.den) in
@@ -126,14 +132,14 @@ module _ (f n : ℕ) (a x y : ℕ → Ratio) (pa : (j : ℕ) → IsNumber (a j))
       (λ j h. product-≈ (≈-refl (pa j)) (e j h) ▹ (sym (product_assoc (a j) F (x j)) ∙ ap (λ w. product w (x j)) (product_swap (a j) F) ∙ product_assoc F (a j) (x j)))
       ⊙ total_times n F (λ j. product (a j) (x j)) (lit< tt) (λ j. product-number (a j) (x j) (pa j) (px j))
 
-pub ray_of : (I : Instance) (x d r : List Ratio) → IsInstance I → HaveOneRange I → IsDirection I d → IsScaled I d r → IsRay I x r
-ray_of I x d r good one h s = record {
+pub ray_of : (I : Instance) (x d r : List Ratio) → IsInstance I → StaysEither I x d → IsDirection I d → IsScaled I d r → IsRay I x r
+ray_of I x d r good stays h s = record {
   count = s.count;
   numbers = All-from_get_or IsNumber r none (λ j low. number j (let n = s.count in omega arith));
   variables = λ j low. never_leaves f up (variable_at I j).range (value_at d j) (value_at r j) (px j) (scaled j low) (h.variables j low);
   rows = λ i low. never_leaves f up (row_at I i) (activity I d i) (activity I r i) (sum-number (entry_at I.entries i) (entry-number I.entries good.entries i)) (sums (entry_at I.entries i) (entry-number I.entries good.entries i)) (h.rows i low);
   whole = λ j low w. is_whole f up (value_at d j) (value_at r j) (px j) (scaled j low) (factor_divides I d (width I) f s.least j low w);
-  further = λ j low. subst (λ (o : Option Range). IfSome o (λ e. NeverLeavesZeroOr e (value_at x j) (value_at r j))) (sym (one j no_variable low)) tt;
+  further = λ j low. stays_scaled f up (variable_at I j).unless_zero (value_at x j) (value_at d j) (value_at r j) (px j) (scaled j low) (stays j low);
   better =
       let costs = value-number I.goal.costs good.costs in
       let t : Ratio = total none (width I) (λ j. product (cost_at I j) (value_at d j)) in
@@ -161,3 +167,17 @@ ray_of I x d r good one h s = record {
 
     sum-number : (a : ℕ → Ratio) → ((j : ℕ) → IsNumber (a j)) → IsNumber (total none (width I) (λ j. product (a j) (value_at d j)))
     sum-number a pa = total-number none (width I) (λ j. product (a j) (value_at d j)) none-number (λ j. product-number (a j) (value_at d j) (pa j) (px j))
+
+-- the factor reads which variables must be whole, and their number, alone
+module _ (I J : Instance) (d : List Ratio) (same : (j : ℕ) → (variable_at I j).whole ≡ (variable_at J j).whole) where
+  factor_as : (n f : ℕ) → IsFactor I d n f → IsFactor J d n f
+  factor_as zero f h = h
+  factor_as (suc j) f h = (h.0, factor_as j h.0 h.1, subst (λ b. IsNextFactor b (value_at d j) h.0 f) (same j) h.2)
+
+  pub scaled_as : (r : List Ratio) → width I ≡ width J → IsScaled I d r → IsScaled J d r
+  scaled_as r count s = record {
+    factor = s.factor;
+    least = subst (λ n. IsFactor J d n s.factor) count (factor_as (width I) s.factor s.least);
+    count = s.count ∙ count;
+    movements = λ j low. s.movements j (subst (λ n. j < n) (sym count) low);
+  }

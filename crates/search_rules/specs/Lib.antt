@@ -1,5 +1,10 @@
 pub use Rattle.evidence.specs.Instance
 pub use Rattle.simplex_rules.specs.Ends
 pub mod Rays
+pub mod Branching
+pub mod Cuts
 pub mod Search
 pub mod Outcomes
+pub mod WholeSearch
+pub mod WholeOutcomes
+pub mod OneGoal

@@ -25,7 +25,7 @@ use Rattle.simplex_rules.specs.Turns.{rate, Moves, Misses, IsLeastOut, IsFirstHe
 use Rattle.simplex_rules.specs.Widths.{ValuesFit}
 use Rattle.simplex_rules.specs.Ends.{Terms, Clock, End, Clash, TooWide}
 use Rattle.simplex_rules.specs.Reports.{AreValues, movement, IsBoundAt, bound_sum}
-use Rattle.simplex_rules.specs.Runs.{HasNoClash, Moment, Next, To, Out, PassesTurn, BeginsTurn, MovesOn, Repairs, Improves, Chooses, IsNext, ComesInRun, begins, goes_on, IsRun, Run}
+use Rattle.simplex_rules.specs.Runs.{HasNoClash, Moment, Next, To, Out, PassesTurn, BeginsTurn, MovesOn, Repairs, Improves, Chooses, IsNext, ComesInRun, begins, goes_on, IsRun, Run, EndsAtBasis}
 use Rattle.bases.proofs.Lists as Lists
 use Rattle.bases.proofs.Lists.{value_by-number}
 use Rattle.simplex_rules.proofs.Facts.{has_number}
@@ -218,35 +218,35 @@ next_once I good zeroed t m placed room a b (u, d, x) (v, e, y) =
         steps_once I good zeroed t m placed room v e x l a b (subst (λ z. Chooses I zeroed t m v z a) q j) n
 
 module _ (I : Instance) (good : IsInstance I) (room : HasNoClash I) (zeroed : Bool) (t : Terms) where
-  -- the moments from one on, to the end
-  data Halts : Moment → End → Clock → Type 0 where
-    now : {m : Moment} {e : End} {d : Clock} → IsNext I zeroed t m (Out e d) → Halts m e d
-    later : {m n : Moment} {e : End} {d : Clock} → IsNext I zeroed t m (To n) → Halts n e d → Halts m e d
+  -- the moments from one on, to the end at a basis
+  data Halts : Moment → End → Clock → List Status → Type 0 where
+    now : {m : Moment} {e : End} {d : Clock} → IsNext I zeroed t m (Out e d) → Halts m e d m.statuses
+    later : {m n : Moment} {e : End} {d : Clock} {ss : List Status} → IsNext I zeroed t m (To n) → Halts n e d ss → Halts m e d ss
 
-  record Begun (c : Clock) (e : End) (d : Clock) : Type 0 where
+  record Begun (c : Clock) (e : End) (d : Clock) (ss : List Status) : Type 0 where
     statuses : List Status
     fresh : IsFirstBasis I statuses
-    halts : Halts (record { statuses = statuses; clock = c }) e d
+    halts : Halts (record { statuses = statuses; clock = c }) e d ss
 
-  from_first : (c : Clock) (m : Moment) (e : End) (d : Clock) → ComesInRun I zeroed t c m → Halts m e d → Begun c e d
-  from_first c m e d (begins {ss} f) h = record { statuses = ss; fresh = f; halts = h }
-  from_first c m e d (goes_on {m = before} k next) h = from_first c before e d k (later next h)
+  from_first : (c : Clock) (m : Moment) (e : End) (d : Clock) (ss : List Status) → ComesInRun I zeroed t c m → Halts m e d ss → Begun c e d ss
+  from_first c m e d us (begins {ss = first} f) h = record { statuses = first; fresh = f; halts = h }
+  from_first c m e d us (goes_on {m = before} k next) h = from_first c before e d us k (later next h)
 
-  halts_once : (m : Moment) (e : End) (d : Clock) → IsPlaced I m.statuses → Halts m e d → (n : Moment) (f : End) (b : Clock) → n ≡ m → Halts n f b → (e ≡ f) × (d ≡ b)
-  halts_once m e d placed (now a) n f b q (now x) = let r = next_once I good zeroed t m placed room (Out e d) (Out f b) a (subst (λ k. IsNext I zeroed t k (Out f b)) q x) in (cc, cc)
-  halts_once m e d placed (now a) n f b q (later {n = k} x h) = let r = next_once I good zeroed t m placed room (Out e d) (To k) a (subst (λ i. IsNext I zeroed t i (To k)) q x) in absurd (cc)
-  halts_once m e d placed (later {n = k} a h) n f b q (now x) = let r = next_once I good zeroed t m placed room (To k) (Out f b) a (subst (λ i. IsNext I zeroed t i (Out f b)) q x) in absurd (cc)
-  halts_once m e d placed (later {n = k} a h) n f b q (later {n = l} x i) =
+  halts_once : (m : Moment) (e : End) (d : Clock) (ss : List Status) → IsPlaced I m.statuses → Halts m e d ss → (n : Moment) (f : End) (b : Clock) (ts : List Status) → n ≡ m → Halts n f b ts → (e ≡ f) × (d ≡ b) × (ss ≡ ts)
+  halts_once m e d ss placed (now a) n f b ts q (now x) = let r = next_once I good zeroed t m placed room (Out e d) (Out f b) a (subst (λ k. IsNext I zeroed t k (Out f b)) q x) in (cc, cc, ap (λ k. k.statuses) (sym q))
+  halts_once m e d ss placed (now a) n f b ts q (later {n = k} x h) = let r = next_once I good zeroed t m placed room (Out e d) (To k) a (subst (λ i. IsNext I zeroed t i (To k)) q x) in absurd (cc)
+  halts_once m e d ss placed (later {n = k} a h) n f b ts q (now x) = let r = next_once I good zeroed t m placed room (To k) (Out f b) a (subst (λ i. IsNext I zeroed t i (Out f b)) q x) in absurd (cc)
+  halts_once m e d ss placed (later {n = k} a h) n f b ts q (later {n = l} x i) =
       let r = next_once I good zeroed t m placed room (To k) (To l) a (subst (λ i. IsNext I zeroed t i (To l)) q x) in
       let s : l ≡ k = cc in
-      halts_once k e d (next_placed I zeroed t m k placed a) h l f b s i
+      halts_once k e d ss (next_placed I zeroed t m k placed a) h l f b ts s i
 
-  runs_once : (c : Clock) (e f : End) (d b : Clock) → IsRun I zeroed t c e d → IsRun I zeroed t c f b → (e ≡ f) × (d ≡ b)
+  runs_once : (c : Clock) (e f : End) (d b : Clock) (p : IsRun I zeroed t c e d) (q : IsRun I zeroed t c f b) → (e ≡ f) × (d ≡ b) × (p.last.statuses ≡ q.last.statuses)
   runs_once c e f d b p q =
-      let x = from_first c p.last e d p.comes (now p.ends) in
-      let y = from_first c q.last f b q.comes (now q.ends) in
+      let x = from_first c p.last e d p.last.statuses p.comes (now p.ends) in
+      let y = from_first c q.last f b q.last.statuses q.comes (now q.ends) in
       let s : y.statuses ≡ x.statuses = one_fresh I y.statuses x.statuses y.fresh x.fresh in
-      halts_once (record { statuses = x.statuses; clock = c }) e d (fresh_placed I x.statuses x.fresh) x.halts (record { statuses = y.statuses; clock = c }) f b (ap (λ z. record { statuses = z; clock = c }) s) y.halts
+      halts_once (record { statuses = x.statuses; clock = c }) e d p.last.statuses (fresh_placed I x.statuses x.fresh) x.halts (record { statuses = y.statuses; clock = c }) f b q.last.statuses (ap (λ z. record { statuses = z; clock = c }) s) y.halts
 
 pub run_once : (I : Instance) (zeroed : Bool) (t : Terms) (c : Clock) (e f : End) (d b : Clock) → IsInstance I → Run I zeroed t c e d → Run I zeroed t c f b → (e ≡ f) × (d ≡ b)
 run_once I zeroed t c e f d b good (inl (k, p, g, h)) (inl (l, q, i, j)) =
@@ -254,7 +254,11 @@ run_once I zeroed t c e f d b good (inl (k, p, g, h)) (inl (l, q, i, j)) =
     (g ∙ ap Clash s ∙ sym i, h ∙ sym j)
 run_once I zeroed t c e f d b good (inl (k, p, g, h)) (inr r) = absurd (r.room k p.inside p.empty)
 run_once I zeroed t c e f d b good (inr r) (inl (k, p, g, h)) = absurd (r.room k p.inside p.empty)
-run_once I zeroed t c e f d b good (inr p) (inr q) = runs_once I good p.room zeroed t c e f d b p q
+run_once I zeroed t c e f d b good (inr p) (inr q) = let r = runs_once I good p.room zeroed t c e f d b p q in (r.0, r.1)
+
+-- and one last basis
+pub basis_once : (I : Instance) (zeroed : Bool) (t : Terms) (c : Clock) (e f : End) (d b : Clock) (ss ts : List Status) → IsInstance I → EndsAtBasis I zeroed t c e d ss → EndsAtBasis I zeroed t c f b ts → ss ≡ ts
+basis_once I zeroed t c e f d b us ts good p q = let r = runs_once I good p.run.room zeroed t c e f d b p.run q.run in sym p.basis ∙ r.2 ∙ q.basis
 
 pub comes_once : (I : Instance) (zeroed : Bool) (t : Terms) (c : Clock) (m : Moment) (a b : Next) → IsInstance I → HasNoClash I → ComesInRun I zeroed t c m → IsNext I zeroed t m a → IsNext I zeroed t m b → a ≡ b
 comes_once I zeroed t c m a b good room k = next_once I good zeroed t m (comes_placed k) room a b

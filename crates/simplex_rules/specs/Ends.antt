@@ -8,10 +8,11 @@ use Rattle.evidence.specs.Point.{value_at, activity, objective, IsBetween, Never
 use Rattle.evidence.specs.Cases.{Multiplier, IsEmpty, IsFarkas, IsBound}
 use Rattle.certificate.specs.declared.causes.Step.{Step}
 
--- the most nodes and turns of a search, and the number of the look that stops it, if one does
+-- the most nodes and turns of a search and the most rounding cuts that it derives, and the number of the look that stops it, if one does
 pub record Terms : Type 0 where
   pub nodes : ℕ
   pub turns : ℕ
+  pub rounds : ℕ
   pub stop : Option ℕ
 
 -- how many turns were done and how many looks were made, both since the search began

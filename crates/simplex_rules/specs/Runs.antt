@@ -116,3 +116,8 @@ pub record IsRun (I : Instance) (zeroed : Bool) (t : Terms) (c : Clock) (e : End
 -- the run of a program from one clock to another: at once at an end where a column clashes, else by its moments
 abbrev pub Run : Instance → Bool → Terms → Clock → End → Clock → Type 0
 Run I zeroed t c e d = ((k : ℕ) × IsFirstEmpty I k × (e ≡ Clash k) × (d ≡ c)) ⊎ IsRun I zeroed t c e d
+
+-- it is a run by moments, and these are the statuses of the last one: of them its dictionary is read
+pub record EndsAtBasis (I : Instance) (zeroed : Bool) (t : Terms) (c : Clock) (e : End) (d : Clock) (ss : List Status) : Type 0 where
+  pub run : IsRun I zeroed t c e d
+  pub basis : run.last.statuses ≡ ss

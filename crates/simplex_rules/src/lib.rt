@@ -19,4 +19,4 @@ mod columns;
 mod laws;
 
 pub use columns::{Status, Way};
-pub use laws::{moments_have_one_next, runs_are_sound, runs_have_one_end};
+pub use laws::{moments_have_one_next, runs_are_sound, runs_end_at_one_basis, runs_have_one_end};

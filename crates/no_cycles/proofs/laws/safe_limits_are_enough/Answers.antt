@@ -4,6 +4,6 @@ use Rattle.no_cycles.proofs.OneCaseSearches.{within_turns}
 use Rattle.no_cycles.proofs.laws.safe_limits_are_enough.Goals as goal
 
 pub returns : goal.returns
-returns c = λ I t o d l good plain feasible safe room answer.
+returns c = λ I t o d l good plain ranges feasible safe room answer.
     let limit = limit_is _ _ l safe in
-    within_turns I t plain good feasible (omega (arith, limit.1, room)) o d answer
+    within_turns I t plain ranges good feasible (omega (arith, limit.1, room)) o d answer
