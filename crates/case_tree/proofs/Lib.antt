@@ -1,2 +1,3 @@
 mod Sizes
 pub mod Paths
+pub mod Places

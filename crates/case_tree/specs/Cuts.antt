@@ -1,5 +1,5 @@
 -- The instances that a walk through a tree of cases has before it: that of the case at hand, and those of the second cases above.
-use Rattle.std.specs.Prelude.{ℕ, zero, suc, ◌<◌, pos, ◌+ℤ◌, ◌≤ℤ◌, ◌<ℤ◌, neg_ℤ, false, cond, Option, None, Some, List, [], ◌∷◌, map, get_or, slice_set}
+use Rattle.std.specs.Prelude.{◌≡◌, ℕ, zero, suc, ◌<◌, pos, ◌+ℤ◌, ◌≤ℤ◌, ◌<ℤ◌, neg_ℤ, false, cond, Option, None, Some, List, [], ◌∷◌, map, get_or, slice_set}
 use Rattle.rational.specs.Ratio.{whole}
 use Rattle.rational.specs.Width.{most}
 use Rattle.fraction.specs.declared.ends.End.TheVariants.{NegInf, Inf}
@@ -67,6 +67,16 @@ pending I cs bs (suc d) =
     let b = branch_at bs d in
     let before = slice_set cs b.col (with_ends (cut_at cs b.col) b.before) in
     cond b.is_second (pending I before bs d) (second_case (cut I before) b.col b.by ∷ pending I before bs d)
+
+-- at which branches above the second case is still to show, the last one first
+abbrev pub pending_places : List Branch → ℕ → List ℕ
+pending_places bs zero = []
+pending_places bs (suc d) = cond (branch_at bs d).is_second (pending_places bs d) (d ∷ pending_places bs d)
+
+-- both divide one variable in one way
+pub record HaveOneDivision (b c : Branch) : Type 0 where
+  pub col : b.col ≡ c.col
+  pub by : b.by ≡ c.by
 
 -- all that is still to show: nothing, where the walk is at its end
 abbrev pub cases : Of.Instance → List Cut → List Branch → Option ℕ → List Of.Instance

@@ -1,4 +1,4 @@
-// Variables whose ends are cut by a branch.
+//! Variables whose ends are cut by a branch.
 ghost use Rattle.std.specs.Prelude.{◌≡◌, ◌↔◌, pos, neg_ℤ, ◌≤ℤ◌, IsTrue};
 ghost use Rattle.rational.specs.Width.{most};
 ghost use Rattle.fraction.specs.Frac.{ratio};

@@ -1,7 +1,7 @@
-// The branches above the case at hand, and the way back to the next case.
-ghost use Rattle.std.specs.Prelude.{◌≡◌, ◌+◌, ◌<◌, ◌≤◌, ◌∷◌, false, length, IfSome};
+//! The branches above the case at hand, and the way back to the next case.
+ghost use Rattle.std.specs.Prelude.{◌≡◌, ℕ, ◌+◌, ◌-◌, ◌<◌, ◌≤◌, [], ◌∷◌, false, length, IfSome, MatchOption};
 ghost use Rattle.evidence.specs.Instance as Of;
-ghost use Rattle.case_tree.specs.Cuts.{cut, cases, pending, branch_at, first_case, second_case, HasNext, AreBranches};
+ghost use Rattle.case_tree.specs.Cuts.{cut, cases, pending, pending_places, branch_at, first_case, second_case, HasNext, HaveOneDivision, AreBranches};
 
 use crate::cuts::{Cut, Division, ends_of, first, second, set_ends};
 use instance::Row;
@@ -22,6 +22,9 @@ pub fn enter(cuts: &mut [Cut], branches: &mut [Branch], depth: usize, col: u32, 
     requires next { HasNext by }
     requires above { AreBranches (length cuts.old) branches.old depth }
     ensures above { AreBranches (length cuts.old) branches.new (depth + 1) }
+    ensures divisions { (e : ℕ) → e < depth → HaveOneDivision (branch_at branches.old e) (branch_at branches.new e) }
+    ensures division { ((branch_at branches.new depth).col ≡ col) × ((branch_at branches.new depth).by ≡ by) }
+    ensures places { pending_places branches.new (depth + 1) ≡ depth ∷ pending_places branches.old depth }
     ensures cases { (I : Of.Instance) → cases I cuts.new branches.new (Some (depth + 1)) ≡ first_case (cut I cuts.old) col by ∷ second_case (cut I cuts.old) col by ∷ pending I cuts.old branches.old depth }
 {
     let j = col as usize;
@@ -42,6 +45,8 @@ fn turn(cuts: &mut [Cut], branches: &mut [Branch], place: usize)
     requires above { AreBranches (length cuts.old) branches.old (place + 1) }
     requires first { (branch_at branches.old place).is_second ≡ false }
     ensures above { AreBranches (length cuts.old) branches.new (place + 1) }
+    ensures divisions { (e : ℕ) → HaveOneDivision (branch_at branches.old e) (branch_at branches.new e) }
+    ensures places { pending_places branches.old (place + 1) ≡ place ∷ pending_places branches.new (place + 1) }
     ensures cases { (I : Of.Instance) → cases I cuts.new branches.new (Some (place + 1)) ≡ pending I cuts.old branches.old (place + 1) }
 {
     let branch = branches[place];
@@ -56,7 +61,10 @@ pub fn back(cuts: &mut [Cut], branches: &mut [Branch], depth: usize) -> Option<u
     requires room { depth ≤ length branches.old }
     requires above { AreBranches (length cuts.old) branches.old depth }
     ensures depth { IfSome result (λ d. d ≤ depth) }
+    ensures inside { IfSome result (λ d. 0 < d) }
     ensures above { IfSome result (λ d. AreBranches (length cuts.old) branches.new d) }
+    ensures divisions { (e : ℕ) → HaveOneDivision (branch_at branches.old e) (branch_at branches.new e) }
+    ensures places { MatchOption result (pending_places branches.old depth ≡ []) (λ d. pending_places branches.old depth ≡ (d - 1) ∷ pending_places branches.new d) }
     ensures cases { (I : Of.Instance) → cases I cuts.new branches.new result ≡ pending I cuts.old branches.old depth }
 {
     let mut place = depth;

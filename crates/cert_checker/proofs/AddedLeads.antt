@@ -1,5 +1,5 @@
 -- One more row: what is to show after it, of a program with it, shows what was to show before.
-use Rattle.std.proofs.Common.{◌≡◌, ℕ, ◌+◌, ◌<◌, ◌≤◌, ℤ, inl, inr, Option, Some, Ok, Err, IfOk, OnErr, List, [], ◌∷◌, ◌++◌, length, take, drop, get_or, slice_index_or, slice_set, map, add-one, arith, refl, sym, ◌∙◌, ap, subst}
+use Rattle.std.proofs.Common.{◌≡◌, ℕ, ◌+◌, ◌<◌, ◌≤◌, ℤ, inl, inr, Option, Some, Ok, Err, IfOk, List, [], ◌∷◌, ◌++◌, length, take, drop, get_or, slice_index_or, slice_set, map, add-one, arith, refl, sym, ◌∙◌, ap, subst}
 use Rattle.std.proofs.Math.Seq.{drop-cons, take-suc}
 use Rattle.std.proofs.lemmas.List.{get_or-map, length-map, take_more_set}
 use Rattle.std.proofs.lemmas.List.Elements.{All-set}

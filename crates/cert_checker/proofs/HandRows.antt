@@ -181,3 +181,7 @@ level_zero p rs = ap (λ g. let J : Instance = record (with_rows (program p) rs)
 -- before any branch
 pub uncut_hand : (p : Parts) (rs : List Added) (g : Has.Goal) (cs : List Cut) → map cut_variable cs ≡ (program p).variables → cut (at_hand p rs g) cs ≡ at_hand p rs g
 uncut_hand p rs g cs e = cut_is (at_hand p rs g) cs (e ∙ sym (rows_variables (program p) rs))
+
+-- and asked for the first goal
+pub first_hand : (p : Parts) (rs : List Added) (g : Has.Goal) (cs : List Cut) → map cut_variable cs ≡ (program p).variables → 0 < length p.goals → g ≡ slice_index_or p.goals 0 g → cut (at_hand p rs g) cs ≡ with_rows (program p) rs
+first_hand p rs g cs e some is = uncut_hand p rs g cs e ∙ hand_level p rs g 0 some is ∙ level_zero p rs

@@ -1,5 +1,5 @@
 -- The sum of the ends, each times its multiplier: its terms are numbers.
-use Rattle.std.proofs.Common.{◌≡◌, ℕ, Option, None, Some, IfSome, List, length, inl, inr, refl, sym, subst}
+use Rattle.std.proofs.Common.{◌≡◌, ℕ, Option, None, Some, IfSome, List, length, inr, refl, subst}
 use Rattle.rational.specs.Ratio.{Ratio, IsNumber, IsSame, product}
 use Rattle.fraction.specs.Frac.{ratio}
 use Rattle.fraction.specs.declared.frac.Frac.{Frac}
@@ -14,7 +14,7 @@ use Rattle.evidence.proofs.Columns.{none-number, column-numbers}
 use Rattle.certificate.specs.declared.lists.Mult.{Mult}
 use Rattle.certificate.specs.Meanings.{multipliers}
 use Rattle.cert_checker.specs.Cuts.{aim}
-use Rattle.cert_checker.specs.declared.refused.Unshown.TheVariants.{Sum, Wide}
+use Rattle.cert_checker.specs.declared.refused.Unshown.TheVariants.{Sum}
 use Rattle.cert_checker.specs.Leaves.{start, ReachesBound, HasSum, SumRefuses}
 use Rattle.cert_checker.proofs.ColumnSums.{factors-number}
 

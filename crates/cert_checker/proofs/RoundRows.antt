@@ -1,12 +1,11 @@
 -- A round's sums are the coefficients of its row, and its low sum, rounded up, is the lower end.
-use Rattle.std.proofs.Common.{◌≡◌, ℕ, ◌<◌, ℤ, pos, negsuc, neg_ℤ, ◌+ℤ◌, ◌*ℤ◌, ◌≤ℤ◌, IsTrue, Option, None, Some, List, length, slice_index_or, arith, refl, sym, ◌∙◌, ap, subst}
+use Rattle.std.proofs.Common.{◌≡◌, ℕ, ◌<◌, ℤ, pos, negsuc, neg_ℤ, ◌+ℤ◌, ◌≤ℤ◌, IsTrue, Option, None, Some, List, length, slice_index_or, arith, refl, sym, ◌∙◌, ap, subst}
 use Rattle.std.proofs.lemmas.Int.{ints}
 use Rattle.std.proofs.lemmas.List.{length-map, get_or-map}
 use Rattle.std.proofs.Math.ListN as ListN
-use Rattle.rational.specs.Ratio.{Ratio, whole, negative, IsNumber, IsSame, IsFloor}
+use Rattle.rational.specs.Ratio.{Ratio, whole, IsNumber, IsSame}
 use Rattle.rational.specs.Width.{most}
 use Rattle.rational.proofs.Scaling.{IsSame-trans}
-use Rattle.rational.proofs.Integers.{neg-times}
 use Rattle.fraction.specs.Frac.{ratio}
 use Rattle.fraction.specs.declared.frac.Frac.{Frac}
 use Rattle.evidence.specs.Sums.{none, IsWhole}

@@ -7,9 +7,9 @@ use Rattle.fraction.specs.declared.frac.Frac.{Frac}
 use Rattle.evidence.specs.Sums.{none}
 use Rattle.evidence.specs.Instance.{Instance, minimising}
 use Rattle.evidence.specs.Cases.{Multiplier, Node, ClashAt, FarkasBy, BoundBy, SplitAt, ZeroAt, IsBranch, IsZeroBranch, IsFarkas, IsBound, at_most, at_least, at_zero, unless_zero}
-use Rattle.evidence.specs.Width.{LeafFits, ProvesWithin}
+use Rattle.evidence.specs.Width.{LeafFits}
 use Rattle.evidence.specs.PendingNodes.{ShowsAll}
-use Rattle.evidence.proofs.PendingNodes.{start, clash_step, farkas_step, bound_step, split_step, zero_step}
+use Rattle.evidence.proofs.PendingNodes.{clash_step, farkas_step, bound_step, split_step, zero_step}
 use Rattle.certificate.specs.Meanings as Means
 use Rattle.certificate.specs.declared.lists.Mult.{Mult}
 use Rattle.certificate.specs.declared.nodes.Node as Has

@@ -1,17 +1,17 @@
 -- The program that a check has at hand: an instance's, with rows added, asked for one goal.
 use Rattle.std.specs.Prelude.{◌≡◌, ℕ, ◌<◌, ℤ, pos, neg_ℤ, ◌≤ℤ◌, Option, None, Some, List, [], ◌∷◌, map, length, ◌≤◌}
 use Rattle.std.specs.List.{All}
-use Rattle.rational.specs.Ratio.{Ratio, whole}
+use Rattle.rational.specs.Ratio.{Ratio, whole, IsSame}
 use Rattle.rational.specs.Width.{most}
 use Rattle.fraction.specs.Frac.{ratio, ratios}
 use Rattle.fraction.specs.declared.frac.Frac.{Frac}
 use Rattle.evidence.specs.Instance as Of
 use Rattle.evidence.specs.Point.{value_at}
 use Rattle.evidence.specs.Sums.{none}
-use Rattle.evidence.specs.Cases.{Multiplier}
-use Rattle.evidence.specs.Width.{LeafFits}
+use Rattle.evidence.specs.Cases.{Multiplier, low_sum}
+use Rattle.evidence.specs.Width.{LowFits, LeafFits}
 use Rattle.evidence.specs.OneDenominator.{number_at}
-use Rattle.evidence.specs.Rounds.{IsRoundingCut}
+use Rattle.evidence.specs.Rounds.{IsCeiling, IsRoundingCut}
 use Rattle.evidence.specs.AddedRows.{with_row}
 use Rattle.instance.specs.declared.parts.Goal.{Goal}
 use Rattle.instance.specs.Parts.{Parts}
@@ -20,6 +20,7 @@ use Rattle.case_tree.specs.declared.cuts.Cut.{Cut}
 use Rattle.case_tree.specs.Cuts.{cut_variable}
 use Rattle.cert_checker.specs.declared.at_hand.Added.{Added}
 use Rattle.cert_checker.specs.Slots.{slot_at}
+use Rattle.cert_checker.specs.RoundRefusals.{WholeFormsBelow}
 
 -- the row's coefficient at variable j
 abbrev pub coefficient : Added → ℕ → Ratio
@@ -65,3 +66,10 @@ pub record MakesRound (I : Of.Instance) (ms : List Multiplier) (slots : List (Op
   pub fits : LeafFits I none ms
   pub low : neg_ℤ (pos most) ≤ℤ k
   pub row : HoldsRow (Of.width I) (λ j. whole (number_at (numerators slots) j)) slots
+
+-- legal multipliers have sums as a round's must be, which fit, and this is the sum of the ends: rounded up, it makes the round
+pub record MayRound (I : Of.Instance) (ms : List Multiplier) (slots : List (Option Frac)) (sum : Frac) : Type 0 where
+  pub forms : WholeFormsBelow I ms (Of.width I)
+  pub fits : LowFits I none ms
+  pub same : IsSame (ratio sum) (low_sum I none ms)
+  pub makes : (k : ℤ) → IsCeiling (ratio sum) k → neg_ℤ (pos most) ≤ℤ k → MakesRound I ms slots k

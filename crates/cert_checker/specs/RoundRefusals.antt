@@ -36,6 +36,10 @@ pub record IsFirstUnfitPart (I : Instance) (ms : List Multiplier) (j : ℕ) : Ty
 abbrev pub PartRefuses : Instance → List Multiplier → ℕ → Refused → Type 0
 PartRefuses I ms round r = ((j : ℕ) × IsFirstPart I ms j × (r ≡ Round round j)) ⊎ ((j : ℕ) × IsFirstUnfitPart I ms j × (r ≡ WideRound round))
 
+-- a sum doesn't fit: the first that isn't as a round's must be, or that of the ends
+abbrev pub IsWideRound : Instance → List Multiplier → Type 0
+IsWideRound I ms = ((j : ℕ) × IsFirstUnfitPart I ms j) ⊎ (WholeFormsBelow I ms (width I) × (LowFits I none ms → ⊥))
+
 -- what a round is refused for: the first multiplier that isn't legal, the first variable's sum, and then the sum of the ends
 abbrev pub RoundRefuses : Instance → List Multiplier → ℕ → Refused → Type 0
 RoundRefuses I ms round r =

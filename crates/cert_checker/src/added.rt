@@ -1,4 +1,4 @@
-// The rows that a certificate adds, in room that was taken beforehand.
+//! The rows that a certificate adds, in room that was taken beforehand.
 ghost use Rattle.std.specs.Prelude.{◌≡◌, ◌≤◌, ◌<◌, ℕ, Some, length};
 ghost use Rattle.rational.specs.Ratio.{Ratio};
 ghost use Rattle.fraction.specs.Frac.{ratio, ratios};
@@ -32,7 +32,7 @@ fn fill(numbers: &mut [Frac], slots: &[Option<Frac>])
 }
 
 /// Makes a row of these ends and coefficients.
-pub(crate) fn put(row: &mut Added, ends: Row, slots: &[Option<Frac>])
+pub fn put(row: &mut Added, ends: Row, slots: &[Option<Frac>])
     requires { length slots.now ≤ length row.old.coefficients.items }
     ensures ends { row.new.ends ≡ ends }
     ensures size { length row.new.coefficients.items ≡ length row.old.coefficients.items }

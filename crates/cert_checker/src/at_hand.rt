@@ -1,4 +1,4 @@
-// The program at hand: an instance's, with rows added, asked for one of its goals.
+//! The program at hand: an instance's, with rows added, asked for one of its goals.
 ghost use Rattle.std.specs.Prelude.{◌≡◌, ◌<◌, ◌≤◌, ◌^◌, ℕ, length, map, slice_index_or, IfOk, OnErr};
 ghost use Rattle.rational.specs.Ratio.{IsSame};
 ghost use Rattle.fraction.specs.Frac.{ratio, ratios};
@@ -18,9 +18,9 @@ use std::marker::Model;
 
 /// A row that a certificate adds: its ends, and a coefficient for each variable.
 #[derive(Drop)]
-pub(crate) struct Added {
-    pub(crate) ends: Row,
-    pub(crate) coefficients: Vec<Frac>,
+pub struct Added {
+    pub ends: Row,
+    pub coefficients: Vec<Frac>,
 }
 
 /// An instance's program with rows added, asked for one goal. Contracts see it as the program that it is.

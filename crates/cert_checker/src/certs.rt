@@ -1,4 +1,4 @@
-// What a claim's certificates show, with the rows of their rounds and of the goals that are reached.
+//! What a claim's certificates show, with the rows of their rounds and of the goals that are reached.
 ghost use Rattle.std.specs.Prelude.{◌≡◌, ◌+◌, ◌-◌, ◌<◌, ◌≤◌, ◌^◌, ◌↔◌, ◌∷◌, ◌⊎◌, [], ℕ, None, length, IsTrue, IfOk, OnOk, IfErr};
 ghost use Rattle.std.specs.List.{All};
 ghost use Rattle.fraction.specs.Frac.{ratios};

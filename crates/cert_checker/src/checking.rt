@@ -1,3 +1,4 @@
+//! The check of a claim, by its kind.
 ghost use Rattle.std.specs.Prelude.{◌≡◌, ◌-◌, ◌<◌, ◌≤◌, ◌^◌, ℕ, length, OnOk, IfErr};
 ghost use Rattle.std.specs.List.{All};
 ghost use Rattle.evidence.specs.Claim.{Accepts};
@@ -33,7 +34,7 @@ pub fn check(instance: &Instance, claim: &Claim, scratch: &mut Scratch) -> Resul
 }
 
 /// The check, in room for the instance's variables and for the claim's nodes and added rows.
-pub(crate) fn check_claim(
+pub(crate) fn check_in_room(
     instance: &Instance,
     claim: &Claim,
     cuts: &mut [Cut],

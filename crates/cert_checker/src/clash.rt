@@ -1,4 +1,4 @@
-// Whether a column's ends exclude each other.
+//! Whether a column's ends exclude each other.
 ghost use Rattle.std.specs.Prelude.{◌≡◌, ◌↔◌, length, IsTrue, OnOk, IfErr};
 ghost use Rattle.evidence.specs.Instance.{width};
 ghost use Rattle.evidence.specs.Cases.{IsEmpty};

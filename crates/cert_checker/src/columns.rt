@@ -1,4 +1,4 @@
-// The ends of columns, which are the variables as they are cut and then the rows.
+//! The ends of columns, which are the variables as they are cut and then the rows.
 ghost use Rattle.std.specs.Prelude.{◌≡◌, ◌+◌, ◌<◌, length};
 ghost use Rattle.evidence.specs.Instance.{width, height, column_at};
 ghost use Rattle.evidence.specs.Cases.{end_by};

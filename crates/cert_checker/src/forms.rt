@@ -1,4 +1,4 @@
-// The sums of multiplied columns, compared with what they should be.
+//! The sums of multiplied columns, compared with what they should be.
 ghost use Rattle.std.specs.Prelude.{◌≡◌, ◌↔◌, ◌<◌, ℕ, List, length, IsTrue, OnOk, IfErr};
 ghost use Rattle.rational.specs.Ratio.{IsSame};
 ghost use Rattle.fraction.specs.Frac.{ratio};

@@ -11,18 +11,19 @@ ghost use Rattle.cert_checker.specs.Settled.{Settles, AreSettled, IsForWidth};
 ghost use Rattle.cert_checker.specs.declared.refused.Refused.{Refused};
 ghost use Rattle.cert_checker.specs.Refusals.{IsRefusedFor};
 
-/// What is refused isn't accepted.
+/// Law: what is refused isn't accepted.
 pub fn refused_is_not_accepted()
     ensures { (P : Problem) (claim : Claim) (r : Refused) → IsProblem P → IsRefusedFor P claim r → Accepts P claim → ⊥ }
 {}
 
-/// A claim is refused for one reason at most.
+/// Law: a claim is refused for one reason at most.
 pub fn claims_have_one_refusal()
     ensures { (P : Problem) (claim : Claim) (r s : Refused) → IsProblem P → IsRefusedFor P claim r → IsRefusedFor P claim s → r ≡ s }
 {}
 
-/// What is shown, by sums that fit or don't, is refused for width alone: a point that is feasible with its values, by sums that
-/// fit, with enough certificates and with a ray where one is claimed; or a certificate that rules out each point.
+/// Law: what is shown, by sums that fit or don't, is refused for width alone: a point that is feasible with its values,
+/// by sums that fit, with enough certificates and with a ray where one is claimed; or a certificate that rules out each
+/// point.
 pub fn shown_is_refused_for_width_alone()
     ensures optimal { (P : Problem) (x vs : List Ratio) (cs : List Certificate) (r : Refused) → IsProblem P → HasGoalValues P x vs → PointFits P x → RoundsAreOfOneGoal P cs → AreEnough Best P cs → AreSettled Best P.program P.later vs cs → IsRefusedFor P (claims.Optimal x vs cs) r → IsForWidth r }
     ensures infeasible { (P : Problem) (c : Certificate) (r : Refused) → IsProblem P → RoundsAreOfOneGoal P (c ∷ []) → Settles P.program c.rounds c.nodes None → IsRefusedFor P (claims.Infeasible c) r → IsForWidth r }

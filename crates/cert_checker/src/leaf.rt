@@ -1,4 +1,4 @@
-// Whether multipliers show what a leaf should.
+//! Whether multipliers show what a leaf should.
 ghost use Rattle.std.specs.Prelude.{◌≡◌, length, OnOk, IfErr};
 ghost use Rattle.evidence.specs.Instance.{IsInstance, width};
 ghost use Rattle.certificate.specs.Meanings.{multipliers};

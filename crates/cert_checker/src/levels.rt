@@ -1,4 +1,4 @@
-// The goals in their order, each asked of the points that reach the values before it.
+//! The goals in their order, each asked of the points that reach the values before it.
 ghost use Rattle.std.specs.Prelude.{◌≡◌, ◌+◌, ◌-◌, ◌<◌, ◌≤◌, ◌^◌, [], ℕ, length, take, drop, IfOk, OnOk, OnErr, IfErr};
 ghost use Rattle.std.specs.List.{All};
 ghost use Rattle.fraction.specs.Frac.{ratio, ratios};

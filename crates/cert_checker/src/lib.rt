@@ -35,9 +35,12 @@ mod slots;
 mod sums;
 mod walk;
 
+pub use added::put;
+pub use at_hand::Added;
 pub use checking::check;
 pub use laws::{
     claims_have_one_refusal, refused_is_not_accepted, shown_is_refused_for_width_alone,
 };
 pub use refused::{Refused, Unshown};
+pub use rounds::{ceiling, round_sum};
 pub use scratch::Scratch;

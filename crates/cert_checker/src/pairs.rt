@@ -1,4 +1,4 @@
-// Whether multipliers are legal.
+//! Whether multipliers are legal.
 ghost use Rattle.std.specs.Prelude.{◌≡◌, ◌↔◌, ◌+◌, ◌<◌, ℕ, length, IsTrue, IsSome, MatchOption};
 ghost use Rattle.evidence.specs.Instance.{width, height};
 ghost use Rattle.evidence.specs.Cases.{multiplier_at, end_of, AreLegal};

@@ -1,4 +1,4 @@
-// Whether a point is feasible and has its values.
+//! Whether a point is feasible and has its values.
 ghost use Rattle.std.specs.Prelude.{◌≡◌, ◌<◌, length, OnOk, IfErr};
 ghost use Rattle.fraction.specs.Frac.{ratio, ratios};
 ghost use Rattle.evidence.specs.Levels.{HasGoalValues};

@@ -1,4 +1,4 @@
-// Whether points stay feasible along a direction, and become better.
+//! Whether points stay feasible along a direction, and become better.
 ghost use Rattle.std.specs.Prelude.{◌≡◌, ◌+◌, ◌<◌, ◌^◌, ◌↔◌, ◌⊎◌, length, IsTrue, IfOk, MatchOption, OnOk, OnErr, IfErr};
 ghost use Rattle.rational.specs.Ratio.{IsSame, IsBelow};
 ghost use Rattle.fraction.specs.Frac.{ratio, ratios};

@@ -1,17 +1,19 @@
-// Rounding cuts, each of which is one more row.
-ghost use Rattle.std.specs.Prelude.{◌≡◌, ◌<◌, ◌≤◌, ◌^◌, ◌-◌, ◌↔◌, ℕ, pos, neg_ℤ, ◌≤ℤ◌, length, take, IsTrue, IfOk, OnOk, IfErr};
+//! Rounding cuts, each of which is one more row.
+ghost use Rattle.std.specs.Prelude.{◌≡◌, ◌<◌, ◌≤◌, ◌^◌, ◌-◌, ◌↔◌, ℕ, pos, neg_ℤ, ◌≤ℤ◌, List, length, take, IsTrue, IfOk, OnOk, IfErr, OnErr, MatchOption, MatchResult};
 ghost use Rattle.rational.specs.Ratio.{IsSame};
 ghost use Rattle.rational.specs.Width.{most};
 ghost use Rattle.fraction.specs.Frac.{ratio};
 ghost use Rattle.evidence.specs.Sums.{none, IsWhole};
+ghost use Rattle.evidence.specs.Instance as Of;
 ghost use Rattle.evidence.specs.Instance.{IsInstance, width};
+ghost use Rattle.evidence.specs.Cases.{Multiplier, AreLegal};
 ghost use Rattle.evidence.specs.Rounds.{IsCeiling};
 ghost use Rattle.instance.specs.Program.{program};
 ghost use Rattle.certificate.specs.Meanings.{multipliers};
 ghost use Rattle.certificate.specs.Meanings as Means;
 ghost use Rattle.case_tree.specs.Cuts.{cut};
-ghost use Rattle.cert_checker.specs.Programs.{with_rows, AreUncut, AreWide, MakesRound};
-ghost use Rattle.cert_checker.specs.RoundRefusals.{WholeFormsBelow, PartRefuses, RoundRefuses, RoundsRefuse, IsAfterRounds};
+ghost use Rattle.cert_checker.specs.Programs.{with_rows, AreUncut, AreWide, MakesRound, MayRound};
+ghost use Rattle.cert_checker.specs.RoundRefusals.{WholeFormsBelow, IsFirstPart, IsFirstUnfitPart, PartRefuses, IsWideRound, RoundRefuses, RoundsRefuse, IsAfterRounds};
 ghost use Rattle.cert_checker.specs.Slots.{slot_at, HoldsSum};
 
 use crate::added::put;
@@ -22,11 +24,11 @@ use crate::refused::Refused;
 use crate::sums::low_sum;
 use case_tree::{Cut, whole};
 use certificate::{Mult, Mults};
-use fraction::{End, Frac};
+use fraction::{End, Frac, Wide};
 use instance::{Instance, Row, zero};
 
 /// The least whole number that isn't below the fraction.
-fn ceiling(x: Frac) -> i128
+pub fn ceiling(x: Frac) -> i128
     ensures value { IsCeiling (ratio x) result }
     ensures low { neg_ℤ (pos most) ≤ℤ result }
 {
@@ -95,6 +97,61 @@ pub(crate) fn check_round(
         Err(_) => Err(Refused::WideRound { round }),
         Ok(sum) => Ok(ceiling(sum)),
     }
+}
+
+/// What a refusal at a variable tells of the sums: none of the ends, or that one doesn't fit.
+fn told_by(refused: Refused) -> Result<Option<Frac>, Wide>
+    ensures { (I : Of.Instance) (ms : List Multiplier) (round : ℕ) → PartRefuses I ms round refused → MatchResult result (λ told. MatchOption told ((j : ℕ) × IsFirstPart I ms j) (λ _. ⊥)) (λ _. (j : ℕ) × IsFirstUnfitPart I ms j) }
+{
+    match refused {
+        Refused::WideRound { .. } => Err(Wide),
+        _ => Ok(None),
+    }
+}
+
+/// The sum of the ends of multipliers; the slots have the sums at the variables afterwards.
+fn sum_ends(
+    program: &Program,
+    cuts: &[Cut],
+    slots: &mut [Option<Frac>],
+    mults: &[Mult],
+) -> Result<Option<Frac>, Wide>
+    requires count { length cuts.now ≡ width program.now }
+    requires numbers { IsInstance program.now }
+    requires room { length slots.old ≡ length cuts.now }
+    requires legal { AreLegal (cut program.now cuts.now) (multipliers mults.now) }
+    ensures ok { IfOk result (λ told. MatchOption told ((j : ℕ) × IsFirstPart (cut program.now cuts.now) (multipliers mults.now) j) (MayRound (cut program.now cuts.now) (multipliers mults.now) slots.new)) }
+    ensures wide { OnErr result (IsWideRound (cut program.now cuts.now) (multipliers mults.now)) }
+{
+    add_columns(program, cuts, slots, mults);
+    match check_parts(program, cuts, slots, mults, 0) {
+        Err(refused) => told_by(refused),
+        Ok(()) => {
+            let sum = low_sum(program, cuts, mults, zero())?;
+            Ok(Some(sum))
+        }
+    }
+}
+
+/// The sum of the ends of a round's multipliers, over an instance with the rows of the rounds before; the slots have the sums at the
+/// variables afterwards. None where one of these isn't whole, or isn't 0 at a variable that isn't; [`Wide`] where one before such,
+/// or that of the ends, doesn't fit.
+pub fn round_sum(
+    instance: &Instance,
+    added: &[Added],
+    cuts: &[Cut],
+    slots: &mut [Option<Frac>],
+    mults: &[Mult],
+) -> Result<Option<Frac>, Wide>
+    requires uncut { AreUncut (program instance.now) cuts.now }
+    requires room { length slots.old ≡ length cuts.now }
+    requires legal { AreLegal (with_rows (program instance.now) added.now) (multipliers mults.now) }
+    ensures ok { IfOk result (λ told. MatchOption told ((j : ℕ) × IsFirstPart (with_rows (program instance.now) added.now) (multipliers mults.now) j) (MayRound (with_rows (program instance.now) added.now) (multipliers mults.now) slots.new)) }
+    ensures wide { OnErr result (IsWideRound (with_rows (program instance.now) added.now) (multipliers mults.now)) }
+{
+    let goals = instance.goals();
+    let program = Program::of(instance, added, &goals[0]);
+    sum_ends(&program, cuts, slots, mults)
 }
 
 /// The lower end of a round's row, over an instance with the rows of the rounds before.

@@ -1,3 +1,4 @@
+//! Room for checks, and the check in it.
 ghost use Rattle.std.specs.Prelude.{◌≡◌, ◌-◌, ◌<◌, ◌≤◌, ◌^◌, ℕ, length, IfOk, OnOk, IfErr};
 ghost use Rattle.std.specs.List.{All};
 ghost use Rattle.evidence.specs.Claim.{Accepts};
@@ -10,7 +11,7 @@ ghost use Rattle.cert_checker.specs.Programs.{AreWide};
 ghost use Rattle.cert_checker.specs.Refusals.{IsRefusedFor};
 
 use crate::at_hand::Added;
-use crate::checking::check_claim;
+use crate::checking::check_in_room;
 use crate::refused::Refused;
 use case_tree::{Branch, Cut, Division};
 use certificate::{Cert, Claim};
@@ -154,13 +155,6 @@ impl Scratch {
         self.cuts.len()
     }
 
-    /// How many nodes of a tree there is room for.
-    pub fn nodes(&self) -> usize
-        ensures { result ≡ self.now.nodes }
-    {
-        self.branches.len()
-    }
-
     /// How many added rows there is room for.
     pub fn rows(&self) -> usize
         ensures { result ≡ self.now.rows }
@@ -187,7 +181,7 @@ impl Scratch {
     }
 }
 
-/// The check, in the first of so many places.
+/// The same, in as much of the room as the instance's variables need.
 fn check_within(
     instance: &Instance,
     claim: &Claim,
@@ -213,7 +207,7 @@ fn check_within(
     let n = instance.vars().len();
     let cuts = &mut cuts.as_mut_slice()[..n];
     let slots = &mut slots.as_mut_slice()[..n];
-    check_claim(
+    check_in_room(
         instance,
         claim,
         cuts,

@@ -1,4 +1,4 @@
-// One sum for each variable, to which columns are added.
+//! One sum for each variable, to which columns are added.
 ghost use Rattle.std.specs.Prelude.{◌≡◌, ◌+◌, ◌<◌, ℕ, pos, length, slice_set, IfOk, OnErr};
 ghost use Rattle.std.specs.List.{All};
 ghost use Rattle.rational.specs.Ratio.{whole, product, IsSame};

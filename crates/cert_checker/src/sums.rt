@@ -1,4 +1,4 @@
-// The sum of the ends, each times its multiplier.
+//! The sum of the ends, each times its multiplier.
 ghost use Rattle.std.specs.Prelude.{◌≡◌, ◌↔◌, ◌<◌, List, length, IsTrue, IfOk, OnOk, OnErr, IfErr};
 ghost use Rattle.rational.specs.Ratio.{IsSame};
 ghost use Rattle.fraction.specs.Frac.{ratio};

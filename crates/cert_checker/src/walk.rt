@@ -1,4 +1,4 @@
-// The walk through a tree of cases.
+//! The walk through a tree of cases.
 ghost use Rattle.std.specs.Prelude.{◌≡◌, ◌+◌, ◌-◌, ◌<◌, ◌≤◌, ◌^◌, ◌∷◌, [], List, length, map, Some, IfSome, IfOk, OnOk, IfErr};
 ghost use Rattle.std.specs.List.{All};
 ghost use Rattle.evidence.specs.Instance.{IsInstance, width};

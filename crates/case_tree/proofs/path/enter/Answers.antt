@@ -1,4 +1,4 @@
-use Rattle.std.proofs.Common.{◌≡◌, ◌∙◌, ℕ, ap, sym, false, length, slice_index_or}
+use Rattle.std.proofs.Common.{◌≡◌, ◌∙◌, ℕ, ap, sym, refl, false, length, slice_index_or, arith}
 use Rattle.std.proofs.lemmas.List.{get_or_default}
 use Rattle.instance.specs.declared.parts.Row.{Row}
 use Rattle.instance.specs.Program.{row}
@@ -6,6 +6,7 @@ use Rattle.case_tree.specs.declared.cuts.Cut.{Cut}
 use Rattle.case_tree.specs.declared.path.Branch.{Branch}
 use Rattle.case_tree.specs.Cuts.{cut_at, cut_variable, first_range, no_cut, with_ends}
 use Rattle.case_tree.proofs.Paths.{branches_with, entered, cut_by, ends_range}
+use Rattle.case_tree.proofs.Places.{other_divisions, own_division, entered_places}
 use Rattle.case_tree.proofs.path.enter.Goals as goal
 
 pub returns-clause-above : goal.returns-clause-above
@@ -25,3 +26,12 @@ returns-clause-cases c = λ I.
     (cut_by I vs j w c.requires.inside (first_range c.args.by)
     (ends_range v w c.first-ends.result (first_range c.args.by (cut_variable v)) is
     (c.first-ends.ensures (cut_variable v) ∙ ap (λ (r : Row). first_range c.args.by (record (cut_variable v) { range = row r })) ends)))
+
+pub returns-clause-divisions : goal.returns-clause-divisions
+returns-clause-divisions c = λ e l. other_divisions c.args.branches.now c.args.depth _ c.requires.room e (λ q. omega arith)
+
+pub returns-clause-division : goal.returns-clause-division
+returns-clause-division c = own_division c.args.branches.now c.args.depth _ c.requires.room
+
+pub returns-clause-places : goal.returns-clause-places
+returns-clause-places c = entered_places c.args.branches.now c.args.depth _ c.requires.room refl

@@ -4,6 +4,7 @@ use Rattle.case_tree.specs.declared.cuts.Cut.{Cut}
 use Rattle.case_tree.specs.declared.path.Branch.{Branch}
 use Rattle.case_tree.specs.Cuts.{no_branch, no_cut, branch_at, cut_at, cut_variable, with_ends, second_range, HasNext}
 use Rattle.case_tree.proofs.Paths.{branches_with, branches_less, turned, cut_by, ends_range}
+use Rattle.case_tree.proofs.Places.{same_divisions, turned_places}
 use Rattle.case_tree.proofs.path.turn.Goals as goal
 
 pub returns-clause-above : goal.returns-clause-above
@@ -39,3 +40,14 @@ returns-clause-cases c = λ I.
     (subst (λ (x : Cut). cut_variable w ≡ record (cut_variable x) { range = second_range b.by (cut_variable x) }) (sym set)
     (ends_range v w c.second-ends.result (second_range b.by (cut_variable v)) is
     (c.second-ends.ensures ∙ ap (λ (x : Cut). second_range b.by (cut_variable (with_ends x b.before))) (at c.index-cuts-j.result)))))
+
+pub returns-clause-divisions : goal.returns-clause-divisions
+returns-clause-divisions c =
+    let bs = c.args.branches.now in
+    let d = c.args.place in
+    let b : Branch = slice_index_or bs d c.index-branches-place-2.result in
+    let same : branch_at bs d ≡ b = get_or_default bs d no_branch c.index-branches-place-2.result c.requires.room in
+    same_divisions bs d (record b { is_second = true }) c.requires.room (record { col = ap (λ (x : Branch). x.col) same; by = ap (λ (x : Branch). x.by) same })
+
+pub returns-clause-places : goal.returns-clause-places
+returns-clause-places c = turned_places c.args.branches.now c.args.place _ c.requires.room c.requires.first refl

@@ -6,7 +6,7 @@ use Rattle.certificate.specs.Meanings.{multipliers}
 use Rattle.case_tree.specs.Cuts.{cut, cut_variable}
 use Rattle.cert_checker.specs.Programs.{MakesRound}
 use Rattle.cert_checker.specs.RoundRefusals.{RoundRefuses}
-use Rattle.cert_checker.proofs.HandRows.{rows_width, hand_level, level_zero, uncut_hand, hand-instance}
+use Rattle.cert_checker.proofs.HandRows.{rows_width, first_hand, hand-instance}
 use Rattle.cert_checker.proofs.rounds.check_next.Goals as goal
 
 pub check_round-requires-clause-count : goal.check_round-requires-clause-count
@@ -17,20 +17,16 @@ check_round-requires-clause-numbers c = subst IsInstance (sym c.of-program.ensur
 
 pub returns-clause-ok : goal.returns-clause-ok
 returns-clause-ok c =
-    let p = c.args.instance.now in
-    let rs = c.args.added.now in
     let g = c.index-goals-0.result in
     let is = c.index-goals-0.is ∙ ap (λ l. get_or l 0 g) c.goals-goals.ensures.value in
-    let some : 0 < length p.goals = (let v = c.goals-goals.ensures.valid.some_goal in omega arith) in
-    let e = ap (λ (I : Instance). cut I c.args.cuts.now) c.of-program.ensures ∙ uncut_hand p rs g c.args.cuts.now c.requires.uncut ∙ hand_level p rs g 0 some is ∙ level_zero p rs in
+    let some : 0 < length c.args.instance.now.goals = (let v = c.goals-goals.ensures.valid.some_goal in omega arith) in
+    let e = ap (λ (I : Instance). cut I c.args.cuts.now) c.of-program.ensures ∙ first_hand c.args.instance.now c.args.added.now g c.args.cuts.now c.requires.uncut some is in
     subst (λ (J : Instance). IfOk c.check_round.result (MakesRound J (multipliers c.args.mults.now) c.check_round.new.slots)) e c.check_round.ensures.ok
 
 pub returns-clause-err : goal.returns-clause-err
 returns-clause-err c =
-    let p = c.args.instance.now in
-    let rs = c.args.added.now in
     let g = c.index-goals-0.result in
     let is = c.index-goals-0.is ∙ ap (λ l. get_or l 0 g) c.goals-goals.ensures.value in
-    let some : 0 < length p.goals = (let v = c.goals-goals.ensures.valid.some_goal in omega arith) in
-    let e = ap (λ (I : Instance). cut I c.args.cuts.now) c.of-program.ensures ∙ uncut_hand p rs g c.args.cuts.now c.requires.uncut ∙ hand_level p rs g 0 some is ∙ level_zero p rs in
+    let some : 0 < length c.args.instance.now.goals = (let v = c.goals-goals.ensures.valid.some_goal in omega arith) in
+    let e = ap (λ (I : Instance). cut I c.args.cuts.now) c.of-program.ensures ∙ first_hand c.args.instance.now c.args.added.now g c.args.cuts.now c.requires.uncut some is in
     subst (λ (J : Instance). IfErr c.check_round.result (RoundRefuses J (multipliers c.args.mults.now) c.args.round)) e c.check_round.ensures.err
