@@ -14,4 +14,5 @@ pub mod KnownValues
 pub mod Looks
 pub mod Starts
 pub mod CutPrograms
+pub mod AddedRows
 pub mod Finishes

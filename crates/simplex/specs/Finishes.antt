@@ -43,6 +43,14 @@ abbrev pub stops_at : Option Finish → Bool
 stops_at None = false
 stops_at (Some f) = is_stop f
 
+abbrev pub is_best : Finish → Bool
+is_best (Has.Empty m) = false
+is_best (Has.Best b) = true
+is_best (Has.Endless m) = false
+is_best Has.TurnLimit = false
+is_best (Has.Wide s) = false
+is_best Has.Stopped = false
+
 -- the column that moved or was to move is one that the dictionary has
 abbrev pub IsFinishReady : List Status → Finish → Type 0
 IsFinishReady ss (Has.Empty m) = (m.col < length ss) × (basic_in ss m.col ≡ true)
@@ -86,8 +94,9 @@ abbrev pub CountsTurn : Turns → Turns → Option Finish → Type 0
 CountsTurn old new None = (old.done < old.most) × (new.done ≡ old.done + 1)
 CountsTurn old new (Some f) = (old.done ≤ new.done) × (old.done ≤ old.most → new.done ≤ old.most)
 
--- the run comes to a moment with this end
-pub record ComesTo (I : Instance) (zeroed : Bool) (t : Terms) (c : Clock) (e : End) (d : Clock) : Type 0 where
+-- the run comes to a moment with this end, and where that is read off the basis, these are the moment's statuses
+pub record ComesTo (I : Instance) (zeroed : Bool) (t : Terms) (c : Clock) (e : End) (d : Clock) (f : Finish) (ss : List Status) : Type 0 where
   pub last : Moment
   pub comes : ComesInRun I zeroed t c last
   pub ends : IsNext I zeroed t last (Out e d)
+  pub basis : KeepsBasis f (last.statuses ≡ ss)

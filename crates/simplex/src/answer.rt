@@ -1,3 +1,5 @@
+//! What a run answers.
+
 use certificate::Step;
 use fraction::Frac;
 
@@ -26,4 +28,12 @@ pub enum LpEnd {
     Wide(Step),
     /// A look said to stop.
     Stopped,
+}
+
+/// Where a column stands that isn't basic: at its lower or its upper end, or at 0 where it has neither.
+#[derive(Clone, Copy, PartialEq, Eq)]
+pub enum Side {
+    Lower,
+    Upper,
+    Zero,
 }

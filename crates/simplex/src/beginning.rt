@@ -1,4 +1,4 @@
-// How a run begins.
+//! How a run begins.
 ghost use Rattle.std.specs.Prelude.{◌≡◌, ℕ, ◌+◌, ◌<◌, ◌≤◌, cond, length, MatchOption};
 ghost use Rattle.fraction.specs.Frac.{ratio};
 ghost use Rattle.evidence.specs.Instance.{Instance, width, minimising_by};
@@ -8,37 +8,50 @@ ghost use Rattle.bases.specs.Program.{is_fresh};
 ghost use Rattle.simplex_rules.specs.declared.columns.Status.{Status};
 ghost use Rattle.simplex_rules.specs.Statuses.{first_status, basic_in, IsFirstBasis};
 ghost use Rattle.simplex_rules.specs.Runs.{HasNoClash, IsFirstEmpty};
-ghost use Rattle.simplex.specs.Cuts.{AreEndsOf, range_of, ranges_in, range_at};
+ghost use Rattle.simplex.specs.Cuts.{AreEndsOf, range_of, ranges_in, row_range, range_at};
 ghost use Rattle.simplex.specs.Loads.{factor_of, IsStart};
 
+use crate::cuts::Added;
 use crate::ends::{Ends, is_empty};
 use fraction::{End, Frac};
 use instance::{Row, Sense};
 use simplex_rules::Status;
 
-/// The ends of a column: a cut, or those of a row.
-fn ends_at(cuts: &[Ends], rows: &[Row], col: usize) -> Ends
-    requires { col < length cuts.now + length rows.now }
-    ensures { range_of result ≡ range_at cuts.now rows.now col }
+/// The ends of a row: one of the instance's own, or past them one of those beside.
+fn row_ends(rows: &[Row], added: &[Added], i: usize) -> Ends
+    requires { i < length rows.now + length added.now }
+    ensures { range_of result ≡ row_range rows.now added.now i }
 {
-    if col < cuts.len() {
-        cuts[col]
-    } else {
-        let row = rows[col - cuts.len()];
+    if i < rows.len() {
+        let row = rows[i];
         Ends {
             lb: row.lb,
             ub: row.ub,
         }
+    } else {
+        added[i - rows.len()].ends
+    }
+}
+
+/// The ends of a column: a cut, or those of a row.
+fn ends_at(cuts: &[Ends], rows: &[Row], added: &[Added], col: usize) -> Ends
+    requires { col < length cuts.now + (length rows.now + length added.now) }
+    ensures { range_of result ≡ range_at cuts.now rows.now added.now col }
+{
+    if col < cuts.len() {
+        cuts[col]
+    } else {
+        row_ends(rows, added, col - cuts.len())
     }
 }
 
 /// Writes the ends of the columns.
-pub fn set_ends(cuts: &[Ends], rows: &[Row], ends: &mut [Ends])
-    requires { length ends.old ≡ length cuts.now + length rows.now }
-    ensures { (c : ℕ) → c < length ends.old → ranges_in ends.new c ≡ range_at cuts.now rows.now c }
+pub fn set_ends(cuts: &[Ends], rows: &[Row], added: &[Added], ends: &mut [Ends])
+    requires { length ends.old ≡ length cuts.now + (length rows.now + length added.now) }
+    ensures { (c : ℕ) → c < length ends.old → ranges_in ends.new c ≡ range_at cuts.now rows.now added.now c }
 {
     for c in 0..ends.len() {
-        ends[c] = ends_at(cuts, rows, c);
+        ends[c] = ends_at(cuts, rows, added, c);
     }
 }
 

@@ -1,4 +1,4 @@
-// The bound of a best basis.
+//! The bound of a best basis.
 ghost use Rattle.std.specs.Prelude.{◌≡◌, ℕ, ◌+◌, ◌≤◌, ◌<◌, true, false, Bool, cond, length, IfOk, OnErr};
 ghost use Rattle.rational.specs.Ratio.{product, IsSame};
 ghost use Rattle.fraction.specs.Frac.{ratio};
@@ -36,7 +36,6 @@ fn cost_of<L: Ledger>(
     status: Status,
     col: u32,
     goal: u32,
-    place: &mut usize,
     steps: &mut Steps<L>,
 ) -> Frac
     requires loaded { IsLoaded dict.now }
@@ -49,9 +48,9 @@ fn cost_of<L: Ledger>(
 {
     match status {
         Status::Basic => zero(),
-        Status::Lower => dict.entry_near(goal, col, place, steps),
-        Status::Upper => dict.entry_near(goal, col, place, steps),
-        Status::Zero => dict.entry_near(goal, col, place, steps),
+        Status::Lower => dict.entry_of_row(goal, col, steps),
+        Status::Upper => dict.entry_of_row(goal, col, steps),
+        Status::Zero => dict.entry_of_row(goal, col, steps),
     }
 }
 
@@ -75,9 +74,8 @@ pub fn bound<L: Ledger>(
     ensures counted { steps.old ≤ steps.new }
 {
     let mut sum = start;
-    let mut place = 0;
     for c in 0..goal {
-        let cost = cost_of(dict, statuses[c as usize], c, goal, &mut place, steps);
+        let cost = cost_of(dict, statuses[c as usize], c, goal, steps);
         sum = add_product(sum, cost, rest.at(c))?;
     }
     Ok(sum)

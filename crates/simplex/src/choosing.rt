@@ -1,4 +1,4 @@
-// What is done at a moment.
+//! What is done at a moment.
 ghost use Rattle.std.specs.Prelude.{◌≡◌, ◌≢◌, ℕ, ◌+◌, ◌<◌, ◌≤◌, pos, Bool, true, false, length};
 ghost use Rattle.evidence.specs.Instance.{Instance, minimising};
 ghost use Rattle.simplex.specs.Loads.{IsStart};

@@ -1,4 +1,4 @@
-// The ends of a column, and what they leave it.
+//! The ends of a column, and what they leave it.
 ghost use Rattle.std.specs.Prelude.{◌≡◌, ◌↔◌, IsTrue, pos, ◌<ℤ◌, MatchOption, Some};
 ghost use Rattle.fraction.specs.Frac.{ratio};
 ghost use Rattle.evidence.specs.Sums.{is_below};

@@ -1,4 +1,4 @@
-// How the turns of a run finish.
+//! How the turns of a run finish.
 use certificate::Step;
 use fraction::Frac;
 use simplex_rules::Way;

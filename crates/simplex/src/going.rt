@@ -1,5 +1,5 @@
-// The turns of a run, one after the other.
-ghost use Rattle.std.specs.Prelude.{◌≡◌, ℕ, ◌+◌, ◌-◌, ◌^◌, ◌<◌, ◌≤◌, Bool, None, Some, length};
+//! The turns of a run, one after the other.
+ghost use Rattle.std.specs.Prelude.{◌≡◌, ℕ, ◌+◌, ◌-◌, ◌^◌, ◌<◌, ◌≤◌, Bool, None, Some, length, IfSome};
 ghost use Rattle.evidence.specs.Instance.{Instance, minimising};
 ghost use Rattle.simplex.specs.Loads.{IsStart};
 ghost use Rattle.bases.specs.Dictionary.{Entries};
@@ -13,7 +13,7 @@ ghost use Rattle.simplex.specs.Cuts.{AreEndsOf, ranges_in};
 ghost use Rattle.simplex.specs.Tables.{AreHeld, HasSizeOf, values_in};
 ghost use Rattle.marks.specs.Marks.{size_of};
 ghost use Rattle.simplex.specs.Values.{AreResting, AreKnown};
-ghost use Rattle.simplex.specs.Finishes.{stops_at, is_stop, next_at, end_at, IsLeft, IsLeftAt, CountsTurn, KeepsAt, ComesTo};
+ghost use Rattle.simplex.specs.Finishes.{stops_at, is_stop, next_at, end_at, IsLeft, IsLeftAt, CountsTurn, KeepsBasis, KeepsAt, ComesTo};
 
 use crate::answer::Turns;
 use crate::choosing::{Choice, choose};
@@ -60,6 +60,7 @@ fn make_turn<W: Watch, L: Ledger>(
     ensures resting { result ≡ None → AreResting (ranges_in ends.now) statuses.new (place_values rest.new) }
     ensures known { result ≡ None → AreKnown dict.new rest.new statuses.new values.new unknown.new }
     ensures holds { (A : Entries) → Holds A dict.old → KeepsAt result (Holds A dict.new) }
+    ensures stays { IfSome result (λ f. KeepsBasis f (statuses.old ≡ statuses.new)) }
     ensures turn { (n : ℕ) × W.came watch.old watch.new (answers n (stops_at result)) × ((I : Instance) (zeroed : Bool) (t : Terms) (looks : ℕ) → AreEndsOf I ends.now → HasSizeOf I dict.old → IsStart zeroed (minimising I I.goal.constant) start → Holds (rows_with_goal zeroed I) dict.old → t.turns ≡ turns.old.most → AgreesWith t.stop looks n (stops_at result) → IsNext I zeroed t (record { statuses = statuses.old; clock = record { turns = turns.old.done; looks = looks } }) (next_at I statuses.new (entry_of dict.new) (values_in values.new) (record { turns = turns.new.done; looks = looks_after looks n (stops_at result) }) result)) }
     ensures steps { steps.old ≤ steps.new }
 {
@@ -107,7 +108,8 @@ pub fn make_turns<W: Watch, L: Ledger>(
     ensures more { turns.old.done ≤ turns.new.done }
     ensures within { turns.old.done ≤ turns.old.most → turns.new.done ≤ turns.old.most }
     ensures left { IsLeft dict.new statuses.new result }
-    ensures end { (n : ℕ) × W.came watch.old watch.new (answers n (is_stop result)) × ((I : Instance) (zeroed : Bool) (t : Terms) (looks : ℕ) → AreEndsOf I ends.now → HasSizeOf I dict.old → IsStart zeroed (minimising I I.goal.constant) start → Holds (rows_with_goal zeroed I) dict.old → IsFirstBasis I statuses.old → t.turns ≡ turns.old.most → AgreesWith t.stop looks n (is_stop result) → ComesTo I zeroed t (record { turns = turns.old.done; looks = looks }) (end_at I statuses.new (entry_of dict.new) (values_in values.new) result) (record { turns = turns.new.done; looks = looks_after looks n (is_stop result) })) }
+    ensures holds { (A : Entries) → Holds A dict.old → KeepsBasis result (Holds A dict.new) }
+    ensures end { (n : ℕ) × W.came watch.old watch.new (answers n (is_stop result)) × ((I : Instance) (zeroed : Bool) (t : Terms) (looks : ℕ) → AreEndsOf I ends.now → HasSizeOf I dict.old → IsStart zeroed (minimising I I.goal.constant) start → Holds (rows_with_goal zeroed I) dict.old → IsFirstBasis I statuses.old → t.turns ≡ turns.old.most → AgreesWith t.stop looks n (is_stop result) → ComesTo I zeroed t (record { turns = turns.old.done; looks = looks }) (end_at I statuses.new (entry_of dict.new) (values_in values.new) result) (record { turns = turns.new.done; looks = looks_after looks n (is_stop result) }) result statuses.new) }
     ensures counted { steps.old ≤ steps.new }
 {
     loop {

@@ -1,4 +1,4 @@
-// Which column moves another one as wanted.
+//! Which column moves another one as wanted.
 ghost use Rattle.std.specs.Prelude.{◌≡◌, ◌+◌, ◌<◌, ◌≤◌, true, false, length, MatchOption};
 ghost use Rattle.fraction.specs.Frac.{ratio};
 ghost use Rattle.evidence.specs.Instance.{Instance};

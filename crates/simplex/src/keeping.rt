@@ -1,4 +1,4 @@
-// Which values stay known through a turn.
+//! Which values stay known through a turn.
 ghost use Rattle.std.specs.Prelude.{◌≡◌, ◌≢◌, ℕ, ◌+◌, ◌<◌, ◌≤◌, pos, true, false, List, length, slice_set};
 ghost use Rattle.marks.specs.Marks.{is_marked, size_of};
 ghost use Rattle.fraction.specs.declared.frac.Frac as numbers;

@@ -1,4 +1,4 @@
-// How far a column may move.
+//! How far a column may move.
 ghost use Rattle.std.specs.Prelude.{◌≡◌, ◌≢◌, ℕ, ◌+◌, ◌<◌, ◌≤◌, pos, true, false, length, nat_eq, Option, MatchOption, IfOk, OnErr};
 ghost use Rattle.rational.specs.Ratio.{Ratio};
 ghost use Rattle.fraction.specs.Frac.{ratio};

@@ -1,4 +1,4 @@
-// What the end of a run is told by.
+//! What the end of a run is told by.
 ghost use Rattle.std.specs.Prelude.{◌≡◌, ℕ, ◌+◌, ◌<◌, ◌≤◌, true, false, cond, nat_eq, length};
 ghost use Rattle.fraction.specs.Frac.{ratio};
 ghost use Rattle.evidence.specs.Sums.{none};
@@ -10,8 +10,8 @@ ghost use Rattle.simplex_rules.specs.Turns.{rate};
 ghost use Rattle.simplex_rules.specs.Reports.{against, factor_at, step_of, movement, collected};
 ghost use Rattle.dictionary.specs.Dict.{IsLoaded, width_of, height_of, basic_of, entry_of, columns_of};
 ghost use Rattle.simplex.specs.Tables.{AreStatuses, values_in};
-ghost use Rattle.simplex.specs.Answers.{listed, ended, was_stopped};
-ghost use Rattle.simplex.specs.Finishes.{end_at, is_stop, IsLeft};
+ghost use Rattle.simplex.specs.Answers.{listed, ended, was_stopped, was_best};
+ghost use Rattle.simplex.specs.Finishes.{end_at, is_stop, is_best, IsLeft};
 
 use crate::answer::LpEnd;
 use crate::finish::{Finish, Move};
@@ -51,7 +51,6 @@ fn factor_at<L: Ledger>(
     row: u32,
     wanted: Way,
     col: u32,
-    place: &mut usize,
     steps: &mut Steps<L>,
 ) -> Frac
     requires loaded { IsLoaded dict.now }
@@ -67,9 +66,9 @@ fn factor_at<L: Ledger>(
     }
     match status {
         Status::Basic => against(wanted, zero()),
-        Status::Lower => against(wanted, dict.entry_near(row, col, place, steps)),
-        Status::Upper => against(wanted, dict.entry_near(row, col, place, steps)),
-        Status::Zero => against(wanted, dict.entry_near(row, col, place, steps)),
+        Status::Lower => against(wanted, dict.entry_of_row(row, col, steps)),
+        Status::Upper => against(wanted, dict.entry_of_row(row, col, steps)),
+        Status::Zero => against(wanted, dict.entry_of_row(row, col, steps)),
     }
 }
 
@@ -92,17 +91,8 @@ fn set_factors<L: Ledger>(
     ensures factors { AreEntries (columns_of dict.now) (basic_of dict.now) (entry_of dict.now) → (c : ℕ) → c < goal → values_in factors.new c ≡ factor_at (entry_of dict.now) row wanted c }
     ensures counted { steps.old ≤ steps.new }
 {
-    let mut place = 0;
     for c in 0..goal {
-        factors[c as usize] = factor_at(
-            dict,
-            statuses[c as usize],
-            row,
-            wanted,
-            c,
-            &mut place,
-            steps,
-        );
+        factors[c as usize] = factor_at(dict, statuses[c as usize], row, wanted, c, steps);
     }
 }
 
@@ -172,6 +162,7 @@ pub fn report<L: Ledger>(
     requires factors { length factors.old ≡ goal }
     requires movements { length movements.old ≤ goal }
     ensures stopped { was_stopped result ≡ is_stop finish }
+    ensures best { was_best result ≡ is_best finish }
     ensures end { (I : Instance) (w : Values) → width I ≡ length movements.old → goal_column I ≡ goal → end_at I statuses.now (entry_of dict.now) w finish ≡ ended result (listed (length movements.old) w) (collected (values_in factors.new) goal) (listed (length movements.old) (values_in movements.new)) }
     ensures counted { steps.old ≤ steps.new }
 {

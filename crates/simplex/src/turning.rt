@@ -1,5 +1,5 @@
-// A turn, once it is chosen.
-ghost use Rattle.std.specs.Prelude.{◌≡◌, ◌≢◌, ℕ, ◌+◌, ◌-◌, ◌^◌, ◌<◌, ◌≤◌, Bool, true, false, Option, None, List, length, slice_set, IfOk, OnErr};
+//! A turn, once it is chosen.
+ghost use Rattle.std.specs.Prelude.{◌≡◌, ◌≢◌, ℕ, ◌+◌, ◌-◌, ◌^◌, ◌<◌, ◌≤◌, Bool, true, false, Option, None, List, length, slice_set, IfSome, IfOk, OnErr};
 ghost use Rattle.evidence.specs.Instance.{Instance};
 ghost use Rattle.bases.specs.Dictionary.{Entries, Values};
 ghost use Rattle.bases.specs.Pivot.{IsPivoted, PivotFits};
@@ -11,7 +11,7 @@ ghost use Rattle.simplex_rules.specs.Runs.{BeginsTurn, PassesTurn};
 ghost use Rattle.simplex_rules.specs.Looks.{answers, AgreesWith, looks_after};
 ghost use Rattle.dictionary.specs.Dict.{Holds, HaveOneSize, entry_of};
 ghost use Rattle.simplex.specs.Tables.{AreHeld};
-ghost use Rattle.simplex.specs.Finishes.{stops_at, after_turn, next_at, IsLeftAt, CountsTurn, KeepsAt};
+ghost use Rattle.simplex.specs.Finishes.{stops_at, after_turn, next_at, IsLeftAt, CountsTurn, KeepsBasis, KeepsAt};
 ghost use Rattle.simplex.specs.Choices.{IsSwap, IsFlip, IsSwapped};
 
 use crate::answer::Turns;
@@ -81,6 +81,7 @@ pub fn swap_turn<W: Watch, L: Ledger>(
     ensures counted { CountsTurn turns.old turns.new result }
     ensures stops { result ≡ None → W.stops watch.new ≡ W.stops watch.old }
     ensures left { IsLeftAt dict.new statuses.new result }
+    ensures early { IfSome result (λ f. KeepsBasis f ⊥) }
     ensures swapped { result ≡ None → IsSwapped dict.old dict.new statuses.old statuses.new swap }
     ensures holds { (A : Entries) → Holds A dict.old → KeepsAt result (Holds A dict.new) }
     ensures turn { (n : ℕ) × W.came watch.old watch.new (answers n (stops_at result)) × ((I : Instance) (u : Entries) (w : Values) (t : Terms) (looks : ℕ) → t.turns ≡ turns.old.most → AgreesWith t.stop looks n (stops_at result) → BeginsTurn t (record { turns = turns.old.done; looks = looks }) (PivotFits (entry_of dict.old) swap.basic swap.nonbasic) (pivoted statuses.old swap.basic swap.nonbasic swap.status) (next_at I statuses.new u w (record { turns = turns.new.done; looks = looks_after looks n (stops_at result) }) result)) }
@@ -115,6 +116,7 @@ pub fn flip_turn<W: Watch, L: Ledger>(
     ensures counted { CountsTurn turns.old turns.new result }
     ensures stops { result ≡ None → W.stops watch.new ≡ W.stops watch.old }
     ensures left { IsLeftAt dict.now statuses.new result }
+    ensures early { IfSome result (λ f. KeepsBasis f ⊥) }
     ensures flipped { result ≡ None → statuses.new ≡ slice_set statuses.old flip.col flip.status }
     ensures turn { (n : ℕ) × W.came watch.old watch.new (answers n (stops_at result)) × ((I : Instance) (u : Entries) (w : Values) (t : Terms) (looks : ℕ) → t.turns ≡ turns.old.most → AgreesWith t.stop looks n (stops_at result) → BeginsTurn t (record { turns = turns.old.done; looks = looks }) (Unit {0}) (slice_set statuses.old flip.col flip.status) (next_at I statuses.new u w (record { turns = turns.new.done; looks = looks_after looks n (stops_at result) }) result)) }
 {

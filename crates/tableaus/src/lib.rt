@@ -2,8 +2,8 @@
 //! try dictionaries, runs and searches, and time them.
 //!
 //! Rows are parted by `;`, their entries by spaces, each `COLUMN:VALUE`; costs by spaces; exchanges by `;`, each the basic
-//! column that leaves and the one that enters ([`Exchange`]). Ends of rows and variables are parted by `;` too, and a goal
-//! is `min` or `max` and a constant.
+//! column that leaves and the one that enters ([`Exchange`]). Ends of rows and variables are parted by `;` too, and so are goals, each
+//! `min` or `max` and a constant, with their costs.
 #![tactic(auto)]
 
 mod programs;

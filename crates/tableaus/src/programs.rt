@@ -1,8 +1,8 @@
-// Whole programs as texts: a tableau, the ends of its rows and variables, and the goal's sense with its constant.
-use crate::reading::{only, read_tableau};
+//! Whole programs as texts: a tableau, the ends of its rows and variables, and the goal's sense with its constant.
+use crate::reading::{read_numbers, read_rows};
 use decimal_text::{read_count, read_ratio};
 use fraction::{End, Frac};
-use instance::{Goal, Instance, Row, Sense, Var};
+use instance::{Costs, Goal, Instance, Row, Sense, Var};
 use os_io::Memory;
 use std::alloc::Global;
 
@@ -14,19 +14,25 @@ fn read_end(text: &[u8]) -> Option<End> {
     }
 }
 
-/// Two ends, and `whole` where it must be.
+/// Two ends, and after them `whole` where it must be, and `zero` where it may be 0 besides.
 pub fn read_var(text: &[u8]) -> Option<Var> {
     let mut parts = text.split(|b| *b == b' ');
     let lb = read_end(parts.next()?)?;
     let ub = read_end(parts.next()?)?;
-    let whole = parts.next().is_some();
-    let zero = false;
-    Some(Var {
+    let mut var = Var {
         lb,
         ub,
-        whole,
-        zero,
-    })
+        whole: false,
+        zero: false,
+    };
+    for word in parts {
+        match word {
+            b"whole" => var.whole = true,
+            b"zero" => var.zero = true,
+            _ => return None,
+        }
+    }
+    Some(var)
 }
 
 /// Variables or rows parted by `;`, none in the empty text.
@@ -71,72 +77,62 @@ pub fn read_counts(alloc: Global, text: &[u8]) -> Result<Option<Vec<u64>>, Memor
     Ok(Some(counts))
 }
 
-/// The instance with the entries and costs of a tableau and these rows, variables and goal, if it is one.
-fn with_parts(
-    alloc: Global,
-    free: &Instance,
-    rows: &[Var],
-    vars: Vec<Var>,
-    goal: (Sense, Frac),
-) -> Result<Option<Instance>, Memory> {
+/// Goals parted by `;`, each with its costs.
+fn read_goals(alloc: Global, goals: &[u8], costs: &[u8]) -> Result<Option<Vec<Goal>>, Memory> {
     let mut list = Vec::new(alloc);
-    for row in rows {
-        list.push(Row {
+    let mut pieces = costs.split(|b| *b == b';');
+    for goal in goals.split(|b| *b == b';') {
+        let Some((sense, constant)) = read_goal(goal) else {
+            return Ok(None);
+        };
+        let Some(piece) = pieces.next() else {
+            return Ok(None);
+        };
+        let Some(numbers) = read_numbers(alloc, piece)? else {
+            return Ok(None);
+        };
+        list.push(Goal {
+            sense,
+            constant,
+            costs: Costs::of(numbers),
+        })?;
+    }
+    Ok(Some(list))
+}
+
+/// The rows that have these ends.
+fn rows_of(alloc: Global, ends: &[Var]) -> Result<Vec<Row>, Memory> {
+    let mut rows = Vec::new(alloc);
+    for row in ends {
+        rows.push(Row {
             lb: row.lb,
             ub: row.ub,
         })?;
     }
-    let entries = Vec::from_slice(alloc, free.entries())?;
-    let goal = Goal {
-        sense: goal.0,
-        constant: goal.1,
-        costs: free.first_goal().costs.try_copy(alloc)?,
-    };
-    Ok(Instance::of(vars, list, entries, only(alloc, goal)?))
+    Ok(rows)
 }
 
-/// The same with variables that a text says.
-fn with_vars(
-    alloc: Global,
-    free: &Instance,
-    rows: &[Var],
-    vars: &[u8],
-    goal: (Sense, Frac),
-) -> Result<Option<Instance>, Memory> {
-    match read_vars(alloc, vars)? {
-        Some(vars) => with_parts(alloc, free, rows, vars, goal),
-        None => Ok(None),
-    }
-}
-
-/// The same with ends of rows that a text says.
-fn with_ends(
-    alloc: Global,
-    free: &Instance,
-    row_ends: &[u8],
-    vars: &[u8],
-    goal: (Sense, Frac),
-) -> Result<Option<Instance>, Memory> {
-    match read_vars(alloc, row_ends)? {
-        Some(rows) => with_vars(alloc, free, rows.as_slice(), vars, goal),
-        None => Ok(None),
-    }
-}
-
-/// The program of these rows, their ends, variables, goal and costs, if it is one.
+/// The program of these rows, their ends, variables, goals and costs, if it is one.
 pub fn read_program(
     alloc: Global,
     rows: &Vec<u8>,
     row_ends: &Vec<u8>,
     vars: &Vec<u8>,
-    goal: &Vec<u8>,
+    goals: &Vec<u8>,
     costs: &Vec<u8>,
 ) -> Result<Option<Instance>, Memory> {
-    let Some(goal) = read_goal(goal.as_slice()) else {
+    let Some(goals) = read_goals(alloc, goals.as_slice(), costs.as_slice())? else {
         return Ok(None);
     };
-    match read_tableau(alloc, rows.as_slice(), costs.as_slice())? {
-        Some(free) => with_ends(alloc, &free, row_ends.as_slice(), vars.as_slice(), goal),
-        None => Ok(None),
-    }
+    let Some((entries, _)) = read_rows(alloc, rows.as_slice())? else {
+        return Ok(None);
+    };
+    let Some(ends) = read_vars(alloc, row_ends.as_slice())? else {
+        return Ok(None);
+    };
+    let Some(vars) = read_vars(alloc, vars.as_slice())? else {
+        return Ok(None);
+    };
+    let rows = rows_of(alloc, ends.as_slice())?;
+    Ok(Instance::of(vars, rows, entries, goals))
 }

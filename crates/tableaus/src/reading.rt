@@ -1,4 +1,4 @@
-// Programs as texts: rows parted by `;`, entries by spaces, each `COLUMN:VALUE`, and a list of costs.
+//! Programs as texts: rows parted by `;`, entries by spaces, each `COLUMN:VALUE`, and a list of costs.
 use decimal_text::{read_count, read_ratio};
 use fraction::{End, Entry, Frac};
 use instance::{Costs, Goal, Instance, Row, Sense, Var};
@@ -51,7 +51,7 @@ fn add_row(entries: &mut Vec<Entry>, row: u32, text: &[u8]) -> Result<bool, Memo
 }
 
 /// The entries of all rows, and how many rows there are.
-fn read_rows(alloc: Global, text: &[u8]) -> Result<Option<(Vec<Entry>, u32)>, Memory> {
+pub fn read_rows(alloc: Global, text: &[u8]) -> Result<Option<(Vec<Entry>, u32)>, Memory> {
     let mut entries = Vec::new(alloc);
     let mut count: u32 = 0;
     for row in text.split(|b| *b == b';') {
@@ -90,7 +90,7 @@ fn free_rows(alloc: Global, count: u32) -> Result<Vec<Row>, Memory> {
 }
 
 /// The list of one goal.
-pub fn only(alloc: Global, goal: Goal) -> Result<Vec<Goal>, Memory> {
+fn only(alloc: Global, goal: Goal) -> Result<Vec<Goal>, Memory> {
     let mut goals = Vec::new(alloc);
     goals.push(goal)?;
     Ok(goals)

@@ -1,4 +1,4 @@
-// What a dictionary says, as a text.
+//! What a dictionary says, as a text.
 ghost use Rattle.std.specs.Prelude.{◌≡◌, ◌≤◌, IsTrue};
 ghost use Rattle.dictionary.specs.Dict.{width_of, height_of, IsLoaded, IsBasic, IsNonbasic};
 

@@ -1,4 +1,4 @@
-// Exchanges of columns, one after another.
+//! Exchanges of columns, one after another.
 ghost use Rattle.std.specs.Prelude.{◌≡◌, ℕ, ◌+◌, ◌≤◌, ◌<◌, length, IfOk, IfSome};
 ghost use Rattle.bases.specs.Dictionary.{Entries};
 ghost use Rattle.dictionary.specs.Dict.{width_of, height_of, count_of, IsLoaded, Holds, IsBasic, IsNonbasic};

@@ -9,5 +9,5 @@ pub loop-c-preserved : goal.loop-c-preserved
 loop-c-preserved c = λ k h.
     let t = c.loop-c-test.true in
     by_eq k c.loop-c.c
-    (λ e. ap (ranges_in (slice_set c.loop-c.ends c.loop-c.c c.ends_at.result)) e ∙ range_set c.loop-c.ends c.loop-c.c c.ends_at.result (let a = c.loop-c.auto.ends in omega arith) ∙ c.ends_at.ensures ∙ ap (range_at c.args.cuts.now c.args.rows.now) (sym e))
+    (λ e. ap (ranges_in (slice_set c.loop-c.ends c.loop-c.c c.ends_at.result)) e ∙ range_set c.loop-c.ends c.loop-c.c c.ends_at.result (let a = c.loop-c.auto.ends in omega arith) ∙ c.ends_at.ensures ∙ ap (range_at c.args.cuts.now c.args.rows.now c.args.added.now) (sym e))
     (λ n. range_other c.loop-c.ends c.loop-c.c k c.ends_at.result n ∙ c.loop-c.invariant k (omega arith))

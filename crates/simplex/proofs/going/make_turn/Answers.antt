@@ -1,4 +1,4 @@
-use Rattle.std.proofs.Common.{◌≡◌, ℕ, ◌+◌, Bool, List, sym, ◌∙◌, ap, subst, arith}
+use Rattle.std.proofs.Common.{◌≡◌, ℕ, ◌+◌, Bool, List, refl, sym, ◌∙◌, ap, subst, arith}
 use Rattle.simplex_rules.specs.Runs.{Out, IsNext}
 use Rattle.simplex_rules.specs.Looks.{answers, looks_after}
 use Rattle.dictionary.specs.Dict.{entry_of}
@@ -6,6 +6,7 @@ use Rattle.simplex.specs.Tables.{values_in}
 use Rattle.simplex_rules.specs.declared.columns.Status.{Status}
 use Rattle.simplex.specs.Values.{AreKnown}
 use Rattle.simplex.specs.Finishes.{stops_at, next_at, end_at}
+use Rattle.simplex.proofs.Finishes.{keeps, early_keeps}
 use Rattle.simplex.proofs.going.make_turn.Goals as goal
 
 pub returns-in-Swap-clause-turn : goal.returns-in-Swap-clause-turn
@@ -48,3 +49,12 @@ pub returns-in-Flip-clause-known : goal.returns-in-Flip-clause-known
 returns-in-Flip-clause-known g c = λ n.
     subst (λ (ss : List Status). AreKnown c.args.dict.now c.expect_flip.new.rest ss c.choose.new.values c.expect_flip.new.unknown) (sym (c.flip_turn.ensures.flipped n))
     (c.expect_flip.ensures.known c.choose.new.values c.in-Flip.ensures.known)
+
+pub returns-in-Swap-clause-stays : goal.returns-in-Swap-clause-stays
+returns-in-Swap-clause-stays g c = early_keeps c.swap_turn.result (c.args.statuses.now ≡ c.swap_turn.new.statuses) c.swap_turn.ensures.early
+
+pub returns-in-Flip-clause-stays : goal.returns-in-Flip-clause-stays
+returns-in-Flip-clause-stays g c = early_keeps c.flip_turn.result (c.args.statuses.now ≡ c.flip_turn.new.statuses) c.flip_turn.ensures.early
+
+pub returns-in-Done-clause-stays : goal.returns-in-Done-clause-stays
+returns-in-Done-clause-stays g c = keeps c.in-Done.finish (c.args.statuses.now ≡ c.args.statuses.now) refl

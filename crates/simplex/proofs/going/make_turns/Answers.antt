@@ -79,5 +79,9 @@ returns-in-Some-clause-end g c =
         ends =
             subst (λ (j : ℕ). IsNext I zeroed t (record { statuses = c.loop-finish.statuses; clock = record { turns = c.loop-finish.turns.done; looks = looks + m.0 } }) (Out (end_at I c.make_turn.new.statuses (entry_of c.make_turn.new.dict) (values_in c.make_turn.new.values) c.in-Some.finish) (record { turns = c.make_turn.new.turns.done; looks = j }))) (after_more looks m.0 p.0 b)
             (p.2 I zeroed t (looks + m.0) e (sized I c.args.dict.now c.loop-finish.dict v.size size) starts (v.holds _ holds) (most ∙ sym v.most) (tells_less looks m.0 p.0 b t.stop tells));
+        basis = c.in-Some.ensures.stays;
       }),
     )
+
+pub returns-in-Some-clause-holds : goal.returns-in-Some-clause-holds
+returns-in-Some-clause-holds g c = λ A h. let v = c.loop-finish.invariant in c.in-Some.ensures.holds A (v.holds A h)
