@@ -34,20 +34,18 @@ multiple_of f x s b m ex eb same = record {
   same = subst (λ y. IsSame (ratio m) (product y (whole (pos f)))) (sym ex) (subst (λ y. IsSame (ratio m) (product (ratio s) y)) eb same);
 }
 
-module _ (f : ℕ) (d : List Ratio) (xs : List Frac) (j : ℕ) (m : Frac) (long : length xs ≡ j) where
-  appended : ratios (xs ++ m ∷ []) ≡ ratios xs ++ ratio m ∷ []
-  appended = map-append ratio xs (m ∷ [])
-
-  pub multiples_more : ((i : ℕ) → i < j → IsMultiple f (value_at d i) (value_at (ratios xs) i)) → IsMultiple f (value_at d j) (ratio m) → (i : ℕ) → i < j + 1 → IsMultiple f (value_at d i) (value_at (ratios (xs ++ m ∷ [])) i)
-  multiples_more before own i h =
-      let n = length-map xs ratio in
-      by_lt i j
-      (λ l. subst (IsMultiple f (value_at d i)) (sym (ap (λ ys. value_at ys i) appended ∙ get_or-append (ratios xs) (ratio m ∷ []) none i (omega arith))) (before i l))
-      (λ l.
-      let e : i ≡ length (ratios xs) = omega arith in
-      let q : j ≡ i = omega arith in
-      let read : value_at (ratios (xs ++ m ∷ [])) i ≡ ratio m = ap (λ ys. value_at ys i) appended ∙ ap (value_at (ratios xs ++ ratio m ∷ [])) e ∙ get_or-append_seam (ratios xs) (ratio m) [] none in
-      subst (IsMultiple f (value_at d i)) (sym read) (subst (λ k. IsMultiple f (value_at d k) (ratio m)) q own))
+-- what holds of each number of a list, and of one more
+pub ratios_more : (Q : ℕ → Ratio → Type 0) (xs : List Frac) (j : ℕ) (m : Frac) → length xs ≡ j → ((i : ℕ) → i < j → Q i (value_at (ratios xs) i)) → Q j (ratio m) → (i : ℕ) → i < j + 1 → Q i (value_at (ratios (xs ++ m ∷ [])) i)
+ratios_more Q xs j m long before own i h =
+    let n = length-map xs ratio in
+    let appended : ratios (xs ++ m ∷ []) ≡ ratios xs ++ ratio m ∷ [] = map-append ratio xs (m ∷ []) in
+    by_lt i j
+    (λ l. subst (Q i) (sym (ap (λ ys. value_at ys i) appended ∙ get_or-append (ratios xs) (ratio m ∷ []) none i (omega arith))) (before i l))
+    (λ l.
+    let e : i ≡ length (ratios xs) = omega arith in
+    let q : j ≡ i = omega arith in
+    let read : value_at (ratios (xs ++ m ∷ [])) i ≡ ratio m = ap (λ ys. value_at ys i) appended ∙ ap (value_at (ratios xs ++ ratio m ∷ [])) e ∙ get_or-append_seam (ratios xs) (ratio m) [] none in
+    subst (Q i) (sym read) (subst (λ k. Q k (ratio m)) q own))
 
 -- where one movement times the factor doesn't fit, there is no ray
 pub no_ray : (I : Instance) (d : List Ratio) (f j : ℕ) (s b : Frac) → IsFactor I d (width I) f → j < width I → value_at d j ≡ ratio s → ratio b ≡ whole (pos f) → (ReducedFits (product (ratio s) (ratio b)) → ⊥) → (r : List Ratio) → IsScaled I d r → ⊥

@@ -1,73 +1,149 @@
 -- What the code makes of a case, as the rules of a search say it.
-use Rattle.std.specs.Prelude.{◌≡◌, ◌⊎◌, ℕ, ◌-◌, ◌^◌, ◌<◌, Bool, false, Option, Result, Ok, Err, List, length}
+use Rattle.std.specs.Prelude.{◌≡◌, ◌⊎◌, ℕ, ◌+◌, ◌^◌, ◌<◌, ◌≤◌, Bool, false, Option, None, Some, Result, Ok, Err, List, [], ◌∷◌, ◌++◌, length}
 use Rattle.rational.specs.Ratio.{Ratio}
-use Rattle.fraction.specs.Frac.{ratio, ratios}
+use Rattle.fraction.specs.Frac.{ratios}
 use Rattle.evidence.specs.Instance.{Instance}
 use Rattle.evidence.specs.Cases.{Multiplier}
+use Rattle.evidence.specs.Rounds.{Certificate}
 use Rattle.instance.specs.Parts.{Parts}
-use Rattle.instance.specs.Program.{program}
+use Rattle.instance.specs.Program.{program, problem}
+use Rattle.cert_checker.specs.Programs.{with_rows}
+use Rattle.certificate.specs.Meanings as Means
 use Rattle.certificate.specs.declared.causes.Cause.TheVariants.{Memory}
 use Rattle.simplex_rules.specs.Ends.{Terms, Clock, End}
+use Rattle.simplex_rules.specs.Looks.{AgreesWith, looks_after}
+use Rattle.simplex.specs.Cuts.{Suits}
 use Rattle.simplex.specs.Memory.{width_in, height_in}
 use Rattle.search_rules.specs.Search as Rules
-use Rattle.search_rules.specs.Search.{Moment, Outcome, Next, To, Out, MeetsPoint, GoesFrom, IsNext, IsCaseRun, early}
+use Rattle.search_rules.specs.Search.{Found, SearchMoment, Outcome, NextOfSearch, Optimal, Infeasible, TakesPoint, MeetsPoint, GoesFrom, Improves, ComesInSearch, IsSearchAnswer, early}
+use Rattle.branch_bound.specs.declared.found.Found as Best
 use Rattle.branch_bound.specs.declared.ended.Ended.{Ended}
 use Rattle.branch_bound.specs.declared.ended.Ended.TheVariants.{Unbounded, Early}
+use Rattle.branch_bound.specs.declared.level.Level.{Level}
 use Rattle.branch_bound.specs.declared.relaxation.Relaxation.{Relaxation}
 use Rattle.branch_bound.specs.declared.limits.Limits.{Limits}
 use Rattle.branch_bound.specs.declared.walk.Walk.{Walk}
 use Rattle.branch_bound.specs.Claims.{is_kill}
-use Rattle.branch_bound.specs.Walks.{best, case, rest, moment, IsAt}
+use Rattle.branch_bound.specs.Walks.{best, case, rest, IsWalk, IsAt}
+use Rattle.branch_bound.specs.Levels.{moment, IsGiven, IsAtLevel}
+use Rattle.branch_bound.specs.Trials.{IsFresh}
 
 abbrev pub terms : Limits → Option ℕ → Terms
-terms l stop = record { nodes = l.nodes; turns = l.turns; stop = stop }
+terms l stop = record { nodes = l.nodes; turns = l.turns; rounds = l.rounds; stop = stop }
 
--- how the search ended
-abbrev pub outcome_of : Ended → Outcome
-outcome_of (Unbounded f r) = Rules.Unbounded (ratios f.point) (ratio f.value) (ratios r)
-outcome_of (Early b c) = early (best b) c
+-- how the search ended, where these certificates showed the levels before
+abbrev pub outcome_of : List Certificate → Ended → Outcome
+outcome_of cs (Unbounded f r) = Rules.Unbounded (ratios f.point) (ratios f.values) cs (ratios r)
+outcome_of cs (Early b c) = early (best b) c
+
+-- and where all cases are closed of the last level, or of any without a point: this certificate shows that level
+abbrev pub closed_by : List Certificate → Certificate → Option Found → Outcome
+closed_by cs c None = Infeasible c
+closed_by cs c (Some f) = Optimal f.point f.values (cs ++ c ∷ [])
 
 -- a look ended it
 abbrev pub was_killed : Ended → Bool
 was_killed (Unbounded f r) = false
 was_killed (Early b c) = is_kill c
 
--- the memory has the size of the instance
+-- the memory has the size of the instance with the rows beside its own, and runs are given what suits it
 pub record HasSize {L : _} {G : _} (p : Parts) (r : Relaxation L G) : Type 0 where
   pub width : width_in r.work ≡ length p.vars
-  pub height : height_in r.work ≡ length p.rows
-  pub ends : length r.ends ≡ length p.vars
+  pub height : height_in r.work ≡ length p.rows + length r.ends.rows
+  pub few : length p.vars + (length p.rows + length r.ends.rows) < 2 ^ 32
+  pub suits : Suits p r.ends
+  pub slots : length r.slots.items ≡ length p.vars
 
--- the memory has the size of the instance, and the walk is at a case whose node has a number
-pub record IsWalkReady {L : _} {G : _} (p : Parts) (r : Relaxation L G) (w : Walk) (d : ℕ) : Type 0 where
+-- its goal is one of the instance's; of one goal the rows of the cuts are those beside the instance's
+pub record SuitsLevel {L : _} {G : _} (p : Parts) (r : Relaxation L G) (v : Level) : Type 0 where
   pub size : HasSize p r
+  pub goal : v.goal < length p.goals
+  pub one : length p.goals ≡ 1 → IsGiven p r.ends (with_rows (program p) r.rows.items) × (length r.rows.items ≡ length r.ends.rows)
+
+-- no more nodes stand than the limit, on all levels
+abbrev pub AreWithin : Limits → Level → Walk → Type 0
+AreWithin l v w = v.before + length w.nodes ≤ l.nodes
+
+-- the best point has a value for each goal
+abbrev pub HaveValues : Parts → Option Best.Found → Type 0
+HaveValues p best = (f : Best.Found) → best ≡ Some f → length f.values ≡ length p.goals
+
+-- before a level's first node the walk is at the first case
+abbrev pub StartsFresh : Parts → Walk → Type 0
+StartsFresh p w = w.nodes ≡ [] → IsFresh p w
+
+-- and the walk is at a case whose node may be begun
+pub record IsWalkReady {L : _} {G : _} (p : Parts) (l : Limits) (r : Relaxation L G) (v : Level) (w : Walk) (d : ℕ) : Type 0 where
+  pub suits : SuitsLevel p r v
   pub at : IsAt (length p.vars) w d
-  pub within : length w.nodes < 2 ^ 32 - 1
+  pub within : v.before + length w.nodes < l.nodes
+  pub fresh : StartsFresh p w
 
 abbrev pub clock_at : {L : _} {G : _} → Relaxation L G → ℕ → Clock
 clock_at r looks = record { turns = r.turns.done; looks = looks }
 
--- the search is given up for want of memory, or else this holds
+-- the search is given up for want of memory, with the walk's best point
+abbrev pub LacksMemory : Walk → Ended → Type 0
+LacksMemory w ended = (cs : List Certificate) → outcome_of cs ended ≡ early (best w.best) Memory
+
+-- or else this holds
 abbrev pub OrMemory : Walk → Ended → Type 0 → Type 0
-OrMemory w ended P = (outcome_of ended ≡ early (best w.best) Memory) ⊎ P
+OrMemory w ended P = LacksMemory w ended ⊎ P
 
--- from this point of the case at hand on
-abbrev pub MeetsAt : Parts → Walk → ℕ → Clock → List Ratio → List Multiplier → Next → Type 0
-MeetsAt p w d c x ms next = let I = program p in MeetsPoint I (case I w) (rest I w d) (moment I w c) x ms next
+-- from this point of the case at hand on, where the level has program L and the cases come of D
+abbrev pub MeetsAt : Parts → Instance → Instance → Level → Walk → ℕ → Terms → Clock → List Ratio → List Multiplier → NextOfSearch → Type 0
+MeetsAt p L D v w d t c x ms next = MeetsPoint (problem p) t (case D w d) (rest D w d) (moment p L D v w c) x ms next
 
--- from this end of the run of the case at hand on
-abbrev pub GoesAt : Parts → Walk → ℕ → Terms → Clock → End → Next → Type 0
-GoesAt p w d t c e next = let I = program p in GoesFrom t I (case I w) (rest I w d) (moment I w c) e next
+-- the same where the point's values are as they must be
+abbrev pub TakesAt : Parts → Instance → Instance → Level → Walk → ℕ → Terms → Clock → List Ratio → List Multiplier → NextOfSearch → Type 0
+TakesAt p L D v w d t c x ms next = TakesPoint (problem p) t (case D w d) (rest D w d) (moment p L D v w c) x ms next
 
--- a search that is at a moment ends so, or is given up once the next case was run
-abbrev pub EndsSearch : Instance → Terms → Moment → Outcome → Clock → Type 0
-EndsSearch I t m o c = ((e : End) × IsCaseRun I t m e c × (o ≡ early m.best Memory)) ⊎ IsNext I t m (Out o c)
+-- the same where its bound is better than the best value, and one more cut may be derived
+abbrev pub ImprovesAt : Parts → Instance → Instance → Level → Walk → ℕ → Terms → Clock → Clock → Ratio → List Ratio → List Multiplier → NextOfSearch → Type 0
+ImprovesAt p L D v w d t before c b x ms next = Improves (problem p) t (case D w d) (rest D w d) (moment p L D v w c) before b x ms next
+
+-- from this end of its run on, which began with the clock before
+abbrev pub GoesAt : Parts → Instance → Instance → Level → Walk → ℕ → Terms → Clock → Clock → End → NextOfSearch → Type 0
+GoesAt p L D v w d t before c e next = GoesFrom (problem p) t (case D w d) (rest D w d) (moment p L D v w c) before e next
+
+-- the code stands at this moment of a search
+pub record IsMoment {L : _} {G : _} (p : Parts) (r : Relaxation L G) (v : Level) (w : Walk) (c : Clock) (m : SearchMoment) : Type 0 where
+  pub program : Instance
+  pub cut : Instance
+  pub at : IsAtLevel p r v program cut
+  pub is : m ≡ moment p program cut v w c
 
 abbrev pub is_killed_by : Result (Unit {0}) Ended → Bool
 is_killed_by (Ok x) = false
 is_killed_by (Err ended) = was_killed ended
 
--- what a step makes of a search: its next moment, or its end
-abbrev pub FollowsStep : Parts → Terms → Clock → Clock → Walk → Walk → Result (Unit {0}) Ended → Type 0
-FollowsStep p t before after w v (Ok x) = let I = program p in IsNext I t (moment I w before) (To (moment I v after))
-FollowsStep p t before after w v (Err ended) = let I = program p in EndsSearch I t (moment I w before) (outcome_of ended) after
+-- the moments of a search have come to one at which the code stands
+pub record StandsIn {L : _} {G : _} (p : Parts) (t : Terms) (r : Relaxation L G) (v : Level) (w : Walk) (c : Clock) : Type 0 where
+  pub at : SearchMoment
+  pub comes : ComesInSearch (problem p) t at
+  pub stands : IsMoment p r v w c at
+
+-- what comes then of the search: one more such moment, or an answer
+abbrev pub ComesThrough : {L : _} {G : _} → Parts → Terms → Relaxation L G → Level → Walk → Clock → Result (Unit {0}) Ended → Type 0
+ComesThrough p t r v w c (Ok x) = StandsIn p t r v w c
+ComesThrough p t r v w c (Err ended) = IsSearchAnswer (problem p) t (outcome_of (Means.certificates v.certs) ended) c
+
+-- after looks of which n went on, and one more may have stopped, the code went from one of them on so
+abbrev pub CarriesOn : {L : _} {G : _} → Parts → Limits → Relaxation L G → Level → Walk → Relaxation L G → Level → Walk → ℕ → Bool → Result (Unit {0}) Ended → Type 0
+CarriesOn p l r v w s u x n killed result =
+    (looks : ℕ) (stop : Option ℕ) → StandsIn p (terms l stop) r v w (clock_at r looks) → AgreesWith stop looks n killed → ComesThrough p (terms l stop) s u x (clock_at s (looks_after looks n killed)) result
+
+-- one node more stands, or one cut more where there were fewer than the most
+pub record GoesFurther (l : Limits) (v u : Level) (w x : Walk) : Type 0 where
+  pub level : (u.goal ≡ v.goal) × (u.before ≡ v.before)
+  pub within : v.before + length w.nodes < l.nodes
+  pub one : ((length x.nodes ≡ length w.nodes + 1) × (length u.rounds ≡ length v.rounds))
+      ⊎ ((length x.nodes ≡ length w.nodes) × (length u.rounds ≡ length v.rounds + 1) × (length v.rounds < l.rounds))
+
+-- the code went on so: what it has suits each other as before
+pub record HasGoneOn {L : _} {G : _} (p : Parts) (l : Limits) (v : Level) (w : Walk) (s : Relaxation L G) (u : Level) (x : Walk) : Type 0 where
+  pub suits : SuitsLevel p s u
+  pub walk : IsWalk (length p.vars) x
+  pub fresh : StartsFresh p x
+  pub values : HaveValues p x.best
+  pub further : GoesFurther l v u w x

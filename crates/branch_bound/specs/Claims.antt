@@ -1,7 +1,5 @@
 -- What a claim tells of a search.
-use Rattle.std.specs.Prelude.{◌≡◌, Bool, true, false, Option, None, Some, List, [], ◌∷◌}
-use Rattle.evidence.specs.Cases.{Node}
-use Rattle.evidence.specs.Rounds.{Certificate}
+use Rattle.std.specs.Prelude.{◌≡◌, Bool, true, false, Option, None, Some}
 use Rattle.evidence.specs.Claim as Says
 use Rattle.certificate.specs.Meanings as Means
 use Rattle.certificate.specs.declared.causes.Cause.{Cause}
@@ -11,24 +9,20 @@ use Rattle.certificate.specs.declared.claims.Claim.TheVariants as Has
 use Rattle.no_cycles.specs.Searches.{is_for}
 use Rattle.search_rules.specs.Search.{Outcome, Optimal, Infeasible, Unbounded, BestSoFar, Unsure}
 
--- the certificate that has these nodes alone
-abbrev pub only : List Node → Certificate
-only ns = record { rounds = []; nodes = ns }
-
--- what an outcome says of an instance and its one goal
+-- what an outcome says of a problem
 abbrev pub said : Outcome → Says.Claim
-said (Optimal x v ns) = Says.Optimal x (v ∷ []) (only ns ∷ [])
-said (Infeasible ns) = Says.Infeasible (only ns)
-said (Unbounded x v r) = Says.Unbounded x (v ∷ []) [] r
-said (BestSoFar x v c) = Says.BestSoFar x (v ∷ [])
+said (Optimal x vs cs) = Says.Optimal x vs cs
+said (Infeasible c) = Says.Infeasible c
+said (Unbounded x vs cs r) = Says.Unbounded x vs cs r
+said (BestSoFar x vs c) = Says.BestSoFar x vs
 said (Unsure c) = Says.Unsure
 
 -- why the search was given up, if it was
 abbrev pub cause_of : Outcome → Option Cause
-cause_of (Optimal x v ns) = None
-cause_of (Infeasible ns) = None
-cause_of (Unbounded x v r) = None
-cause_of (BestSoFar x v c) = Some c
+cause_of (Optimal x vs cs) = None
+cause_of (Infeasible cert) = None
+cause_of (Unbounded x vs cs r) = None
+cause_of (BestSoFar x vs c) = Some c
 cause_of (Unsure c) = Some c
 
 -- and why a claim says so

@@ -7,4 +7,8 @@ pub use Rattle.simplex_rules.specs.Looks
 pub use Rattle.search_rules.specs.Search
 pub mod Claims
 pub mod Walks
+pub mod Divisions
+pub mod Levels
+pub mod Trials
 pub mod Cases
+pub mod Asking

@@ -1,26 +1,28 @@
-// How a search ends, and what is claimed then.
-ghost use Rattle.std.specs.Prelude.{◌≡◌, ◌⊎◌, ℕ, ◌-◌, ◌^◌, ◌<◌, false, [], ◌∷◌, length, pos, neg_ℤ, ◌≤ℤ◌, ◌<ℤ◌, IfOk, IfErr};
-ghost use Rattle.rational.specs.Width.{most};
+//! How a search ends, and what is claimed then. By [`leaf`] and [`branch`] it goes on, or is given up for want of memory.
+ghost use Rattle.std.specs.Prelude.{◌≡◌, ◌⊎◌, ℕ, ◌+◌, ◌-◌, ◌^◌, ◌<◌, false, Some, List, length, IfOk, IfErr};
 ghost use Rattle.evidence.specs.Instance.{Instance};
+ghost use Rattle.evidence.specs.Rounds.{Certificate};
+ghost use Rattle.instance.specs.Parts.{Parts};
 ghost use Rattle.certificate.specs.Meanings as Means;
 ghost use Rattle.certificate.specs.declared.causes.Cause.TheVariants.{Memory};
-ghost use Rattle.simplex_rules.specs.Ends.{Clock};
-ghost use Rattle.search_rules.specs.Search.{early, closed, too_wide as too_wide_at, closed_by_leaf as leaf_of, branch as branch_of};
+ghost use Rattle.case_tree.specs.Cuts.{HasNext};
+ghost use Rattle.search_rules.specs.Search.{early, too_wide as too_wide_at};
+ghost use Rattle.branch_bound.specs.declared.level.Level as levels;
 ghost use Rattle.branch_bound.specs.Claims.{ClaimTells, is_kill};
-ghost use Rattle.branch_bound.specs.Walks.{best as best_of, case, rest, moment, IsWalk, IsAt};
-ghost use Rattle.branch_bound.specs.Cases.{outcome_of, was_killed};
+ghost use Rattle.branch_bound.specs.Walks.{best as best_of, IsWalk, IsAt, IsClosedBy, IsDividedBy};
+ghost use Rattle.branch_bound.specs.Levels.{moment};
+ghost use Rattle.branch_bound.specs.Cases.{outcome_of, closed_by, was_killed, LacksMemory};
 
 use crate::ended::Ended;
 use crate::found::Found;
+use crate::level::Level;
 use crate::open::Open;
-use crate::walk::{Walk, close, split};
+use crate::walk::{Walk, close, divide};
 use certificate::{Cause, Cert, Certs, Claim, Node, Nodes, Place, Step};
-use items::Items;
-use std::alloc::{AllocError, Global};
 
 /// Gives the search up, with the walk's best point.
 pub fn give_up(walk: &mut Walk, cause: Cause) -> Ended
-    ensures told { outcome_of result ≡ early (best_of walk.old.best) cause }
+    ensures told { (cs : List Certificate) → outcome_of cs result ≡ early (best_of walk.old.best) cause }
     ensures killed { was_killed result ≡ is_kill cause }
 {
     let best = walk.best.take();
@@ -30,22 +32,22 @@ pub fn give_up(walk: &mut Walk, cause: Cause) -> Ended
 /// Gives the search up at a number of the case at hand that doesn't fit, after so many turns.
 pub fn too_wide(walk: &mut Walk, turn: u64, step: Step) -> Ended
     requires { length walk.old.nodes < 2 ^ 32 - 1 }
-    ensures told { (I : Instance) (looks : ℕ) → outcome_of result ≡ too_wide_at (moment I walk.old (record { turns = turn; looks = looks })) step }
+    ensures told { (cs : List Certificate) (p : Parts) (L D : Instance) (l : levels.Level) (looks : ℕ) → outcome_of cs result ≡ too_wide_at (moment p L D l walk.old (record { turns = turn; looks = looks })) step }
     ensures killed { was_killed result ≡ false }
 {
     let node = walk.nodes.len() as u32 + 1;
     give_up(walk, Cause::Wide(Place { node, turn, step }))
 }
 
-/// The claim of a search that ends before all its cases are closed.
-pub fn claim_of(alloc: Global, ended: Ended) -> Claim
-    ensures { ClaimTells result (outcome_of ended) }
+/// The claim of a search that ends before all its cases are closed, where these certificates showed the levels before.
+pub fn claim_of(ended: Ended, certs: Certs) -> Claim
+    ensures { ClaimTells result (outcome_of (Means.certificates certs) ended) }
 {
     match ended {
         Ended::Unbounded { found, ray } => Claim::Unbounded {
             point: found.point,
             values: found.values,
-            certs: Items::new(alloc),
+            certs,
             ray,
         },
         Ended::Early { best, cause } => match best {
@@ -59,28 +61,18 @@ pub fn claim_of(alloc: Global, ended: Ended) -> Claim
     }
 }
 
-/// The certificate with these nodes alone, in a list of its own.
-fn only(alloc: Global, nodes: Nodes) -> Result<Certs, AllocError>
-    ensures { IfOk result (λ certs. certs ≡ record { rounds = []; nodes = nodes } ∷ []) }
+/// The claim of a best point, where the cases of the last level have these nodes. Where there is no memory for it, the search is given
+/// up.
+fn told_best(found: Found, nodes: Nodes, level: Level) -> Claim
+    ensures { ClaimTells result (closed_by (Means.certificates level.certs) (record { rounds = Means.rounds level.rounds; nodes = Means.nodes nodes }) (best_of (Some found))) ⊎ ClaimTells result (early (best_of (Some found)) Memory) }
 {
-    let rounds = Items::new(alloc);
-    let mut certs = Certs::new(alloc);
-    certs.push(Cert { rounds, nodes })?;
-    Ok(certs)
-}
-
-/// The claim where all cases are closed. Where there is no memory for it, the search is given up.
-pub fn all_closed(alloc: Global, best: Option<Found>, nodes: Nodes) -> Claim
-    ensures { ClaimTells result (closed (best_of best) (Means.nodes nodes)) ⊎ ClaimTells result (early (best_of best) Memory) }
-{
-    let Some(found) = best else {
-        let rounds = Items::new(alloc);
-        return Claim::Infeasible {
-            cert: Cert { rounds, nodes },
-        };
+    let last = Cert {
+        rounds: level.rounds,
+        nodes,
     };
-    match only(alloc, nodes) {
-        Ok(certs) => Claim::Optimal {
+    let mut certs = level.certs;
+    match certs.push(last) {
+        Ok(()) => Claim::Optimal {
             point: found.point,
             values: found.values,
             certs,
@@ -93,12 +85,29 @@ pub fn all_closed(alloc: Global, best: Option<Found>, nodes: Nodes) -> Claim
     }
 }
 
+/// The claim where all cases of the last level are closed, or those of any where no point was found. Where there is no memory for it,
+/// the search is given up.
+pub fn all_closed(best: Option<Found>, nodes: Nodes, level: Level) -> Claim
+    ensures { ClaimTells result (closed_by (Means.certificates level.certs) (record { rounds = Means.rounds level.rounds; nodes = Means.nodes nodes }) (best_of best)) ⊎ ClaimTells result (early (best_of best) Memory) }
+{
+    match best {
+        Some(found) => told_best(found, nodes, level),
+        None => Claim::Infeasible {
+            cert: Cert {
+                rounds: level.rounds,
+                nodes,
+            },
+        },
+    }
+}
+
 /// Closes the case at hand by a leaf, and goes to the next one. Where there is no memory, the search is given up.
 pub fn leaf(walk: &mut Walk, depth: usize, node: Node) -> Result<(), Ended>
     requires { IsAt (length walk.old.cuts.items) walk.old depth }
     ensures walk { IfOk result (λ _. IsWalk (length walk.old.cuts.items) walk.new) }
-    ensures ok { IfOk result (λ _. (I : Instance) (c : Clock) → moment I walk.new c ≡ leaf_of (moment I walk.old c) (rest I walk.old depth) (Means.node node)) }
-    ensures err { IfErr result (λ ended. outcome_of ended ≡ early (best_of walk.old.best) Memory) }
+    ensures ok { IfOk result (λ _. IsClosedBy walk.old walk.new depth (Means.node node)) }
+    ensures one { IfOk result (λ _. length walk.new.nodes ≡ length walk.old.nodes + 1) }
+    ensures err { IfErr result (LacksMemory walk.old) }
     ensures went_on { IfErr result (λ ended. was_killed ended ≡ false) }
 {
     match close(walk, depth, node) {
@@ -107,18 +116,18 @@ pub fn leaf(walk: &mut Walk, depth: usize, node: Node) -> Result<(), Ended>
     }
 }
 
-/// Splits the case at hand, and goes to the first of its two cases. Where there is no memory, the search is given up.
+/// Divides the case at hand, and goes to the first of its two cases. Where there is no memory, the search is given up.
 pub fn branch(walk: &mut Walk, depth: usize, at: Open) -> Result<(), Ended>
     requires stands { IsAt (length walk.old.cuts.items) walk.old depth }
     requires inside { at.col < length walk.old.cuts.items }
-    requires low { neg_ℤ (pos most) ≤ℤ at.k }
-    requires high { at.k <ℤ pos most }
+    requires next { HasNext at.by }
     ensures walk { IfOk result (λ _. IsWalk (length walk.old.cuts.items) walk.new) }
-    ensures ok { IfOk result (λ _. (I : Instance) (c : Clock) → moment I walk.new c ≡ branch_of (moment I walk.old c) (case I walk.old) (rest I walk.old depth) at.col at.k) }
-    ensures err { IfErr result (λ ended. outcome_of ended ≡ early (best_of walk.old.best) Memory) }
+    ensures ok { IfOk result (λ _. IsDividedBy walk.old walk.new depth at.by at.col) }
+    ensures one { IfOk result (λ _. length walk.new.nodes ≡ length walk.old.nodes + 1) }
+    ensures err { IfErr result (LacksMemory walk.old) }
     ensures went_on { IfErr result (λ ended. was_killed ended ≡ false) }
 {
-    match split(walk, depth, at.col, at.k) {
+    match divide(walk, depth, at.col, at.by) {
         Ok(()) => Ok(()),
         Err(_) => Err(give_up(walk, Cause::Memory)),
     }

@@ -1,29 +1,33 @@
-// From a point of the case at hand on.
-ghost use Rattle.std.specs.Prelude.{◌≡◌, ℕ, false, length, IfOk, IfErr};
+//! From a point of the case at hand on.
+ghost use Rattle.std.specs.Prelude.{◌≡◌, ℕ, ◌+◌, ◌-◌, ◌^◌, ◌<◌, false, length, IfOk, IfErr};
 ghost use Rattle.evidence.specs.Instance as Of;
-ghost use Rattle.instance.specs.Program.{program};
+ghost use Rattle.evidence.specs.Instance.{width};
 ghost use Rattle.certificate.specs.Meanings as Means;
-ghost use Rattle.simplex.specs.Memory.{point_of};
-ghost use Rattle.simplex_rules.specs.Ends.{Clock};
-ghost use Rattle.search_rules.specs.Search.{To, Out, IsWholeBelow};
-ghost use Rattle.branch_bound.specs.Walks.{case, moment, IsWalk};
-ghost use Rattle.branch_bound.specs.Cases.{outcome_of, was_killed, IsWalkReady, clock_at, OrMemory, MeetsAt};
+ghost use Rattle.case_tree.specs.Cuts.{cut};
+ghost use Rattle.simplex.specs.Memory.{width_in, point_of};
+ghost use Rattle.simplex_rules.specs.Ends.{Terms, Clock};
+ghost use Rattle.search_rules.specs.Branching.{AreMetBelow};
+ghost use Rattle.search_rules.specs.Search.{To, Out};
+ghost use Rattle.branch_bound.specs.declared.level.Level as levels;
+ghost use Rattle.branch_bound.specs.Walks.{IsWalk, IsAt};
+ghost use Rattle.branch_bound.specs.Levels.{moment};
+ghost use Rattle.branch_bound.specs.Cases.{outcome_of, was_killed, clock_at, OrMemory, TakesAt, MeetsAt, HaveValues};
 
 use crate::claims::{branch, give_up, leaf, too_wide};
 use crate::ended::Ended;
-use crate::found::found_at;
+use crate::found::Found;
 use crate::open::first_open;
 use crate::points::read_point;
 use crate::relaxation::Relaxation;
-use crate::values::value_at;
+use crate::values::values_at;
 use crate::walk::Walk;
 use certificate::{Cause, Mults, Node, Step};
 use instance::Instance;
 use std::alloc::Global;
 use std::sync::ledger::Ledger;
 
-/// Takes a point that is whole where it must be as the best, or ends the search with it.
-fn take_point<L: Ledger>(
+/// Takes a point whose values are as they must be as the best, or ends the search with it.
+pub fn take_point<L: Ledger>(
     alloc: Global,
     instance: &Instance,
     relaxation: &Relaxation<L>,
@@ -31,11 +35,16 @@ fn take_point<L: Ledger>(
     walk: &mut Walk,
     depth: usize,
 ) -> Result<(), Ended>
-    requires ready { IsWalkReady instance.now relaxation.now walk.old depth }
-    requires whole { IsWholeBelow (case (program instance.now) walk.old) (point_of relaxation.now.work) (Of.width (case (program instance.now) walk.old)) }
+    requires width { width_in relaxation.now.work ≡ length instance.now.vars }
+    requires at { IsAt (length instance.now.vars) walk.old depth }
+    requires few { length walk.old.nodes < 2 ^ 32 - 1 }
+    requires met { (D : Of.Instance) → AreMetBelow (cut D walk.old.cuts.items) (point_of relaxation.now.work) (width (cut D walk.old.cuts.items)) }
+    requires values { HaveValues instance.now walk.old.best }
+    ensures values { IfOk result (λ _. HaveValues instance.now walk.new.best) }
     ensures walk { IfOk result (λ _. IsWalk (length instance.now.vars) walk.new) }
-    ensures ok { IfOk result (λ _. (c : Clock) → MeetsAt instance.now walk.old depth c (point_of relaxation.now.work) (Means.multipliers mults) (To (moment (program instance.now) walk.new c))) }
-    ensures err { IfErr result (λ ended. OrMemory walk.old ended ((looks : ℕ) → let c = clock_at relaxation.now looks in MeetsAt instance.now walk.old depth c (point_of relaxation.now.work) (Means.multipliers mults) (Out (outcome_of ended) c))) }
+    ensures one { IfOk result (λ _. length walk.new.nodes ≡ length walk.old.nodes + 1) }
+    ensures ok { IfOk result (λ _. (L D : Of.Instance) (l : levels.Level) (t : Terms) (c : Clock) → TakesAt instance.now L D l walk.old depth t c (point_of relaxation.now.work) (Means.multipliers mults) (To (moment instance.now L D l walk.new c))) }
+    ensures err { IfErr result (λ ended. OrMemory walk.old ended ((L D : Of.Instance) (l : levels.Level) (t : Terms) (looks : ℕ) → let c = clock_at relaxation.now looks in TakesAt instance.now L D l walk.old depth t c (point_of relaxation.now.work) (Means.multipliers mults) (Out (outcome_of (Means.certificates l.certs) ended) c))) }
     ensures went_on { IfErr result (λ ended. was_killed ended ≡ false) }
 {
     let width = instance.vars().len() as u32;
@@ -43,16 +52,14 @@ fn take_point<L: Ledger>(
         Ok(point) => point,
         Err(_) => return Err(give_up(walk, Cause::Memory)),
     };
-    let value = match value_at(instance, point.as_slice()) {
-        Ok(value) => value,
-        Err(_) => return Err(too_wide(walk, relaxation.turns.done, Step::Point)),
-    };
-    let found = match found_at(alloc, point, value) {
-        Ok(found) => found,
+    let values = match values_at(alloc, instance, point.as_slice()) {
+        Ok(Some(values)) => values,
+        Ok(None) => return Err(too_wide(walk, relaxation.turns.done, Step::Point)),
         Err(_) => return Err(give_up(walk, Cause::Memory)),
     };
+    let found = Found { point, values };
     match walk.ray.take() {
-        Some(ray) => return Err(Ended::Unbounded { found, ray }),
+        Some(at) => return Err(Ended::Unbounded { found, ray: at.ray }),
         None => {}
     }
     match leaf(walk, depth, Node::Bound(mults)) {
@@ -64,7 +71,7 @@ fn take_point<L: Ledger>(
     }
 }
 
-/// Goes on from the run's point: splits the case, or takes the point.
+/// Goes on from the run's point: divides the case, or takes the point.
 pub fn meet<L: Ledger>(
     alloc: Global,
     instance: &Instance,
@@ -73,15 +80,20 @@ pub fn meet<L: Ledger>(
     walk: &mut Walk,
     depth: usize,
 ) -> Result<(), Ended>
-    requires { IsWalkReady instance.now relaxation.now walk.old depth }
+    requires width { width_in relaxation.now.work ≡ length instance.now.vars }
+    requires at { IsAt (length instance.now.vars) walk.old depth }
+    requires few { length walk.old.nodes < 2 ^ 32 - 1 }
+    requires values { HaveValues instance.now walk.old.best }
+    ensures values { IfOk result (λ _. HaveValues instance.now walk.new.best) }
     ensures walk { IfOk result (λ _. IsWalk (length instance.now.vars) walk.new) }
-    ensures ok { IfOk result (λ _. (c : Clock) → MeetsAt instance.now walk.old depth c (point_of relaxation.now.work) (Means.multipliers mults) (To (moment (program instance.now) walk.new c))) }
-    ensures err { IfErr result (λ ended. OrMemory walk.old ended ((looks : ℕ) → let c = clock_at relaxation.now looks in MeetsAt instance.now walk.old depth c (point_of relaxation.now.work) (Means.multipliers mults) (Out (outcome_of ended) c))) }
+    ensures one { IfOk result (λ _. length walk.new.nodes ≡ length walk.old.nodes + 1) }
+    ensures ok { IfOk result (λ _. (L D : Of.Instance) (l : levels.Level) (t : Terms) (c : Clock) → MeetsAt instance.now L D l walk.old depth t c (point_of relaxation.now.work) (Means.multipliers mults) (To (moment instance.now L D l walk.new c))) }
+    ensures err { IfErr result (λ ended. OrMemory walk.old ended ((L D : Of.Instance) (l : levels.Level) (t : Terms) (looks : ℕ) → let c = clock_at relaxation.now looks in MeetsAt instance.now L D l walk.old depth t c (point_of relaxation.now.work) (Means.multipliers mults) (Out (outcome_of (Means.certificates l.certs) ended) c))) }
     ensures went_on { IfErr result (λ ended. was_killed ended ≡ false) }
 {
     let _few = instance.vars();
     match first_open(&relaxation.work, walk.cuts.as_slice()) {
-        Some(at) => return branch(walk, depth, at),
-        None => return take_point(alloc, instance, relaxation, mults, walk, depth),
+        Some(at) => branch(walk, depth, at),
+        None => take_point(alloc, instance, relaxation, mults, walk, depth),
     }
 }

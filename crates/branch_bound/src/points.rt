@@ -1,4 +1,4 @@
-// What the last run found: its point, its multipliers and its direction.
+//! What the last run found: its point, its multipliers and its direction.
 ghost use Rattle.std.specs.Prelude.{◌≡◌, ◌+◌, ◌<◌, ◌++◌, length, IfOk};
 ghost use Rattle.fraction.specs.Frac.{ratio, ratios};
 ghost use Rattle.evidence.specs.Point.{value_at};
@@ -44,7 +44,7 @@ pub fn read_point<L: Ledger>(alloc: Global, work: &Work<L>, width: u32) -> Resul
 }
 
 /// Adds a column's multiplier, unless it is 0.
-fn add(mults: &mut Mults, col: u32, value: Frac) -> Result<(), AllocError>
+pub fn add(mults: &mut Mults, col: u32, value: Frac) -> Result<(), AllocError>
     ensures { IfOk result (λ _. Means.multipliers mults.new ≡ Means.multipliers mults.old ++ one_of col value.numer (ratio value)) }
 {
     if value.numer == 0 {

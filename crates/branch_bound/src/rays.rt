@@ -1,4 +1,4 @@
-// The ray of the direction that a run found.
+//! The ray of the direction that a run found.
 ghost use Rattle.std.specs.Prelude.{◌≡◌, ℕ, ◌≤◌, pos, ◌<ℤ◌, unsigned_abs, length, IfOk, OnErr, MatchOption, List};
 ghost use Rattle.rational.specs.Ratio.{Ratio};
 ghost use Rattle.fraction.specs.Frac.{ratio, ratios};

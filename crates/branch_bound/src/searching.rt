@@ -1,29 +1,36 @@
-// The search, case by case.
-ghost use Rattle.std.specs.Prelude.{◌≡◌, ℕ, ◌+◌, ◌-◌, ◌^◌, ◌<◌, ◌≤◌, Bool, false, Option, Some, length, map, IfOk};
-ghost use Rattle.instance.specs.Program.{program, variable};
+//! The search, case by case.
+ghost use Rattle.std.specs.Prelude.{◌≡◌, ◌⊎◌, ℕ, ◌+◌, ◌-◌, ◌^◌, ◌<◌, ◌≤◌, Bool, false, Option, None, Some, [], length, map, IfOk};
+ghost use Rattle.fraction.specs.Frac.{ratio, ratios};
+ghost use Rattle.evidence.specs.Point.{value_at};
+ghost use Rattle.instance.specs.Program.{program, problem, variable};
 ghost use Rattle.certificate.specs.declared.causes.Cause.TheVariants as causes;
 ghost use Rattle.case_tree.specs.Cuts.{cut_variable};
 ghost use Rattle.simplex.specs.Answers.{was_stopped};
 ghost use Rattle.simplex_rules.specs.Looks.{answers, AgreesWith, looks_after};
-ghost use Rattle.search_rules.specs.Search.{Outcome, IsSearchAnswer, first};
-ghost use Rattle.search_rules.specs.Outcomes.{IsPlain};
+ghost use Rattle.search_rules.specs.Search.{Outcome, IsSearchAnswer};
+ghost use Rattle.search_rules.specs.Outcomes.{IsPlain, HaveOneRange};
 ghost use Rattle.no_cycles.specs.Beginning.{BeginsFeasible};
 ghost use Rattle.branch_bound.specs.Claims.{ClaimTells, claimed_cause, is_killed};
-ghost use Rattle.branch_bound.specs.Walks.{moment, IsWalk, IsAt};
-ghost use Rattle.branch_bound.specs.Cases.{terms, HasSize, clock_at, is_killed_by, FollowsStep};
+ghost use Rattle.branch_bound.specs.Walks.{IsWalk, IsAt};
+ghost use Rattle.branch_bound.specs.Trials.{IsFresh};
+ghost use Rattle.branch_bound.specs.declared.found.Found as points;
+ghost use Rattle.branch_bound.specs.Cases.{terms, HasSize, SuitsLevel, StartsFresh, AreWithin, HasGoneOn, CarriesOn, clock_at, is_killed_by, HaveValues};
 
+use crate::asking::{next_goal, value_to_reach};
 use crate::claims::{all_closed, claim_of, give_up};
 use crate::ended::Ended;
+use crate::level::Level;
 use crate::limits::Limits;
-use crate::relaxation::{Relaxation, run_case};
+use crate::relaxation::{Relaxation, make_work, run_case};
 use crate::visit::visit;
 use crate::walk::Walk;
 use case_tree::{Cut, uncut};
-use certificate::{Cause, Claim, Nodes};
+use certificate::{Cause, Certs, Claim, Nodes, Rounds};
 use dictionary::Steps;
+use fraction::Frac;
 use instance::{Instance, Var};
 use os_io::Watch;
-use simplex::{Cuts, LpEnd, Turns, Work};
+use simplex::{Cuts, LpEnd, Turns};
 use std::alloc::{AllocError, Global};
 use std::sync::ledger::Ledger;
 
@@ -47,24 +54,25 @@ fn step<W: Watch, L: Ledger>(
     instance: &Instance,
     limits: Limits,
     relaxation: &mut Relaxation<L>,
+    level: &mut Level,
     walk: &mut Walk,
     depth: usize,
     watch: &mut W,
     steps: &mut Steps<L>,
 ) -> Result<(), Ended>
-    requires size { HasSize instance.now relaxation.old }
+    requires suits { SuitsLevel instance.now relaxation.old level.old }
     requires most { relaxation.old.turns.most ≡ limits.turns }
     requires at { IsAt (length instance.now.vars) walk.old depth }
+    requires fresh { StartsFresh instance.now walk.old }
+    requires within { AreWithin limits level.old walk.old }
     requires stops { W.stops watch.old < 2 ^ 64 - 1 }
-    ensures size { HasSize instance.now relaxation.new }
+    requires values { HaveValues instance.now walk.old.best }
+    ensures on { IfOk result (λ _. HasGoneOn instance.now limits level.old walk.old relaxation.new level.new walk.new) }
     ensures most { relaxation.new.turns.most ≡ limits.turns }
-    ensures walk { IfOk result (λ _. IsWalk (length instance.now.vars) walk.new) }
-    ensures one { IfOk result (λ _. length walk.new.nodes ≡ length walk.old.nodes + 1) }
-    ensures within { IfOk result (λ _. length walk.old.nodes < limits.nodes) }
-    ensures next { (n : ℕ) × (killed : Bool) × (is_killed_by result ≡ killed) × W.came watch.old watch.new (answers n killed) × ((looks : ℕ) (stop : Option ℕ) → AgreesWith stop looks n killed → FollowsStep instance.now (terms limits stop) (clock_at relaxation.old looks) (clock_at relaxation.new (looks_after looks n killed)) walk.old walk.new result) }
+    ensures moments { (n : ℕ) × (killed : Bool) × (is_killed_by result ≡ killed) × W.came watch.old watch.new (answers n killed) × CarriesOn instance.now limits relaxation.old level.old walk.old relaxation.new level.new walk.new n killed result }
     ensures counted { steps.old ≤ steps.new }
 {
-    if walk.nodes.len() >= limits.nodes as usize {
+    if level.before + walk.nodes.len() >= limits.nodes as usize {
         return Err(give_up(walk, Cause::NodeLimit(limits.nodes)));
     }
     if watch.look() {
@@ -82,10 +90,160 @@ fn step<W: Watch, L: Ledger>(
     if is_stop(end) {
         return Err(give_up(walk, Cause::Killed));
     }
-    visit(alloc, instance, limits, relaxation, end, walk, depth)
+    visit(
+        alloc, instance, limits, relaxation, level, end, walk, depth, steps,
+    )
 }
 
-/// Searches the cases, one after the other.
+/// Searches the cases of a level, one after the other.
+fn search_level<W: Watch, L: Ledger>(
+    alloc: Global,
+    instance: &Instance,
+    limits: Limits,
+    relaxation: &mut Relaxation<L>,
+    level: &mut Level,
+    walk: &mut Walk,
+    watch: &mut W,
+    steps: &mut Steps<L>,
+) -> Result<(), Ended>
+    requires suits { SuitsLevel instance.now relaxation.old level.old }
+    requires most { relaxation.old.turns.most ≡ limits.turns }
+    requires walk { IsWalk (length instance.now.vars) walk.old }
+    requires fresh { StartsFresh instance.now walk.old }
+    requires within { AreWithin limits level.old walk.old }
+    requires values { HaveValues instance.now walk.old.best }
+    requires stops { W.stops watch.old < 2 ^ 64 - 1 }
+    ensures suits { IfOk result (λ _. SuitsLevel instance.now relaxation.new level.new) }
+    ensures most { relaxation.new.turns.most ≡ limits.turns }
+    ensures walk { IfOk result (λ _. IsWalk (length instance.now.vars) walk.new) }
+    ensures closed { IfOk result (λ _. walk.new.next ≡ None) }
+    ensures values { IfOk result (λ _. HaveValues instance.now walk.new.best) }
+    ensures within { IfOk result (λ _. AreWithin limits level.new walk.new) }
+    ensures goal { IfOk result (λ _. level.new.goal ≡ level.old.goal) }
+    ensures moments { (n : ℕ) × (killed : Bool) × (is_killed_by result ≡ killed) × W.came watch.old watch.new (answers n killed) × CarriesOn instance.now limits relaxation.old level.old walk.old relaxation.new level.new walk.new n killed result }
+    ensures counted { steps.old ≤ steps.new }
+{
+    while let Some(depth) = walk.next {
+        match step(
+            alloc, instance, limits, relaxation, level, walk, depth, watch, steps,
+        ) {
+            Ok(()) => {}
+            Err(ended) => return Err(ended),
+        }
+    }
+    Ok(())
+}
+
+/// Asks the next goal, and searches its level.
+fn search_next<W: Watch, L: Ledger>(
+    alloc: Global,
+    instance: &Instance,
+    limits: Limits,
+    relaxation: &mut Relaxation<L>,
+    level: &mut Level,
+    walk: &mut Walk,
+    value: Frac,
+    watch: &mut W,
+    steps: &mut Steps<L>,
+) -> Result<(), Ended>
+    requires suits { SuitsLevel instance.now relaxation.old level.old }
+    requires most { relaxation.old.turns.most ≡ limits.turns }
+    requires within { AreWithin limits level.old walk.old }
+    requires walk { IsWalk (length instance.now.vars) walk.old }
+    requires later { level.old.goal + 1 < length instance.now.goals }
+    requires closed { walk.old.next ≡ None }
+    requires value { (f : points.Found) × (walk.old.best ≡ Some f) × (value_at (ratios f.values) level.old.goal ≡ ratio value) }
+    requires values { HaveValues instance.now walk.old.best }
+    requires stops { W.stops watch.old < 2 ^ 64 - 1 }
+    ensures suits { IfOk result (λ _. SuitsLevel instance.now relaxation.new level.new) }
+    ensures most { relaxation.new.turns.most ≡ limits.turns }
+    ensures within { IfOk result (λ _. AreWithin limits level.new walk.new) }
+    ensures walk { IfOk result (λ _. IsWalk (length instance.now.vars) walk.new) }
+    ensures closed { IfOk result (λ _. walk.new.next ≡ None) }
+    ensures values { IfOk result (λ _. HaveValues instance.now walk.new.best) }
+    ensures goal { IfOk result (λ _. level.new.goal ≡ level.old.goal + 1) }
+    ensures moments { (n : ℕ) × (killed : Bool) × (is_killed_by result ≡ killed) × W.came watch.old watch.new (answers n killed) × CarriesOn instance.now limits relaxation.old level.old walk.old relaxation.new level.new walk.new n killed result }
+    ensures counted { steps.old ≤ steps.new }
+{
+    match next_goal(
+        alloc, instance, limits, relaxation, level, walk, value, watch,
+    ) {
+        Ok(()) => search_level(
+            alloc, instance, limits, relaxation, level, walk, watch, steps,
+        ),
+        Err(ended) => Err(ended),
+    }
+}
+
+/// Searches the levels after one whose cases are closed, one after the other, up to the last or to one without a point.
+fn search_later<W: Watch, L: Ledger>(
+    alloc: Global,
+    instance: &Instance,
+    limits: Limits,
+    relaxation: &mut Relaxation<L>,
+    level: &mut Level,
+    walk: &mut Walk,
+    watch: &mut W,
+    steps: &mut Steps<L>,
+) -> Result<(), Ended>
+    requires suits { SuitsLevel instance.now relaxation.old level.old }
+    requires most { relaxation.old.turns.most ≡ limits.turns }
+    requires within { AreWithin limits level.old walk.old }
+    requires walk { IsWalk (length instance.now.vars) walk.old }
+    requires closed { walk.old.next ≡ None }
+    requires values { HaveValues instance.now walk.old.best }
+    requires stops { W.stops watch.old < 2 ^ 64 - 1 }
+    ensures most { relaxation.new.turns.most ≡ limits.turns }
+    ensures closed { IfOk result (λ _. walk.new.next ≡ None) }
+    ensures last { IfOk result (λ _. walk.new.best ≡ None ⊎ length instance.now.goals < level.new.goal + 2) }
+    ensures moments { (n : ℕ) × (killed : Bool) × (is_killed_by result ≡ killed) × W.came watch.old watch.new (answers n killed) × CarriesOn instance.now limits relaxation.old level.old walk.old relaxation.new level.new walk.new n killed result }
+    ensures counted { steps.old ≤ steps.new }
+{
+    while let Some(value) = value_to_reach(instance, level, &walk.best) {
+        match search_next(
+            alloc, instance, limits, relaxation, level, walk, value, watch, steps,
+        ) {
+            Ok(()) => {}
+            Err(ended) => return Err(ended),
+        }
+    }
+    Ok(())
+}
+
+/// Searches the levels, from the first one on.
+fn search_levels<W: Watch, L: Ledger>(
+    alloc: Global,
+    instance: &Instance,
+    limits: Limits,
+    relaxation: &mut Relaxation<L>,
+    level: &mut Level,
+    walk: &mut Walk,
+    watch: &mut W,
+    steps: &mut Steps<L>,
+) -> Result<(), Ended>
+    requires suits { SuitsLevel instance.now relaxation.old level.old }
+    requires most { relaxation.old.turns.most ≡ limits.turns }
+    requires within { AreWithin limits level.old walk.old }
+    requires walk { IsWalk (length instance.now.vars) walk.old }
+    requires fresh { StartsFresh instance.now walk.old }
+    requires values { HaveValues instance.now walk.old.best }
+    requires stops { W.stops watch.old < 2 ^ 64 - 1 }
+    ensures closed { IfOk result (λ _. walk.new.next ≡ None) }
+    ensures last { IfOk result (λ _. walk.new.best ≡ None ⊎ length instance.now.goals < level.new.goal + 2) }
+    ensures moments { (n : ℕ) × (killed : Bool) × (is_killed_by result ≡ killed) × W.came watch.old watch.new (answers n killed) × CarriesOn instance.now limits relaxation.old level.old walk.old relaxation.new level.new walk.new n killed result }
+    ensures counted { steps.old ≤ steps.new }
+{
+    match search_level(
+        alloc, instance, limits, relaxation, level, walk, watch, steps,
+    ) {
+        Ok(()) => search_later(
+            alloc, instance, limits, relaxation, level, walk, watch, steps,
+        ),
+        Err(ended) => Err(ended),
+    }
+}
+
+/// Searches an instance's levels, and claims what that shows.
 fn explore<W: Watch, L: Ledger>(
     alloc: Global,
     instance: &Instance,
@@ -96,22 +254,29 @@ fn explore<W: Watch, L: Ledger>(
     steps: &mut Steps<L>,
 ) -> Claim
     requires size { HasSize instance.now relaxation.old }
+    requires ends { relaxation.old.ends.rows ≡ [] }
+    requires goal { relaxation.old.ends.goal ≡ 0 }
+    requires rows { relaxation.old.rows.items ≡ [] }
     requires turns { relaxation.old.turns ≡ record { done = 0; most = limits.turns } }
     requires walk { IsWalk (length instance.now.vars) walk }
-    requires first { moment (program instance.now) walk (clock_at relaxation.old 0) ≡ first (program instance.now) }
+    requires fresh { IsFresh instance.now walk }
+    requires first { (walk.best ≡ None) × (walk.ray ≡ None) }
     requires stops { W.stops watch.old < 2 ^ 64 - 1 }
-    ensures answer { (n : ℕ) × (o : Outcome) × ClaimTells result o × W.came watch.old watch.new (answers n (is_killed o)) × ((stop : Option ℕ) → AgreesWith stop 0 n (is_killed o) → IsSearchAnswer (program instance.now) (terms limits stop) o (clock_at relaxation.new (looks_after 0 n (is_killed o)))) }
+    ensures answer { (n : ℕ) × (o : Outcome) × ClaimTells result o × W.came watch.old watch.new (answers n (is_killed o)) × ((stop : Option ℕ) → AgreesWith stop 0 n (is_killed o) → IsSearchAnswer (problem instance.now) (terms limits stop) o (clock_at relaxation.new (looks_after 0 n (is_killed o)))) }
     ensures counted { steps.old ≤ steps.new }
 {
-    while let Some(depth) = walk.next {
-        match step(
-            alloc, instance, limits, relaxation, &mut walk, depth, watch, steps,
-        ) {
-            Ok(()) => {}
-            Err(ended) => return claim_of(alloc, ended),
-        }
+    let mut level = Level {
+        goal: 0,
+        certs: Certs::new(alloc),
+        rounds: Rounds::new(alloc),
+        before: 0,
+    };
+    match search_levels(
+        alloc, instance, limits, relaxation, &mut level, &mut walk, watch, steps,
+    ) {
+        Ok(()) => all_closed(walk.best, walk.nodes, level),
+        Err(ended) => claim_of(ended, level.certs),
     }
-    all_closed(alloc, walk.best, walk.nodes)
 }
 
 /// Memory for the runs of a search that begins.
@@ -121,16 +286,27 @@ fn relax<L: Ledger>(
     turns: u32,
 ) -> Result<Relaxation<L>, AllocError>
     ensures size { IfOk result (λ r. HasSize instance.now r) }
+    ensures ends { IfOk result (λ r. r.ends.rows ≡ []) }
+    ensures goal { IfOk result (λ r. r.ends.goal ≡ 0) }
+    ensures rows { IfOk result (λ r. r.rows.items ≡ []) }
     ensures turns { IfOk result (λ r. r.turns ≡ record { done = 0; most = turns }) }
 {
     let vars = instance.vars();
-    let work = Work::for_size(alloc, vars.len() as u32, instance.rows().len() as u32)?;
+    let work = make_work(alloc, instance, 0)?;
     let ends = Cuts::of(alloc, vars)?;
     let turns = Turns {
         done: 0,
         most: u64::from(turns),
     };
-    Ok(Relaxation { work, ends, turns })
+    let rows = Vec::new(alloc);
+    let slots = vec![in alloc; None; vars.len()]?;
+    Ok(Relaxation {
+        work,
+        ends,
+        turns,
+        rows,
+        slots,
+    })
 }
 
 /// The variables before any branch.
@@ -147,7 +323,8 @@ fn uncut_all(alloc: Global, vars: &[Var]) -> Result<Vec<Cut>, AllocError>
 /// The walk before its first case, which is the instance itself.
 fn begin(alloc: Global, instance: &Instance) -> Result<Walk, AllocError>
     ensures walk { IfOk result (λ w. IsWalk (length instance.now.vars) w) }
-    ensures first { IfOk result (λ w. moment (program instance.now) w (record { turns = 0; looks = 0 }) ≡ first (program instance.now)) }
+    ensures fresh { IfOk result (λ w. IsFresh instance.now w) }
+    ensures first { IfOk result (λ w. (w.best ≡ None) × (w.ray ≡ None)) }
 {
     Ok(Walk {
         cuts: uncut_all(alloc, instance.vars())?,
@@ -159,25 +336,34 @@ fn begin(alloc: Global, instance: &Instance) -> Result<Walk, AllocError>
     })
 }
 
-/// Searches an instance for a best point, within at most `nodes` cases, and `turns` turns in all runs. The watch is
-/// asked before each case and after each 64th turn; `steps` counts each entry of the runs' dictionaries that is read or written.
+/// Searches an instance for a point that is best by its goals in their order, within at most `nodes` cases, and `turns` turns in
+/// all runs; of an instance with one goal at most `rounds` rounding cuts are derived before the first branch. The watch is asked
+/// once before each run of a case, be it the first or one with a cut more, and after each 64th turn; `steps` counts each entry of the
+/// runs' dictionaries that is read or written.
 ///
-/// Where no variable is whole, and the variables' first values keep each row between its ends, a limit of as many turns as there
-/// are ways for each column to be basic or to have one of three places is never what the search is given up for (Bland, 1977).
+/// Where an instance has one goal, no variable is whole or may be 0 besides, and the variables' first values keep each row between its
+/// ends, a limit of as many turns as there are ways for each column to be basic or to have one of three places is never what
+/// the search is given up for (Bland, 1977).
 pub fn search<W: Watch, L: Ledger>(
     alloc: Global,
     instance: &Instance,
     nodes: u32,
     turns: u32,
+    rounds: u32,
     watch: &mut W,
     steps: &mut Steps<L>,
 ) -> Searched
     requires { W.stops watch.old < 2 ^ 64 - 1 }
-    ensures answer { (n : ℕ) × (o : Outcome) × ClaimTells result.claim o × W.came watch.old watch.new (answers n (is_killed o)) × ((stop : Option ℕ) → AgreesWith stop 0 n (is_killed o) → IsSearchAnswer (program instance.now) (record { nodes = nodes; turns = turns; stop = stop }) o (record { turns = result.turns; looks = looks_after 0 n (is_killed o) })) }
-    ensures enough { IsPlain (program instance.now) → BeginsFeasible (program instance.now) → 4 ^ (length instance.now.vars + length instance.now.rows) ≤ turns → (n : ℕ) → claimed_cause result.claim ≡ Some (causes.TurnLimit n) → ⊥ }
+    ensures answer { (n : ℕ) × (o : Outcome) × ClaimTells result.claim o × W.came watch.old watch.new (answers n (is_killed o)) × ((stop : Option ℕ) → AgreesWith stop 0 n (is_killed o) → IsSearchAnswer (problem instance.now) (record { nodes = nodes; turns = turns; rounds = rounds; stop = stop }) o (record { turns = result.turns; looks = looks_after 0 n (is_killed o) })) }
+    ensures enough { length instance.now.goals ≡ 1 → IsPlain (program instance.now) → HaveOneRange (program instance.now) → BeginsFeasible (program instance.now) → 4 ^ (length instance.now.vars + length instance.now.rows) ≤ turns → (n : ℕ) → claimed_cause result.claim ≡ Some (causes.TurnLimit n) → ⊥ }
     ensures counted { steps.old ≤ steps.new }
 {
     let cause = Cause::Memory;
+    let limits = Limits {
+        nodes,
+        turns,
+        rounds,
+    };
     let mut relaxation = match relax(alloc, instance, turns) {
         Ok(relaxation) => relaxation,
         Err(_) => {
@@ -196,7 +382,6 @@ pub fn search<W: Watch, L: Ledger>(
             }
         }
     };
-    let limits = Limits { nodes, turns };
     let claim = explore(alloc, instance, limits, &mut relaxation, walk, watch, steps);
     Searched {
         claim,

@@ -1,13 +1,10 @@
-// The walk through the cases of a search.
-ghost use Rattle.std.specs.Prelude.{◌≡◌, ℕ, ◌+◌, ◌<◌, ◌≤◌, List, length, pos, neg_ℤ, ◌≤ℤ◌, ◌<ℤ◌, IfOk, OnErr, vec_len};
-ghost use Rattle.rational.specs.Width.{most};
+//! The walk through the cases of a level.
+ghost use Rattle.std.specs.Prelude.{◌≡◌, ℕ, ◌+◌, ◌<◌, ◌≤◌, ◌++◌, cond, None, List, [], ◌∷◌, length, IfOk, vec_len};
 ghost use Rattle.evidence.specs.Instance.{Instance};
 ghost use Rattle.certificate.specs.Meanings as Means;
 ghost use Rattle.case_tree.specs.declared.cuts.Cut.{Cut as OneCut};
-ghost use Rattle.case_tree.specs.Cuts.{pending, AreBranches};
-ghost use Rattle.simplex_rules.specs.Ends.{Clock};
-ghost use Rattle.search_rules.specs.Search.{closed_by_leaf, branch};
-ghost use Rattle.branch_bound.specs.Walks.{case, rest, moment, IsWalk, IsAt};
+ghost use Rattle.case_tree.specs.Cuts.{pending, pending_places, branch_at, HasNext, HaveOneDivision, AreBranches};
+ghost use Rattle.branch_bound.specs.Walks.{case, rest, waiting, divided_cases_by, node_by, keeps_ray, IsWalk, IsAt};
 
 use crate::found::Found;
 use case_tree::{Branch, Cut, Division, back, cases_come_of_branches_above, enter};
@@ -16,8 +13,15 @@ use fraction::End;
 use instance::Row;
 use std::alloc::AllocError;
 
-/// Where a search stands: the variables of the case at hand, the branches above it, how many of them count, the nodes so far,
-/// the best point, and the ray.
+/// A ray, and how many branches were above the case whose direction gave it.
+#[derive(Drop)]
+pub struct RayAt {
+    pub ray: Ray,
+    pub depth: usize,
+}
+
+/// Where the search of a level stands: the variables of the case at hand, the branches above it, how many of them count, the nodes
+/// so far, the best point, and the ray of the cases below the one whose direction gave it.
 #[derive(Drop)]
 pub struct Walk {
     pub cuts: Vec<Cut>,
@@ -25,15 +29,39 @@ pub struct Walk {
     pub next: Option<usize>,
     pub nodes: Nodes,
     pub best: Option<Found>,
-    pub ray: Option<Ray>,
+    pub ray: Option<RayAt>,
+}
+
+/// Whether the case that comes next is below the one whose direction gave the ray.
+fn keeps_ray(ray: &Option<RayAt>, next: Option<usize>) -> bool
+    ensures { result ≡ keeps_ray ray.now next }
+{
+    match ray {
+        Some(at) => match next {
+            Some(depth) => at.depth < depth,
+            None => false,
+        },
+        None => false,
+    }
+}
+
+/// Keeps the ray where the case that comes next has it.
+fn forget_ray(ray: &mut Option<RayAt>, next: Option<usize>)
+    ensures { ray.new ≡ cond (keeps_ray ray.old next) ray.old None }
+{
+    if keeps_ray(ray, next) {
+        return;
+    }
+    *ray = None;
 }
 
 /// Closes the case at hand by a leaf, and goes to the next one.
 pub fn close(walk: &mut Walk, depth: usize, node: Node) -> Result<(), AllocError>
     requires { IsAt (length walk.old.cuts.items) walk.old depth }
-    ensures ok { IfOk result (λ _. (I : Instance) (c : Clock) → moment I walk.new c ≡ closed_by_leaf (moment I walk.old c) (rest I walk.old depth) (Means.node node)) }
+    ensures nodes { IfOk result (λ _. Means.nodes walk.new.nodes ≡ Means.nodes walk.old.nodes ++ Means.node node ∷ []) }
+    ensures waiting { IfOk result (λ _. (I : Instance) → waiting I walk.new walk.new.next ≡ rest I walk.old depth) }
     ensures walk { IfOk result (λ _. IsWalk (length walk.old.cuts.items) walk.new) }
-    ensures err { OnErr result (walk.new.best ≡ walk.old.best) }
+    ensures best { walk.new.best ≡ walk.old.best }
 {
     walk.nodes.push(node)?;
     walk.next = back(
@@ -41,6 +69,7 @@ pub fn close(walk: &mut Walk, depth: usize, node: Node) -> Result<(), AllocError
         walk.branches.as_mut_slice(),
         depth,
     );
+    forget_ray(&mut walk.ray, walk.next);
     Ok(())
 }
 
@@ -49,6 +78,8 @@ fn make_room(branches: &mut Vec<Branch>, depth: usize, filler: Branch) -> Result
     requires { depth ≤ vec_len branches.old }
     ensures room { IfOk result (λ _. depth < vec_len branches.new) }
     ensures same { (I : Instance) (cs : List OneCut) → pending I cs branches.new.items depth ≡ pending I cs branches.old.items depth }
+    ensures places { pending_places branches.new.items depth ≡ pending_places branches.old.items depth }
+    ensures divisions { (e : ℕ) → e < depth → HaveOneDivision (branch_at branches.old.items e) (branch_at branches.new.items e) }
     ensures above { (n : ℕ) → AreBranches n branches.old.items depth → AreBranches n branches.new.items depth }
 {
     cases_come_of_branches_above();
@@ -58,17 +89,26 @@ fn make_room(branches: &mut Vec<Branch>, depth: usize, filler: Branch) -> Result
     Ok(())
 }
 
-/// Splits the case at hand, and goes to the first of its two cases.
-pub fn split(walk: &mut Walk, depth: usize, col: u32, k: i128) -> Result<(), AllocError>
+/// The node of a division.
+fn node_of(col: u32, by: Division) -> Node
+    ensures { Means.node result ≡ node_by by col }
+{
+    match by {
+        Division::Split(k) => Node::Split { col, k },
+        Division::Zero => Node::Zero { col },
+    }
+}
+
+/// Divides the case at hand, and goes to the first of its two cases.
+pub fn divide(walk: &mut Walk, depth: usize, col: u32, by: Division) -> Result<(), AllocError>
     requires at { IsAt (length walk.old.cuts.items) walk.old depth }
     requires inside { col < length walk.old.cuts.items }
-    requires low { neg_ℤ (pos most) ≤ℤ k }
-    requires high { k <ℤ pos most }
-    ensures ok { IfOk result (λ _. (I : Instance) (c : Clock) → moment I walk.new c ≡ branch (moment I walk.old c) (case I walk.old) (rest I walk.old depth) col k) }
+    requires next { HasNext by }
+    ensures nodes { IfOk result (λ _. Means.nodes walk.new.nodes ≡ Means.nodes walk.old.nodes ++ node_by by col ∷ []) }
+    ensures waiting { IfOk result (λ _. (I : Instance) → waiting I walk.new walk.new.next ≡ divided_cases_by by (case I walk.old depth) col (rest I walk.old depth)) }
     ensures walk { IfOk result (λ _. IsWalk (length walk.old.cuts.items) walk.new) }
-    ensures err { OnErr result (walk.new.best ≡ walk.old.best) }
+    ensures best { walk.new.best ≡ walk.old.best }
 {
-    let by = Division::Split(k);
     let filler = Branch {
         col,
         by,
@@ -79,7 +119,7 @@ pub fn split(walk: &mut Walk, depth: usize, col: u32, k: i128) -> Result<(), All
         is_second: false,
     };
     make_room(&mut walk.branches, depth, filler)?;
-    walk.nodes.push(Node::Split { col, k })?;
+    walk.nodes.push(node_of(col, by))?;
     enter(
         walk.cuts.as_mut_slice(),
         walk.branches.as_mut_slice(),

@@ -1,13 +1,16 @@
-use Rattle.std.proofs.Common.{rules, ◌≡◌, ℤ, subst}
-use mir.Val.{SFits}
-use mir.Syntax.{w128}
-use Rattle.std.proofs.Math.Facts.{to_z-of_z}
-use Rattle.search_rules.specs.Search.{branch as branch_of}
-use Rattle.branch_bound.specs.Walks.{case, rest, moment}
+use Rattle.std.proofs.Common.{Option, ap, ◌∙◌}
+use Rattle.certificate.specs.declared.causes.Cause.TheVariants.{Memory}
+use Rattle.search_rules.specs.Search.{early}
+use Rattle.branch_bound.specs.declared.found.Found.{Found}
+use Rattle.branch_bound.specs.Walks.{best, node_by}
+use Rattle.branch_bound.proofs.Moments.{node_more}
 use Rattle.branch_bound.proofs.claims.branch.Goals as goal
 
 pub returns-in-Ok-clause-ok : goal.returns-in-Ok-clause-ok
-returns-in-Ok-clause-ok c = λ I at.
-    let w = c.args.walk.now in
-    let f : SFits w128 c.args.at.k = search rules in
-    subst (λ (z : ℤ). moment I c.split.new.walk at ≡ branch_of (moment I w at) (case I w) (rest I w c.args.depth) c.args.at.col z) (to_z-of_z f) (c.in-Ok.ensures.ok I at)
+returns-in-Ok-clause-ok c = record { nodes = c.in-Ok.ensures.nodes; cases = c.in-Ok.ensures.waiting; point = c.divide.ensures.best }
+
+pub returns-in-Ok-clause-one : goal.returns-in-Ok-clause-one
+returns-in-Ok-clause-one c = node_more c.args.walk.now.nodes c.divide.new.walk.nodes (node_by c.args.at.by c.args.at.col) c.in-Ok.ensures.nodes
+
+pub returns-in-Err-clause-err : goal.returns-in-Err-clause-err
+returns-in-Err-clause-err c = λ cs. c.give_up.ensures.told cs ∙ ap (λ (b : Option Found). early (best b) Memory) c.divide.ensures.best

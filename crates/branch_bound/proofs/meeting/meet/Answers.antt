@@ -1,35 +1,49 @@
-use Rattle.std.proofs.Common.{arith}
+use Rattle.std.proofs.Common.{inl, inr, arith}
 use Rattle.std.proofs.lemmas.List.{length-map}
-use Rattle.certificate.specs.Meanings as Means
 use Rattle.instance.specs.Program.{program}
-use Rattle.case_tree.specs.Cuts.{cut_variable}
-use Rattle.simplex.specs.Memory.{point_of}
-use Rattle.branch_bound.specs.Walks as Walks
 use Rattle.instance.proofs.Terms.{if_ok}
-use Rattle.branch_bound.proofs.PointSteps.{meets_split}
+use Rattle.case_tree.specs.Cuts.{cut, cut_variable}
+use Rattle.simplex.specs.Memory.{point_of}
+use Rattle.branch_bound.proofs.Splits.{open_inside, open_next}
+use Rattle.branch_bound.proofs.Moments.{branches}
+use Rattle.branch_bound.proofs.PointSteps.{if_err, or_memory, kept_values}
 use Rattle.branch_bound.proofs.meeting.meet.Goals as goal
 
 pub branch-walk-requires-clause-inside : goal.branch-walk-requires-clause-inside
 branch-walk-requires-clause-inside g c =
-    let s = rw c.as_slice.ensures.value at c.in-Some.ensures (program c.args.instance.now) in
-    let n = length-map c.args.walk.now.cuts.items cut_variable in
-    let b = s.branch.variable in
+    let I = program c.args.instance.now in
+    let cs = c.args.walk.now.cuts.items in
+    let opened = rw c.as_slice.ensures.value at c.in-Some.ensures (program c.args.instance.now) in
+    let low = open_inside (cut I cs) (point_of c.args.relaxation.now.work) c.in-Some.at.col c.in-Some.at.by opened in
+    let n = length-map cs cut_variable in
     omega arith
 
-pub branch-walk-requires-clause-low : goal.branch-walk-requires-clause-low
-branch-walk-requires-clause-low g c = let s = c.in-Some.ensures (program c.args.instance.now) in s.branch.low
+pub branch-walk-requires-clause-next : goal.branch-walk-requires-clause-next
+branch-walk-requires-clause-next g c =
+    let opened = rw c.as_slice.ensures.value at c.in-Some.ensures (program c.args.instance.now) in
+    open_next (cut (program c.args.instance.now) c.args.walk.now.cuts.items) (point_of c.args.relaxation.now.work) c.in-Some.at.col c.in-Some.at.by opened
 
-pub branch-walk-requires-clause-high : goal.branch-walk-requires-clause-high
-branch-walk-requires-clause-high g c = let s = c.in-Some.ensures (program c.args.instance.now) in s.branch.high
+pub take_point-requires-clause-met : goal.take_point-requires-clause-met
+take_point-requires-clause-met g c = λ D. rw c.as_slice.ensures.value at c.in-None.ensures D
 
-pub take_point-requires-clause-whole : goal.take_point-requires-clause-whole
-take_point-requires-clause-whole g c = rw c.as_slice.ensures.value at c.in-None.ensures (program c.args.instance.now)
+pub returns-in-Some-clause-values : goal.returns-in-Some-clause-values
+returns-in-Some-clause-values g c = if_ok c.branch-walk.result (λ x by. kept_values c.args.instance.now c.args.walk.now.best c.branch-walk.new.walk.best by.point c.requires.values) c.branch-walk.ensures.ok
 
 pub returns-in-Some-clause-ok : goal.returns-in-Some-clause-ok
 returns-in-Some-clause-ok g c =
     let p = c.args.instance.now in
     let w = c.args.walk.now in
-    let s = rw c.as_slice.ensures.value at c.in-Some.ensures (program p) in
     if_ok c.branch-walk.result
-    (λ x h at. meets_split (program p) (Walks.case (program p) w) (Walks.rest (program p) w c.args.depth) (Walks.moment (program p) w at) (point_of c.args.relaxation.now.work) (Means.multipliers c.args.mults) _ c.in-Some.at.col c.in-Some.at.k s (h (program p) at))
+    (λ x by L D l t at.
+    let opened = rw c.as_slice.ensures.value at c.in-Some.ensures D in
+    inl (branches p L D l at w c.args.depth c.branch-walk.new.walk c.in-Some.at.by c.in-Some.at.col (point_of c.args.relaxation.now.work) opened by))
     c.branch-walk.ensures.ok
+
+pub returns-in-Some-clause-err : goal.returns-in-Some-clause-err
+returns-in-Some-clause-err g c = if_err c.branch-walk.result (λ ended lacks. inl lacks) c.branch-walk.ensures.err
+
+pub returns-in-None-clause-ok : goal.returns-in-None-clause-ok
+returns-in-None-clause-ok g c = if_ok c.take_point.result (λ x goes L D l t at. inr (goes L D l t at)) c.take_point.ensures.ok
+
+pub returns-in-None-clause-err : goal.returns-in-None-clause-err
+returns-in-None-clause-err g c = if_err c.take_point.result (λ ended. or_memory c.args.walk.now ended (λ goes L D l t looks. inr (goes L D l t looks))) c.take_point.ensures.err

@@ -11,8 +11,8 @@ use Rattle.evidence.specs.Instance as Of
 use Rattle.evidence.specs.Point.{value_at}
 use Rattle.instance.specs.Program.{program, variable}
 use Rattle.simplex.specs.Memory.{ray_of}
-use Rattle.search_rules.specs.Rays.{IsFactor}
-use Rattle.branch_bound.proofs.Multiples.{factor_is, multiple_of, multiples_more, no_ray}
+use Rattle.search_rules.specs.Rays.{IsFactor, IsMultiple}
+use Rattle.branch_bound.proofs.Multiples.{factor_is, multiple_of, ratios_more, no_ray}
 use Rattle.branch_bound.proofs.rays.read_ray.Goals as goal
 
 -- the factor as a fraction
@@ -50,7 +50,7 @@ loop-j-preserved g c =
     let e : c.push.new.self ≡ c.loop-j.ray ++ c.in-Ok-mul.movement ∷ [] = search rules in
     record {
       count = ap length e ∙ length-append c.loop-j.ray (c.in-Ok-mul.movement ∷ []) ∙ ap (λ n. n + 1) c.loop-j.invariant.count;
-      movements = rw e (multiples_more f (ray_of w) c.loop-j.ray j c.in-Ok-mul.movement c.loop-j.invariant.count c.loop-j.invariant.movements
+      movements = rw e (ratios_more (λ i x. IsMultiple f (value_at (ray_of w) i) x) c.loop-j.ray j c.in-Ok-mul.movement c.loop-j.invariant.count c.loop-j.invariant.movements
           (multiple_of f (value_at (ray_of w) j) c.movement.result c.whole-by.result c.in-Ok-mul.movement c.movement.ensures is.by c.in-Ok-mul.ensures.ok));
     }
 

@@ -1,13 +1,17 @@
-use Rattle.std.proofs.Common.{ℕ, ◌^◌, ◌≤◌, arith, refl, sym, ◌∙◌, subst}
+use Rattle.std.proofs.Common.{◌≡◌, ℕ, ◌^◌, ◌≤◌, List, arith, refl, sym, ◌∙◌, ap, subst}
 use Rattle.std.proofs.lemmas.List.{length-map}
 use Rattle.certificate.specs.declared.causes.Cause.TheVariants.{Memory}
-use Rattle.instance.specs.Program.{program, variable, row}
+use Rattle.evidence.specs.Instance.{Goal, Problem, alone}
+use Rattle.instance.specs.Program.{program, problem, variable, row}
 use Rattle.instance.proofs.Numbers.{program-instance}
-use Rattle.simplex_rules.specs.Looks.{stop_after}
+use Rattle.simplex_rules.specs.Ends.{Terms, Clock}
+use Rattle.simplex_rules.specs.Looks.{stop_after, looks_after}
 use Rattle.simplex_rules.proofs.Looks.{agrees}
-use Rattle.search_rules.specs.Search.{Unsure, begins, given_up}
+use Rattle.search_rules.specs.Search.{Unsure, begins, IsSearchAnswer, given_up}
 use Rattle.no_cycles.proofs.OneCaseSearches.{within_turns}
 use Rattle.branch_bound.specs.Claims.{is_killed}
+use Rattle.branch_bound.specs.Cases.{clock_at}
+use Rattle.branch_bound.proofs.PointSteps.{later_none}
 use Rattle.branch_bound.proofs.ClaimsAtEnd.{no_turn_limit}
 use Rattle.branch_bound.proofs.searching.search.Goals as goal
 
@@ -21,17 +25,21 @@ pub returns-clause-answer : goal.returns-clause-answer
 returns-clause-answer g c = c.explore-claim.ensures.answer
 
 pub returns-in-Err-clause-enough : goal.returns-in-Err-clause-enough
-returns-in-Err-clause-enough g c = λ plain feasible enough n e. cc
+returns-in-Err-clause-enough g c = λ one plain ranges feasible enough n e. cc
 
 pub returns-in-Err-begin-clause-enough : goal.returns-in-Err-begin-clause-enough
-returns-in-Err-begin-clause-enough g c = λ plain feasible enough n e. cc
+returns-in-Err-begin-clause-enough g c = λ one plain ranges feasible enough n e. cc
 
 pub returns-clause-enough : goal.returns-clause-enough
-returns-clause-enough g c = λ plain feasible enough n e.
+returns-clause-enough g c = λ one plain ranges feasible enough n e.
     let p = c.args.instance.now in
     let (k, o, tells, came, answer) = c.explore-claim.ensures.answer in
+    let alone_is : problem p ≡ alone (program p) = ap (λ (gs : List Goal). let P : Problem = record { program = program p; later = gs } in P) (later_none p.goals one) in
+    let stop = stop_after k (is_killed o) in
+    let t : Terms = record { nodes = c.args.nodes; turns = c.args.turns; rounds = c.args.rounds; stop = stop } in
+    let d : Clock = clock_at c.explore-claim.new.relaxation (looks_after 0 k (is_killed o)) in
     no_turn_limit o n
-    (within_turns (program p) _ plain (program-instance p) feasible
+    (within_turns (program p) t plain ranges (program-instance p) feasible
     (subst (λ (k : ℕ). 4 ^ k ≤ c.args.turns) (let v = length-map p.vars variable in let r = length-map p.rows row in omega arith) enough)
-    _ _ (answer (stop_after k (is_killed o)) (agrees k (is_killed o))))
+    o d (subst (λ (P : Problem). IsSearchAnswer P t o d) alone_is (answer stop (agrees k (is_killed o)))))
     (sym tells.cause ∙ e)

@@ -1,105 +1,88 @@
-use Rattle.std.proofs.Common.{rules, ◌≡◌, suc, ◌+◌, ◌<◌, ◌≤◌, inr, true, false, Some, None, [], ◌∷◌, ◌++◌, length, arith, refl, sym, ◌∙◌, ap, subst}
-use Rattle.std.specs.Option.{is_some}
-use Rattle.std.proofs.lemmas.List.{length-map}
-use Rattle.instance.specs.Program.{program}
-use Rattle.instance.proofs.Terms.{if_ok}
-use Rattle.certificate.specs.Meanings as Means
-use Rattle.case_tree.specs.Cuts.{cases}
+use Rattle.std.proofs.Common.{rules, ◌≡◌, suc, ◌+◌, ◌<◌, ◌≤◌, true, false, [], ◌∷◌, ◌++◌, length, sym, ◌∙◌, subst}
 use Rattle.simplex.specs.Answers.{was_stopped}
 use Rattle.simplex.specs.Memory.{ended_with}
-use Rattle.simplex_rules.specs.Ends as Ends
+use Rattle.simplex_rules.specs.Ends as Ended
 use Rattle.simplex_rules.specs.Looks.{went_on}
-use Rattle.branch_bound.specs.Walks as Walks
-use Rattle.branch_bound.specs.Cases.{terms, clock_at, outcome_of}
-use Rattle.branch_bound.proofs.PointSteps.{if_err, or_memory}
-use Rattle.branch_bound.proofs.CaseSteps.{ray_is_some, after_one, next_on, ends_on, next_stopped, goes_one, stopped_is, not_killed, follows, at_limit, at_look}
+use Rattle.branch_bound.proofs.Ready.{suits_as}
+use Rattle.branch_bound.proofs.CaseSteps.{stopped_is, not_killed}
+use Rattle.branch_bound.proofs.Carrying.{limit_carries, look_carries, stop_carries, ran_to, visit_carries}
 use Rattle.branch_bound.proofs.searching.step.Goals as goal
 
-pub returns-then-len-limits-clause-next : goal.returns-then-len-limits-clause-next
-returns-then-len-limits-clause-next g c =
+pub returns-then-level-len-clause-moments : goal.returns-then-level-len-clause-moments
+returns-then-level-len-clause-moments g c =
     let a = c.args in
-    let p = a.instance.now in
-    let w = a.walk.now in
-    let n : length (Means.nodes w.nodes) ≡ length w.nodes = length-map w.nodes Means.node in
-    let low : a.limits.nodes ≤ length w.nodes = search rules in (
+    let low : a.limits.nodes ≤ a.level.now.before + length a.walk.now.nodes = search rules in (
       0,
       false,
       c.give_up.ensures.killed,
       g.met.W.Watch.stays a.watch.now,
-      λ looks stop h. at_limit (program p) (terms a.limits stop) (Walks.moment (program p) w (clock_at a.relaxation.now looks)) (Walks.case (program p) w) (Walks.rest (program p) w a.depth) (ap (cases (program p) w.cuts.items w.branches.items) c.requires.at.next) (outcome_of c.give_up.result) (omega arith) c.give_up.ensures.told,
+      limit_carries a.instance.now a.limits a.relaxation.now a.level.now a.walk.now a.depth c.requires.at a.level.now c.give_up.new.walk c.give_up.result c.give_up.ensures.told low,
     )
 
-pub returns-then-look-clause-next : goal.returns-then-look-clause-next
-returns-then-look-clause-next g c =
+pub returns-then-look-clause-moments : goal.returns-then-look-clause-moments
+returns-then-look-clause-moments g c =
     let a = c.args in
-    let p = a.instance.now in
-    let w = a.walk.now in
-    let n : length (Means.nodes w.nodes) ≡ length w.nodes = length-map w.nodes Means.node in
-    let low : length w.nodes < a.limits.nodes = search rules in (
+    let low : a.level.now.before + length a.walk.now.nodes < a.limits.nodes = search rules in (
       0,
       true,
       c.give_up-then-look.ensures.killed,
       subst (λ b. g.W.Watch.came a.watch.now c.look.new.self (b ∷ [])) c.if-look.true c.look.ensures.came,
-      λ looks stop h. at_look (program p) (terms a.limits stop) (Walks.moment (program p) w (clock_at a.relaxation.now looks)) (Walks.case (program p) w) (Walks.rest (program p) w a.depth) (ap (cases (program p) w.cuts.items w.branches.items) c.requires.at.next) (outcome_of c.give_up-then-look.result) (omega arith) h c.give_up-then-look.ensures.told,
+      look_carries a.instance.now a.limits a.relaxation.now a.level.now a.walk.now a.depth c.requires.at a.level.now c.give_up-then-look.new.walk c.give_up-then-look.result low c.give_up-then-look.ensures.told,
     )
 
-pub returns-then-is_stop-clause-next : goal.returns-then-is_stop-clause-next
-returns-then-is_stop-clause-next g c =
+pub returns-then-is_stop-clause-moments : goal.returns-then-is_stop-clause-moments
+returns-then-is_stop-clause-moments g c =
     let a = c.args in
-    let p = a.instance.now in
-    let w = a.walk.now in
     let r = c.run_case-end.new.relaxation in
-    let n : length (Means.nodes w.nodes) ≡ length w.nodes = length-map w.nodes Means.node in
-    let low : length w.nodes < a.limits.nodes = search rules in
+    let low : a.level.now.before + length a.walk.now.nodes < a.limits.nodes = search rules in
     let first = subst (λ b. g.W.Watch.came a.watch.now c.look.new.self (b ∷ [])) c.if-look.false c.look.ensures.came in
     let on : was_stopped c.run_case-end.result ≡ true = sym c.is_stop.ensures ∙ c.if-is_stop.true in
-    let is : ended_with c.run_case-end.result r.work ≡ Ends.Stopped = stopped_is c.run_case-end.result r.work on in
-    let z : is_some (Walks.ray w.ray) ≡ c.is_some-zero_goal.result = ray_is_some w.ray ∙ sym c.is_some-zero_goal.ensures in
+    let is : ended_with c.run_case-end.result r.work ≡ Ended.Stopped = stopped_is c.run_case-end.result r.work on in
     let (k, came, run) = rw (on, is, c.as_slice.ensures.value) at c.run_case-end.ensures.run in (
       suc k,
       true,
       c.give_up-then-is_stop.ensures.killed,
       g.met.W.Watch.joined a.watch.now c.look.new.self c.run_case-end.new.watch (false ∷ []) (went_on k ++ true ∷ []) first came,
-      λ looks stop h. inr (next_stopped (program p) (terms a.limits stop) (Walks.moment (program p) w (clock_at a.relaxation.now looks)) (Walks.case (program p) w) (Walks.rest (program p) w a.depth) (ap (cases (program p) w.cuts.items w.branches.items) c.requires.at.next) (omega arith) c.is_some-zero_goal.result z r.turns.done k h (run (terms a.limits stop) (looks + 1) (sym c.requires.most) (h ∙ ap Some (omega arith))) (outcome_of c.give_up-then-is_stop.result) c.give_up-then-is_stop.ensures.told),
+      stop_carries a.instance.now a.limits a.relaxation.now a.level.now a.walk.now a.depth c.requires.at a.level.now c.give_up-then-is_stop.new.walk c.give_up-then-is_stop.result low c.give_up-then-is_stop.ensures.told r c.is_some-zero_goal.result k (sym c.is_some-zero_goal.ensures) (sym c.requires.most)
+          (λ D t looks given most tells. (run D t looks given most tells).0),
     )
 
-pub returns-clause-next : goal.returns-clause-next
-returns-clause-next g c =
+pub visit-requires-clause-ready : goal.visit-requires-clause-ready
+visit-requires-clause-ready g c =
     let a = c.args in
-    let p = a.instance.now in
-    let w = a.walk.now in
-    let r = c.run_case-end.new.relaxation in
-    let n : length (Means.nodes w.nodes) ≡ length w.nodes = length-map w.nodes Means.node in
-    let low : length w.nodes < a.limits.nodes = search rules in
-    let first = subst (λ b. g.W.Watch.came a.watch.now c.look.new.self (b ∷ [])) c.if-look.false c.look.ensures.came in
-    let E = ended_with c.run_case-end.result r.work in
+    let r = c.run_case-end in
+    let low : a.level.now.before + length a.walk.now.nodes < a.limits.nodes = search rules in
+    record {
+      suits = suits_as a.instance.now a.relaxation.now c.run_case-end.new.relaxation _ r.ensures.given r.ensures.rows a.level.now r.ensures.size c.requires.suits;
+      at = c.requires.at;
+      within = low;
+      fresh = c.requires.fresh;
+    }
+
+pub visit-requires-clause-ran : goal.visit-requires-clause-ran
+visit-requires-clause-ran g c =
+    let a = c.args in
+    let low : a.level.now.before + length a.walk.now.nodes < a.limits.nodes = search rules in
     let off : was_stopped c.run_case-end.result ≡ false = sym c.is_stop.ensures ∙ c.if-is_stop.false in
-    let z : is_some (Walks.ray w.ray) ≡ c.is_some-zero_goal.result = ray_is_some w.ray ∙ sym c.is_some-zero_goal.ensures in
+    let (k, came, run) = rw (off, c.as_slice.ensures.value) at c.run_case-end.ensures.run in
+    ran_to a.instance.now a.limits a.relaxation.now a.level.now a.walk.now a.depth c.requires.at c.run_case-end.new.relaxation _ c.run_case-end.ensures.given c.run_case-end.ensures.rows low c.is_some-zero_goal.result (sym c.is_some-zero_goal.ensures) (sym c.requires.most) k c.run_case-end.result run
+    (rw c.as_slice.ensures.value at c.run_case-end.ensures.basis)
+
+pub visit-requires-clause-stands : goal.visit-requires-clause-stands
+visit-requires-clause-stands g c = λ best. let held = c.run_case-end.ensures.basis best in held.0
+
+pub returns-clause-moments : goal.returns-clause-moments
+returns-clause-moments g c =
+    let a = c.args in
+    let r = c.run_case-end.new.relaxation in
+    let low : a.level.now.before + length a.walk.now.nodes < a.limits.nodes = search rules in
+    let first = subst (λ b. g.W.Watch.came a.watch.now c.look.new.self (b ∷ [])) c.if-look.false c.look.ensures.came in
+    let off : was_stopped c.run_case-end.result ≡ false = sym c.is_stop.ensures ∙ c.if-is_stop.false in
     let (k, came, run) = rw (off, c.as_slice.ensures.value) at c.run_case-end.ensures.run in (
       suc k,
       false,
       not_killed c.visit.result c.visit.ensures.went_on,
       g.met.W.Watch.joined a.watch.now c.look.new.self c.run_case-end.new.watch (false ∷ []) (went_on k) first came,
-      λ looks stop h.
-          let t = terms a.limits stop in
-          let m = Walks.moment (program p) w (clock_at a.relaxation.now looks) in
-          let waits = ap (cases (program p) w.cuts.items w.branches.items) c.requires.at.next in
-          let ran = run t (looks + 1) (sym c.requires.most) (after_one looks k stop h) in
-          follows p t (clock_at a.relaxation.now looks) (clock_at r (looks + suc k)) w c.visit.new.walk c.visit.result
-          (if_ok c.visit.result (λ x goes. next_on (program p) t m (Walks.case (program p) w) (Walks.rest (program p) w a.depth) waits (omega arith) c.is_some-zero_goal.result z E r.turns.done k h ran _ (goes t (clock_at r (looks + suc k)))) c.visit.ensures.ok)
-          (if_err c.visit.result (λ ended o. ends_on (program p) t m (Walks.case (program p) w) (Walks.rest (program p) w a.depth) waits (omega arith) c.is_some-zero_goal.result z E r.turns.done k h ran w ended refl (or_memory w ended (λ goes. goes t (looks + suc k) refl) o)) c.visit.ensures.err),
+      visit_carries a.instance.now a.limits a.relaxation.now a.level.now a.walk.now a.depth c.requires.at r _ c.run_case-end.ensures.given c.run_case-end.ensures.rows low c.is_some-zero_goal.result (sym c.is_some-zero_goal.ensures) (sym c.requires.most) k c.run_case-end.result run
+          c.visit.new.relaxation c.visit.new.level c.visit.new.walk c.visit.ensures.turns c.visit.ensures.certs c.visit.result c.visit.ensures.ok c.visit.ensures.err,
     )
-
-pub returns-clause-one : goal.returns-clause-one
-returns-clause-one g c =
-    let a = c.args in
-    let p = a.instance.now in
-    let w = a.walk.now in
-    let r = c.run_case-end.new.relaxation in
-    let t = terms a.limits None in
-    if_ok c.visit.result
-    (λ x goes.
-    let m = Walks.moment (program p) w (clock_at r 0) in
-    let o = goes_one t (program p) (Walks.case (program p) w) (Walks.rest (program p) w a.depth) m (Walks.moment (program p) c.visit.new.walk (clock_at r 0)) (ended_with c.run_case-end.result r.work) (goes t (clock_at r 0)) in
-    sym (length-map c.visit.new.walk.nodes Means.node) ∙ o ∙ ap (λ n. n + 1) (length-map w.nodes Means.node))
-    c.visit.ensures.ok

@@ -1,15 +1,28 @@
-use Rattle.std.proofs.Common.{List, ap, ◌∙◌}
+use Rattle.std.proofs.Common.{List, inl, ap, ◌∙◌}
 use Rattle.evidence.specs.Cases.{Multiplier, FarkasBy}
-use Rattle.instance.specs.Program.{program}
+use Rattle.certificate.specs.Meanings as Means
 use Rattle.instance.proofs.Terms.{if_ok}
-use Rattle.search_rules.specs.Search.{To, closed_by_leaf as leaf_of}
+use Rattle.search_rules.specs.Search.{To, closed_by_leaf}
 use Rattle.branch_bound.specs.Walks as Walks
+use Rattle.branch_bound.specs.Levels.{moment}
+use Rattle.branch_bound.proofs.Moments.{closes}
+use Rattle.branch_bound.proofs.PointSteps.{if_err, kept_values}
 use Rattle.branch_bound.proofs.visit.at_empty.Goals as goal
+
+pub returns-in-Ok-clause-values : goal.returns-in-Ok-clause-values
+returns-in-Ok-clause-values g c = if_ok c.leaf.result (λ x by. kept_values c.args.instance.now c.args.walk.now.best c.leaf.new.walk.best by.point c.requires.values) c.leaf.ensures.ok
 
 pub returns-in-Ok-clause-ok : goal.returns-in-Ok-clause-ok
 returns-in-Ok-clause-ok g c =
     let p = c.args.instance.now in
     let w = c.args.walk.now in
     if_ok c.leaf.result
-    (λ x h t at. ap To (h (program p) at ∙ ap (λ (ms : List Multiplier). leaf_of (Walks.moment (program p) w at) (Walks.rest (program p) w c.args.depth) (FarkasBy ms)) c.in-Ok.ensures))
+    (λ x by L D l t before at.
+    ap To (closes p L D l at w c.args.depth c.leaf.new.walk (FarkasBy (Means.multipliers c.in-Ok.mults)) by ∙ ap (λ (ms : List Multiplier). closed_by_leaf (moment p L D l w at) (Walks.rest D w c.args.depth) (FarkasBy ms)) c.in-Ok.ensures))
     c.leaf.ensures.ok
+
+pub returns-in-Ok-clause-err : goal.returns-in-Ok-clause-err
+returns-in-Ok-clause-err g c = if_err c.leaf.result (λ ended lacks. inl lacks) c.leaf.ensures.err
+
+pub returns-in-Err-clause-err : goal.returns-in-Err-clause-err
+returns-in-Err-clause-err g c = inl c.give_up.ensures.told

@@ -1,29 +1,37 @@
-use Rattle.std.proofs.Common.{inl, inr, ap}
-use Rattle.fraction.specs.Frac.{ratios}
+use Rattle.std.proofs.Common.{inl, ap, arith}
+use Rattle.std.proofs.lemmas.List.{length-map}
 use Rattle.instance.specs.Program.{program}
 use Rattle.instance.proofs.Terms.{if_ok}
-use Rattle.search_rules.specs.Search.{Outcome, Out}
-use Rattle.branch_bound.specs.Cases.{clock_at}
-use Rattle.branch_bound.proofs.PointSteps.{if_err, or_memory}
+use Rattle.case_tree.specs.declared.cuts.Division.TheVariants.{Zero}
+use Rattle.case_tree.specs.Cuts.{cut_variable}
+use Rattle.search_rules.specs.Search.{To}
+use Rattle.branch_bound.proofs.Moments.{divides}
+use Rattle.branch_bound.proofs.PointSteps.{if_err, kept_values}
 use Rattle.branch_bound.proofs.visit.at_endless.Goals as goal
 
-pub returns-in-None-clause-err : goal.returns-in-None-clause-err
-returns-in-None-clause-err g c =
+pub branch-walk-requires-clause-inside : goal.branch-walk-requires-clause-inside
+branch-walk-requires-clause-inside g c =
+    let w = c.args.walk.now in
+    let first = rw (c.as_slice.ensures.value, c.as_slice-2.ensures.value) at c.in-Some.ensures (program c.args.instance.now) w.ray in
+    let low = first.moving.branch.variable in
+    let n = length-map w.cuts.items cut_variable in
+    omega arith
+
+pub keep_ray-requires-clause-none : goal.keep_ray-requires-clause-none
+keep_ray-requires-clause-none g c = λ D. rw (c.as_slice.ensures.value, c.as_slice-2.ensures.value) at c.in-None.ensures D c.args.walk.now.ray
+
+pub returns-in-Some-clause-values : goal.returns-in-Some-clause-values
+returns-in-Some-clause-values g c = if_ok c.branch-walk.result (λ x by. kept_values c.args.instance.now c.args.walk.now.best c.branch-walk.new.walk.best by.point c.requires.values) c.branch-walk.ensures.ok
+
+pub returns-in-Some-clause-ok : goal.returns-in-Some-clause-ok
+returns-in-Some-clause-ok g c =
     let p = c.args.instance.now in
-    let r = c.args.relaxation.now in
-    let none = rw c.in-None.is at c.in-Ok.ensures in
-    inr (λ t looks. inl (none, ap (λ (o : Outcome). Out o (clock_at r looks)) (c.too_wide.ensures.told (program p) looks)))
+    let w = c.args.walk.now in
+    if_ok c.branch-walk.result
+    (λ x by none L D l t before at.
+    let first = rw (c.as_slice.ensures.value, c.as_slice-2.ensures.value) at c.in-Some.ensures D w.ray in
+    inl (c.in-Some.col, first, ap To (divides p L D l at w c.args.depth c.branch-walk.new.walk Zero c.in-Some.col by)))
+    c.branch-walk.ensures.ok
 
-pub returns-clause-ok : goal.returns-clause-ok
-returns-clause-ok g c =
-    let scaled = rw c.in-Some.is at c.in-Ok.ensures in
-    if_ok c.meet.result
-    (λ x h t at. inr (ratios c.in-Some.ray, scaled, rw c.new.ensures at (h at)))
-    c.meet.ensures.ok
-
-pub returns-clause-err : goal.returns-clause-err
-returns-clause-err g c =
-    let scaled = rw c.in-Some.is at c.in-Ok.ensures in
-    if_err c.meet.result
-    (λ ended. or_memory c.args.walk.now ended (λ h t looks. inr (ratios c.in-Some.ray, scaled, rw c.new.ensures at (h looks))))
-    c.meet.ensures.err
+pub returns-in-Some-clause-err : goal.returns-in-Some-clause-err
+returns-in-Some-clause-err g c = if_err c.branch-walk.result (λ ended lacks. inl lacks) c.branch-walk.ensures.err

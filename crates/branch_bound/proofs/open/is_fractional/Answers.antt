@@ -1,7 +1,7 @@
 use Rattle.std.proofs.Common.{◌≡◌, true, false, Bool, IsTrue, not}
 use Rattle.fraction.specs.Frac.{ratio}
 use Rattle.evidence.proofs.Fits.{whole_over_one}
-use Rattle.branch_bound.proofs.open.is_open.Goals as goal
+use Rattle.branch_bound.proofs.open.is_fractional.Goals as goal
 
 no_true : (b : Bool) → not b ≡ true → IsTrue b → ⊥
 no_true true e t = cc

@@ -1,0 +1,68 @@
+-- Where a search begins.
+use Rattle.std.proofs.Common.{◌≡◌, ℕ, None, Option, List, [], length, arith, refl, sym, ◌∙◌, ap, ap₂, subst}
+use Rattle.certificate.specs.declared.nodes.Cert.{Cert}
+use Rattle.certificate.specs.declared.lists.Mult.{Mult}
+use Rattle.instance.specs.Parts.{Parts}
+use Rattle.instance.specs.Program.{program, problem}
+use Rattle.instance.proofs.Numbers.{program-instance}
+use Rattle.cert_checker.specs.Programs.{with_rows}
+use Rattle.simplex_rules.specs.Ends.{Terms}
+use Rattle.simplex.specs.declared.cuts.Added.{Added}
+use Rattle.simplex.specs.Cuts.{Cutting}
+use Rattle.search_rules.specs.Search.{begins, begun_at, first}
+use Rattle.branch_bound.specs.declared.found.Found as Best
+use Rattle.branch_bound.specs.declared.level.Level.{Level}
+use Rattle.branch_bound.specs.declared.relaxation.Relaxation.{Relaxation}
+use Rattle.branch_bound.specs.declared.walk.Walk.{Walk}
+use Rattle.branch_bound.specs.Walks.{best}
+use Rattle.branch_bound.specs.Levels.{level, moment, IsGiven, IsAtLevel}
+use Rattle.branch_bound.specs.Trials.{IsFresh}
+use Rattle.branch_bound.specs.Cases.{HasSize, SuitsLevel, StandsIn, clock_at}
+use Rattle.branch_bound.proofs.GivenRows.{given_first}
+use Rattle.branch_bound.proofs.NextGoal.{fresh_moment}
+
+-- no row beside the instance's, and the first goal
+given_begun : (p : Parts) (k : Cutting) → k.rows ≡ [] → k.goal ≡ 0 → IsGiven p k (program p)
+given_begun p k none zero = subst (λ (h : Cutting). IsGiven p h (program p)) (ap₂ (λ (rs : List Added) (g : ℕ). let h : Cutting = record { ends = k.ends; rows = rs; goal = g } in h) (sym none) (sym zero)) (given_first p k.ends)
+
+-- the first level, and what a search has at hand then
+abbrev pub begun_level : List Cert → List (List Mult) → Level
+begun_level ks rs = record { goal = 0; certs = ks; rounds = rs; before = 0 }
+
+module _ {M : _} {G : _} (p : Parts) (r : Relaxation M G) (ks : List Cert) (rs : List (List Mult)) (certs : ks ≡ []) (rounds : rs ≡ []) (beside : r.ends.rows ≡ []) (zero : r.ends.goal ≡ 0) (rows : r.rows.items ≡ []) where
+  is_rows : program p ≡ with_rows (program p) r.rows.items
+  is_rows = ap (with_rows (program p)) (sym rows)
+
+  pub begun_suits : HasSize p r → SuitsLevel p r (begun_level ks rs)
+  begun_suits size = record {
+    size = size;
+    goal = let g = size.suits.goal in omega arith;
+    one = λ e. (subst (IsGiven p r.ends) is_rows (given_begun p r.ends beside zero), ap length rows ∙ sym (ap length beside));
+  }
+
+  begun_at_level : IsAtLevel p r (begun_level ks rs) (program p) (program p)
+  begun_at_level = record {
+    good = program-instance p;
+    given = given_begun p r.ends beside zero;
+    goal = zero;
+    level_goal = refl;
+    shown = ap (λ (cs : List Cert). length cs) certs;
+    counted = λ n. rw certs (omega arith);
+    several = λ h. refl;
+    one = λ e. is_rows;
+  }
+
+  module _ (t : Terms) (w : Walk) (fresh : IsFresh p w) (no_ray : w.ray ≡ None) (no_point : w.best ≡ None) (turns : r.turns.done ≡ 0) where
+    is_first : first (problem p) ≡ moment p (program p) (program p) (begun_level ks rs) w (clock_at r 0)
+    is_first = sym (
+        fresh_moment p (program p) (begun_level ks rs) w (clock_at r 0) fresh no_ray refl rounds
+        ∙ ap₂ (λ (cs : List Cert) (b : Option Best.Found). begun_at (level p (program p) (begun_level cs rs)) (clock_at r 0) (best b)) certs no_point
+        ∙ ap (λ (n : ℕ). begun_at (level p (program p) (begun_level [] rs)) (record { turns = n; looks = 0 }) None) turns
+        )
+
+    pub begun_stands : StandsIn p t r (begun_level ks rs) w (clock_at r 0)
+    begun_stands = record {
+      at = first (problem p);
+      comes = begins;
+      stands = record { program = program p; cut = program p; at = begun_at_level; is = is_first };
+    }
