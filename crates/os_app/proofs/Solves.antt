@@ -7,7 +7,7 @@ use Rattle.certificate.specs.declared.causes.Cause.TheVariants.{Memory}
 use Rattle.certificate.specs.declared.claims.Claim.TheVariants.{Unsure}
 use Rattle.osrl_grammar.specs.declared.report.Report.{Report}
 use Rattle.solve_run.specs.declared.document.Document.{Document}
-use Rattle.solve_run.specs.JobAnswers.{AreJobTexts, IsBestOfSearch, AnswersJob, no_options, no_instance, not_solved, solved, gave_up}
+use Rattle.solve_run.specs.JobAnswers.{AreJobTexts, IsBestOfSearch, AnswersJob, no_options, no_instance, solved, gave_up}
 use Rattle.solve_run.specs.Runs.{IsRight}
 use Rattle.command_answers.specs.FileNames.{ReadsNamed}
 use Rattle.command_answers.proofs.Outputs.{held_by}
@@ -38,10 +38,8 @@ module _ (a osil osol : List ℕ) (shows : Shows a osil) where
     says = h.says;
     is = h.is;
   })
-  answers_file asked r (not_solved h) = not_solved (record { given = given_file h.given; other = h.other; is = h.is })
   answers_file asked r (solved stop looks may s) = solved stop looks may (record {
     given = given_file s.given;
-    searched = s.searched;
     turns = s.turns;
     outcome = s.outcome;
     ends = s.ends;
@@ -56,7 +54,7 @@ module _ (a osil osol : List ℕ) (shows : Shows a osil) where
     where
       by : (g.claim ≡ Unsure Memory) ⊎ IsBestOfSearch a osol g.claim → (g.claim ≡ Unsure Memory) ⊎ IsBestOfSearch osil osol g.claim
       by (inl unsure) = inl unsure
-      by (inr b) = inr (record { given = given_file b.given; searched = b.searched; moment = b.moment; comes = b.comes; tells = b.tells })
+      by (inr b) = inr (record { given = given_file b.given; moment = b.moment; comes = b.comes; tells = b.tells })
 
 -- and what is taken for what was read
 safe_file : (a osil osol : List ℕ) (shows : Shows a osil) (text : List ℕ) → IsSafeText a osol text → IsSafeText osil osol text

@@ -1,13 +1,13 @@
 -- Why a job that is solved with the safe limit isn't given up for its turns.
-use Rattle.std.proofs.Common.{◌≡◌, ◌∙◌, ◌≢◌, ℕ, zero, suc, ◌+◌, ◌^◌, ◌≤◌, ◌⊎◌, inl, inr, Bool, true, false, Option, None, Some, List, [], ◌∷◌, Result, Ok, Err, length, refl, sym, ap, ap₂, subst, arith}
+use Rattle.std.proofs.Common.{◌≡◌, ◌∙◌, ◌≢◌, ℕ, zero, suc, ◌+◌, ◌^◌, ◌≤◌, ◌⊎◌, inl, inr, Bool, true, false, Option, None, Some, List, [], ◌∷◌, map, drop, Result, Ok, Err, length, refl, sym, ap, ap₂, subst, arith}
 use Rattle.std.specs.Prelude.{IfOk, IfErr, option_map}
 use Rattle.std.specs.List.{All}
 use Rattle.std.proofs.Math.Nat.{pow-le-pow_right}
 use Rattle.std.proofs.lemmas.List.{length-map}
 use Rattle.std.proofs.lemmas.Option.{none-some}
-use Rattle.evidence.specs.Instance.{Instance, IsInstance, width, height}
+use Rattle.evidence.specs.Instance.{Instance, IsInstance, Goal, Problem, alone, width, height}
 use Rattle.instance.specs.Parts.{Parts}
-use Rattle.instance.specs.Program.{program, variable, row}
+use Rattle.instance.specs.Program.{program, problem, variable, row, goal}
 use Rattle.certificate.specs.declared.causes.Cause.{Cause}
 use Rattle.certificate.specs.declared.causes.Cause.TheVariants.{Memory}
 use Rattle.certificate.specs.declared.claims.Claim.{Claim}
@@ -15,7 +15,7 @@ use Rattle.certificate.specs.declared.claims.Claim.TheVariants.{Optimal, Infeasi
 use Rattle.simplex_rules.specs.Ends.{Terms, Clock}
 use Rattle.search_rules.specs.Search as ends
 use Rattle.search_rules.specs.Search.{Outcome, IsSearchAnswer, searched, early}
-use Rattle.search_rules.specs.Outcomes.{IsPlain}
+use Rattle.search_rules.specs.Outcomes.{HaveOneRange, IsPlain}
 use Rattle.branch_bound.specs.Claims.{ClaimTells, cause_of, claimed_cause}
 use Rattle.osol_grammar.specs.declared.options.Options.{Options}
 use Rattle.osol_grammar.specs.declared.fault.OsolFault.{OsolFault}
@@ -35,7 +35,7 @@ use Rattle.osrl_grammar.specs.declared.report.Report.{Report}
 use Rattle.osrl_grammar.specs.Writing.{report_text}
 use Rattle.solve_run.specs.Judging.{checked, given_up, wide_check}
 use Rattle.solve_run.specs.Closings.{IsToldOf, IsFitted}
-use Rattle.solve_run.specs.JobAnswers.{AnswersJob, IsBestOfSearch, Solved, no_options, no_instance, not_solved, solved, gave_up, job_terms}
+use Rattle.solve_run.specs.JobAnswers.{AnswersJob, IsBestOfSearch, Solved, no_options, no_instance, solved, gave_up, job_terms}
 use Rattle.no_cycles.specs.Beginning.{BeginsFeasible}
 use Rattle.no_cycles.specs.Limit.{safe_limit}
 use Rattle.no_cycles.specs.Searches.{is_out_of_turns, is_turn_limit}
@@ -88,10 +88,10 @@ turned None = false
 turned (Some k) = is_turn_limit k
 
 outcome_turned : (o : Outcome) → is_out_of_turns o ≡ turned (cause_of o)
-outcome_turned (ends.Optimal x v ns) = refl
-outcome_turned (ends.Infeasible ns) = refl
-outcome_turned (ends.Unbounded x v r) = refl
-outcome_turned (ends.BestSoFar x v k) = refl
+outcome_turned (ends.Optimal x vs cs) = refl
+outcome_turned (ends.Infeasible cert) = refl
+outcome_turned (ends.Unbounded x vs cs r) = refl
+outcome_turned (ends.BestSoFar x vs k) = refl
 outcome_turned (ends.Unsure k) = refl
 
 claim_turned : (c : Claim) → claims_turn_limit c ≡ turned (claimed_cause c)
@@ -130,7 +130,7 @@ gave_up_is osil osol c (inr best) = told_turned c (early best.moment.best Memory
 
 pub record Laws : Type 0 where
   pub numbers : (p : Parts) → IsInstance (program p)
-  pub within : (I : Instance) (t : Terms) (o : Outcome) (c : Clock) (l : ℕ) → IsInstance I → IsPlain I → BeginsFeasible I → safe_limit (width I) (height I) ≡ Some l → l ≤ t.turns → IsSearchAnswer I t o c → is_out_of_turns o ≡ false
+  pub within : (I : Instance) (t : Terms) (o : Outcome) (c : Clock) (l : ℕ) → IsInstance I → IsPlain I → HaveOneRange I → BeginsFeasible I → safe_limit (width I) (height I) ≡ Some l → l ≤ t.turns → IsSearchAnswer (alone I) t o c → is_out_of_turns o ≡ false
   pub once : (bytes : List ℕ) (p q : Parts) → IsInstanceText bytes p → IsInstanceText bytes q → p ≡ q
   pub back : (o : Options) (r : Result Options OsolFault) → ComesBack o → IfOk r (IsOptionsText (options_text o)) → IfErr r (DecodeFails (options_text o)) → r ≢ Err options_faults.Memory → r ≡ Ok o
   pub written : (bytes : List ℕ) (o : Options) → IsOptionsText bytes o → ComesBack o
@@ -143,7 +143,16 @@ ok_or_not a f e = cc
 same_ok : (a b : Options) → ◌≡◌ {A = Result Options OsolFault} (Ok a) (Ok b) → a ≡ b
 same_ok a b e = cc
 
-module _ (laws : Laws) (osil osol taken : List ℕ) (p : Parts) (text : IsInstanceText osil p) (plain : IsPlain (program p)) (feasible : BeginsFeasible (program p)) (few : length p.vars + length p.rows ≤ 13) where
+-- the problem of an instance with one goal
+none_later : (gs : List Goal) → length gs ≡ 1 → drop 1 gs ≡ []
+none_later [] e = absurd (omega arith)
+none_later (g ∷ []) e = refl
+none_later (g ∷ h ∷ gs) e = absurd (omega arith)
+
+alone_is : (p : Parts) → length p.goals ≡ 1 → problem p ≡ alone (program p)
+alone_is p one = ap (λ (gs : List Goal). let P : Problem = record { program = program p; later = gs } in P) (none_later (map goal p.goals) (length-map p.goals goal ∙ one))
+
+module _ (laws : Laws) (osil osol taken : List ℕ) (p : Parts) (text : IsInstanceText osil p) (single : length p.goals ≡ 1) (plain : IsPlain (program p)) (ranges : HaveOneRange (program p)) (feasible : BeginsFeasible (program p)) (few : length p.vars + length p.rows ≤ 13) where
   -- the limit of the options that are taken
   turns_are : (o : Options) → IsOptionsText taken o → (s : IsSafeText osil osol taken) → o.turns ≡ s.limit
   turns_are o said s =
@@ -175,19 +184,19 @@ module _ (laws : Laws) (osil osol taken : List ℕ) (p : Parts) (text : IsInstan
       let enough : safe_limit (width (program s.given.parts)) (height (program s.given.parts)) ≡ Some its.limit = ap₂ safe_limit wide high ∙ told in
       let turns : s.given.options.turns ≡ its.limit = turns_are s.given.options s.given.options_text its in
       let found : is_out_of_turns s.outcome ≡ false =
-      laws.within (program s.given.parts) (job_terms s.given.options stop) s.outcome _ its.limit (laws.numbers s.given.parts) (subst (λ (x : Parts). IsPlain (program x)) same plain) (subst (λ (x : Parts). BeginsFeasible (program x)) same feasible) enough (omega (arith, turns)) (searched s.ends) in
+      laws.within (program s.given.parts) (job_terms s.given.options stop) s.outcome _ its.limit (laws.numbers s.given.parts) (subst (λ (x : Parts). IsPlain (program x)) same plain) (subst (λ (x : Parts). HaveOneRange (program x)) same ranges) (subst (λ (x : Parts). BeginsFeasible (program x)) same feasible) enough (omega (arith, turns))
+      (subst (λ (P : Problem). IsSearchAnswer P (job_terms s.given.options stop) s.outcome (record { turns = s.turns; looks = looks })) (alone_is s.given.parts (subst (λ (x : Parts). length x.goals ≡ 1) same single)) (searched s.ends)) in
       ap (λ (x : Report). says_turn_limit x.claim) s.is ∙ closed_is s.given.parts s.given.options.job s.turns s.found s.told s.closed (told_turned s.found s.outcome s.tells ∙ found)
 
   pub answers_within : (r : Report) → TakesOptions true osil osol taken → AnswersJob osil taken false r → says_turn_limit r.claim ≡ false
   answers_within r takes (no_options h) = ap (λ (x : Report). says_turn_limit x.claim) h.is
   answers_within r takes (no_instance h) = ap (λ (x : Report). says_turn_limit x.claim) h.is
-  answers_within r takes (not_solved h) = ap (λ (x : Report). says_turn_limit x.claim) h.is
   answers_within r takes (solved stop looks may s) = solved_within stop looks r takes s
   answers_within r takes (gave_up g) = ap (λ (x : Report). says_turn_limit x.claim) g.is ∙ gave_up_is osil taken g.claim g.claims
 
 -- ---- a run
 
-module _ (laws : Laws) (status : ℕ) (run : ProgramRun) (osil_name : List ℕ) (options_name : Option (List ℕ)) (osil : List ℕ) (p : Parts) (solve : IsSolve run.words osil_name options_name true) (holds : run.held osil_name ≡ Holds osil) (text : IsInstanceText osil p) (plain : IsPlain (program p)) (feasible : BeginsFeasible (program p)) (few : length p.vars + length p.rows ≤ 13) where
+module _ (laws : Laws) (status : ℕ) (run : ProgramRun) (osil_name : List ℕ) (options_name : Option (List ℕ)) (osil : List ℕ) (p : Parts) (solve : IsSolve run.words osil_name options_name true) (holds : run.held osil_name ≡ Holds osil) (text : IsInstanceText osil p) (single : length p.goals ≡ 1) (plain : IsPlain (program p)) (ranges : HaveOneRange (program p)) (feasible : BeginsFeasible (program p)) (few : length p.vars + length p.rows ≤ 13) where
   due_within : (it : Command) (due : ℕ) (line : List ℕ) → it ≡ Solve osil_name options_name true → IsDue run.held it due line → IsTold due line status run.output run.output_after → WritesWithinTurns status run
   due_within it due line is asked told =
       let about : IsDocumentAbout (run.held osil_name) (option_map run.held options_name) true due line = subst (λ (x : Command). IsDue run.held x due line) is asked in
@@ -196,7 +205,7 @@ module _ (laws : Laws) (status : ℕ) (run : ProgramRun) (osil_name : List ℕ) 
       inr (record {
         report = about.report;
         told = subst (λ (d : ℕ). IsTold d (report_text about.report) status run.output run.output_after) about.status_is its;
-        within = answers_within laws about.osil about.osol about.taken p (subst (λ (t : List ℕ). IsInstanceText t p) (sym file) text) plain feasible few about.report about.takes about.answers;
+        within = answers_within laws about.osil about.osol about.taken p (subst (λ (t : List ℕ). IsInstanceText t p) (sym file) text) single plain ranges feasible few about.report about.takes about.answers;
       })
 
   one : (it : Command) → asks run.words ≡ Some it → it ≡ Solve osil_name options_name true

@@ -6,19 +6,19 @@ ghost use Rattle.os_app.specs.Statuses.{check_status};
 
 use command_answers::status::{DONE, NEGATIVE};
 use command_answers::{MOST_READ, StatusText};
-use document_checker::{CheckFault as Refused, Kind, answer_text, check_docs};
+use document_checker::{CheckFault, Kind, answer_text, check_docs};
 use os_io::{FileFault, Files, Memory, Text};
 use std::alloc::Global;
 
 /// The status of a check's answer.
-pub(crate) fn status_of(is_accepted: bool) -> u8
+pub(crate) fn check_status(is_accepted: bool) -> u8
     ensures { result ≡ check_status is_accepted }
 {
     if is_accepted { DONE } else { NEGATIVE }
 }
 
 /// An answer in words, and a line feed.
-fn line_of(alloc: Global, answer: &Result<Kind, Refused>) -> Result<Text, Memory>
+fn line_of(alloc: Global, answer: &Result<Kind, CheckFault>) -> Result<Text, Memory>
     ensures { IfOk result (λ line. IsAnswerLine answer.now line) }
 {
     let mut line = answer_text(alloc, answer)?;
@@ -33,7 +33,7 @@ fn answer_to(alloc: Global, osil: &[u8], osrl: &[u8]) -> Result<StatusText, Memo
     let answer = check_docs(alloc, osil, osrl);
     let line = line_of(alloc, &answer)?;
     Ok(StatusText {
-        status: status_of(answer.is_ok()),
+        status: check_status(answer.is_ok()),
         text: line,
     })
 }

@@ -1,4 +1,4 @@
-//! What the words of a command line ask for.
+//! What each command does, and the status that it ends with.
 ghost use Rattle.std.specs.Prelude.{◌≡◌, map, IfOk, OnErr};
 ghost use Rattle.std.specs.Process.{exit_status};
 ghost use Rattle.std.specs.String.{string_bytes};
@@ -7,8 +7,7 @@ ghost use Rattle.command_line.specs.Words.{AsksForNoLink, NamesNoFile};
 ghost use Rattle.os_app.specs.Ends.{AnswerEnds, from_memory};
 ghost use Rattle.os_app.specs.Grounds.{AnswersAreOne};
 ghost use Rattle.os_app.specs.Runs.{Runs};
-ghost use Rattle.os_app.specs.Statuses.{serve_status};
-ghost use Rattle.os_app.specs.Statuses.{session_status};
+ghost use Rattle.os_app.specs.Statuses.{serve_status, session_status};
 
 use crate::checking::answer_about;
 use crate::generating::generate;

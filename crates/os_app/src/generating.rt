@@ -2,11 +2,11 @@
 ghost use Rattle.std.specs.Prelude.{◌≡◌, ◌≤◌, IfOk};
 ghost use Rattle.os_app.specs.Summaries.{IsDecided, IsSummaryAbout, IsSummaryOf, wanted_memory};
 
-use crate::checking::status_of;
+use crate::checking::check_status;
 use crate::solving::solve;
 use certificate::{Cause, Claim};
 use command_answers::StatusText;
-use document_checker::{CheckFault as Refused, check_docs};
+use document_checker::{CheckFault, check_docs};
 use generator::{line_of, make};
 use os_io::Memory;
 use osil_grammar::encode;
@@ -34,7 +34,7 @@ fn is_accepted(alloc: Global, osil: &[u8], osrl: &[u8]) -> Result<bool, Memory>
 {
     match check_docs(alloc, osil, osrl) {
         Ok(_) => Ok(true),
-        Err(Refused::Memory) => Err(AllocError),
+        Err(CheckFault::Memory) => Err(AllocError),
         Err(_) => Ok(false),
     }
 }
@@ -56,7 +56,7 @@ fn summary_about(alloc: Global, n: u32, osil: &[u8], osrl: &[u8]) -> Result<Stat
     let is_accepted = is_accepted(alloc, osil, osrl)?;
     let text = line_of(alloc, n, claim, is_accepted)?;
     Ok(StatusText {
-        status: status_of(is_accepted),
+        status: check_status(is_accepted),
         text,
     })
 }

@@ -34,7 +34,7 @@ fn solve_with(alloc: Global, osil: &[u8], osol: &[u8], safe: bool) -> Result<Doc
 }
 
 /// The status of a result document.
-fn status_of(is_error: bool) -> u8
+fn solve_status(is_error: bool) -> u8
     ensures { result ≡ solve_status is_error }
 {
     if is_error { NEGATIVE } else { DONE }
@@ -57,7 +57,7 @@ pub(crate) fn solve_files<F: Files>(
     let options = read_named(alloc, files, options)?;
     match solve_with(alloc, instance.as_slice(), options.as_slice(), safe) {
         Ok(document) => Ok(StatusText {
-            status: status_of(document.is_error),
+            status: solve_status(document.is_error),
             text: document.text,
         }),
         Err(_) => Err(FileFault::Memory),

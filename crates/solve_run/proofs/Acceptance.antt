@@ -1,9 +1,9 @@
 -- What a report claims is accepted, from the report's own text.
-use Rattle.std.proofs.Common.{◌≡◌, ◌∙◌, ℕ, ◌⊎◌, inl, inr, Bool, Option, None, Some, List, ap, sym, subst}
-use Rattle.evidence.specs.Instance.{Instance, IsInstance}
+use Rattle.std.proofs.Common.{◌≡◌, ◌∙◌, ℕ, ◌⊎◌, inl, inr, Bool, Option, None, Some, List, arith, ap, sym, subst}
+use Rattle.evidence.specs.Instance.{Problem, IsProblem}
 use Rattle.evidence.specs.Claim.{Accepts}
 use Rattle.instance.specs.Parts.{Parts, IsValid}
-use Rattle.instance.specs.Program.{program, problem}
+use Rattle.instance.specs.Program.{problem}
 use Rattle.certificate.specs.Meanings as Means
 use Rattle.certificate.specs.declared.causes.Cause.{Cause}
 use Rattle.certificate.specs.declared.causes.Cause.TheVariants as causes
@@ -11,7 +11,7 @@ use Rattle.certificate.specs.declared.claims.Claim.{Claim}
 use Rattle.certificate.specs.declared.claims.Claim.TheVariants as Has
 use Rattle.simplex_rules.specs.Ends.{Terms, Clock}
 use Rattle.search_rules.specs.Search.{Found, Outcome, IsSearchAnswer, searched, given_up as given_up_at, early}
-use Rattle.search_rules.specs.Outcomes.{HaveOneRange, IsShown}
+use Rattle.search_rules.specs.Outcomes.{IsShown}
 use Rattle.branch_bound.specs.Claims.{ClaimTells}
 use Rattle.osol_grammar.specs.declared.options.Options.{Options}
 use Rattle.osol_grammar.specs.Meaning.{IsOptionsText}
@@ -23,13 +23,13 @@ use Rattle.osrl_grammar.specs.Reading.{IsReportText}
 use Rattle.osrl_grammar.specs.Back.{IsBareOrNone, CauseComesBack, ClaimComesBack, ComesBack}
 use Rattle.document_checker.specs.declared.documents.Kind.{Kind}
 use Rattle.document_checker.specs.Documents.{kind, IsAcceptedText}
-use Rattle.solve_run.specs.Judging.{IsSearched, IsShownClaim, IsFinal, given_up, IsJudged, checked}
+use Rattle.solve_run.specs.Judging.{IsShownClaim, HasFewRounds, IsFinal, given_up, IsJudged, checked}
 use Rattle.solve_run.specs.Closings.{claim_report, IsShort, IsFitted, IsToldOf}
-use Rattle.solve_run.specs.JobAnswers.{job_terms, Solved, IsJobOf, IsBestOfSearch, AnswersJob, no_options, no_instance, not_solved, solved, gave_up}
+use Rattle.solve_run.specs.JobAnswers.{job_terms, Solved, IsJobOf, IsBestOfSearch, AnswersJob, no_options, no_instance, solved, gave_up}
 use Rattle.solve_run.proofs.Lengths.{IsShortName}
 use Rattle.solve_run.proofs.Names.{short_name, bare_name}
 use Rattle.solve_run.proofs.PartialClaims.{given_other, given_shown}
-use Rattle.solve_run.proofs.WidthRefusals.{one_range, best_accepted}
+use Rattle.solve_run.proofs.WidthRefusals.{best_accepted}
 use Rattle.solve_run.proofs.ReadBack.{shown_back, wanting_causes}
 use Rattle.solve_run.proofs.Runs.{claim_short, wanting}
 
@@ -41,12 +41,20 @@ pub record IsGood (p : Parts) (job : Option (List ℕ)) (c : Claim) : Type 0 whe
   pub accepted : IsFinal c → Accepts (problem p) (Means.claim c)
   pub short : IsShort job c
 
-accepts_of : (p : Parts) (c : Claim) (k : Kind) → IsSearched p → IsShownClaim p c → (IsFinal c → Accepts (problem p) (Means.claim c)) → kind c ≡ Some k → Accepts (problem p) (Means.claim c)
-accepts_of p (Has.Optimal x vs cs) k one s final is = final tt
-accepts_of p (Has.Infeasible cert) k one s final is = final tt
-accepts_of p (Has.Unbounded x vs cs r) k one s final is = final tt
-accepts_of p (Has.BestSoFar x vs c) k one s final is = best_accepted p x vs c one s
-accepts_of p (Has.Unsure c) k one s final is = absurd (cc)
+accepts_of : (p : Parts) (c : Claim) (k : Kind) → IsShownClaim p c → (IsFinal c → Accepts (problem p) (Means.claim c)) → kind c ≡ Some k → Accepts (problem p) (Means.claim c)
+accepts_of p (Has.Optimal x vs cs) k s final is = final tt
+accepts_of p (Has.Infeasible cert) k s final is = final tt
+accepts_of p (Has.Unbounded x vs cs r) k s final is = final tt
+accepts_of p (Has.BestSoFar x vs c) k s final is = best_accepted p x vs c s
+accepts_of p (Has.Unsure c) k s final is = absurd (cc)
+
+-- a claim that isn't final carries no certificate
+no_certificates : (c : Claim) → (IsFinal c → ⊥) → HasFewRounds c
+no_certificates (Has.Optimal x vs cs) other = absurd (other tt)
+no_certificates (Has.Infeasible cert) other = absurd (other tt)
+no_certificates (Has.Unbounded x vs cs r) other = absurd (other tt)
+no_certificates (Has.BestSoFar x vs c) other = λ k d h. absurd (omega (arith, h))
+no_certificates (Has.Unsure c) other = λ k d h. absurd (omega (arith, h))
 
 module _ (p : Parts) (job : Option (List ℕ)) (valid : IsValid p) (name : IsShortName job) where
   -- a claim that isn't final
@@ -70,8 +78,8 @@ module _ (p : Parts) (job : Option (List ℕ)) (valid : IsValid p) (name : IsSho
 -- ---- reports
 
 module _ (names : (bytes : List ℕ) (o : Options) → IsOptionsText bytes o → IsNameOrNone o.job)
-    (numbers : (p : Parts) → IsInstance (program p))
-    (shows : (I : Instance) (t : Terms) (o : Outcome) (c : Clock) → IsInstance I → HaveOneRange I → IsSearchAnswer I t o c → IsShown I o)
+    (numbers : (p : Parts) → IsProblem (problem p))
+    (shows : (P : Problem) (t : Terms) (o : Outcome) (c : Clock) → IsProblem P → IsSearchAnswer P t o c → IsShown P o)
     (comes_back : (r : Report) → ComesBack r → IsReportText (report_text r) r) where
   -- a report of a good claim is read from its own text, and accepted
   record IsGoodReport (osil : List ℕ) (r : Report) : Type 0 where
@@ -79,7 +87,6 @@ module _ (names : (bytes : List ℕ) (o : Options) → IsOptionsText bytes o →
     pub bare : IsBareOrNone job
     pub parts : Parts
     pub instance_text : IsInstanceText osil parts
-    pub searched : IsSearched parts
     pub claim : Claim
     pub back : ClaimComesBack (Some claim)
     pub good : IsGood parts job claim
@@ -88,13 +95,12 @@ module _ (names : (bytes : List ℕ) (o : Options) → IsOptionsText bytes o →
   solved_good : (osil osol : List ℕ) (stop : Option ℕ) (looks : ℕ) (r : Report) → Solved osil osol stop looks r → IsGoodReport osil r
   solved_good osil osol stop looks r s =
       let g = s.given in
-      let shown = shows (program g.parts) (job_terms g.options stop) s.outcome _ (numbers g.parts) (one_range g.parts s.searched) (searched s.ends) in
+      let shown = shows (problem g.parts) (job_terms g.options stop) s.outcome _ (numbers g.parts) (searched s.ends) in
       record {
         job = g.options.job;
         bare = bare_name g.options.job (names osol g.options g.options_text);
         parts = g.parts;
         instance_text = g.instance_text;
-        searched = s.searched;
         claim = s.told;
         back = s.numbers;
         good = closed_good g.parts g.options.job g.valid (short_name g.options.job (names osol g.options g.options_text)) s.turns s.found s.told (record { outcome = s.outcome; tells = s.tells; shown = shown }) s.closed;
@@ -109,16 +115,15 @@ module _ (names : (bytes : List ℕ) (o : Options) → IsOptionsText bytes o →
   best_good osil osol job c r whose b is =
       let g = b.given in
       let named = job_bare osol job whose in
-      let shown = shows (program g.parts) (job_terms g.options None) (early b.moment.best causes.Memory) b.moment.clock (numbers g.parts) (one_range g.parts b.searched) (given_up_at b.comes) in
+      let shown = shows (problem g.parts) (job_terms g.options None) (early b.moment.best causes.Memory) b.moment.clock (numbers g.parts) (given_up_at b.comes) in
       let claimed : IsShownClaim g.parts c = record { outcome = early b.moment.best causes.Memory; tells = b.tells; shown = shown } in
       record {
         job = job;
         bare = named.0;
         parts = g.parts;
         instance_text = g.instance_text;
-        searched = b.searched;
         claim = c;
-        back = shown_back g.parts c g.valid claimed (wanting_causes c b.moment.best b.tells.cause);
+        back = shown_back g.parts c g.valid claimed (no_certificates c (wanting c b.moment.best b.tells)) (wanting_causes c b.moment.best b.tells.cause);
         good = other_good g.parts job g.valid named.1 c claimed (wanting c b.moment.best b.tells);
         is = is;
       }
@@ -148,7 +153,7 @@ module _ (names : (bytes : List ℕ) (o : Options) → IsOptionsText bytes o →
           stands = stands;
           says = says;
           accepted = subst (λ (d : Claim). Accepts (problem g.parts) (Means.claim d)) same
-              (accepts_of g.parts g.claim k g.searched g.good.shown g.good.accepted (ap kind same ∙ says));
+              (accepts_of g.parts g.claim k g.good.shown g.good.accepted (ap kind same ∙ says));
         };
       }
 
@@ -156,7 +161,6 @@ module _ (names : (bytes : List ℕ) (o : Options) → IsOptionsText bytes o →
   answer_good : (osil osol : List ℕ) (asked : Bool) (r : Report) (c : Claim) (k : Kind) → AnswersJob osil osol asked r → r.claim ≡ Some c → kind c ≡ Some k → IsGoodReport osil r
   answer_good osil osol asked r c k (no_options a) stands says = absurd (claims_nothing r c (ap (λ (s : Report). s.claim) a.is) stands)
   answer_good osil osol asked r c k (no_instance a) stands says = absurd (claims_nothing r c (ap (λ (s : Report). s.claim) a.is) stands)
-  answer_good osil osol asked r c k (not_solved a) stands says = absurd (claims_nothing r c (ap (λ (s : Report). s.claim) a.is) stands)
   answer_good osil osol asked r c k (solved stop looks may s) stands says = solved_good osil osol stop looks r s
   answer_good osil osol asked r c k (gave_up a) stands says = by a.claims
     where

@@ -1,68 +1,106 @@
--- The nodes that a claim of a search carries.
-use Rattle.std.proofs.Common.{◌≡◌, ℕ, ◌+◌, ◌^◌, ◌≤◌, None, Some, List, [], ◌∷◌, ◌++◌, arith, refl, ap, sym, ◌∙◌, subst}
+-- The certificates that a claim of a search carries: their columns are the instance's and those of their own rows.
+use Rattle.std.proofs.Common.{◌≡◌, ℕ, ◌+◌, ◌^◌, ◌<◌, ◌≤◌, Option, None, Some, List, [], ◌∷◌, length, slice_index_or, arith, refl, ap, sym, ◌∙◌, subst}
 use Rattle.std.specs.List.{All, flat_map}
-use Rattle.std.proofs.lemmas.List.{length-map, map-append}
-use Rattle.std.proofs.lemmas.List.Elements.{All-nil, All-append}
-use Rattle.evidence.specs.Instance.{Instance, width, height, minimising}
-use Rattle.evidence.specs.Cases.{Node}
-use Rattle.evidence.specs.Rounds.{Certificate}
+use Rattle.std.proofs.lemmas.List.{length-map, length-drop}
+use Rattle.std.proofs.lemmas.List.Elements.{All-nil, All-cons, All-head, All-tail, All-append, All-map}
+use Rattle.rational.specs.Ratio.{Ratio, whole}
+use Rattle.evidence.specs.Instance.{Instance, Problem, width, height}
+use Rattle.evidence.specs.OneDenominator.{number_at}
+use Rattle.evidence.specs.Cases.{Multiplier, Node}
+use Rattle.evidence.specs.Rounds.{Certificate, derive}
 use Rattle.evidence.specs.Claim as Says
+use Rattle.evidence.proofs.AddedRows.{height_added}
 use Rattle.instance.specs.Parts.{Parts, IsValid}
-use Rattle.instance.specs.Program.{program, variable, row}
+use Rattle.instance.specs.Program.{problem, variable, row, goal, goals}
 use Rattle.certificate.specs.Meanings as Means
-use Rattle.certificate.specs.Nodes.{nodes_of, IsInRange}
+use Rattle.certificate.specs.Nodes.{certs_of, nodes_of, IsInRange}
 use Rattle.certificate.specs.declared.nodes.Cert.{Cert}
 use Rattle.certificate.specs.declared.claims.Claim.{Claim}
 use Rattle.certificate.specs.declared.claims.Claim.TheVariants as Has
 use Rattle.search_rules.specs.Search.{Outcome, Optimal, Infeasible, Unbounded, BestSoFar, Unsure}
-use Rattle.search_rules.specs.Outcomes.{IsShown}
-use Rattle.branch_bound.specs.Claims.{said}
-use Rattle.solve_run.specs.Judging.{IsShownClaim}
-use Rattle.solve_run.proofs.Numbers.{IsWithin, nodes_within, in_range}
+use Rattle.search_rules.specs.Outcomes.{IsShown, ProvesAfter}
+use Rattle.branch_bound.specs.Claims.{ClaimTells, said}
+use Rattle.solve_run.specs.Judging.{IsShownClaim, HasFewRounds}
+use Rattle.solve_run.proofs.Numbers.{HasColumn, IsWithin, nodes_within, some_nodes, in_range}
+use Rattle.solve_run.proofs.Proved.{ProvesIn, most_columns, best_levels, endless_levels}
 
-abbrev all_nodes : List Certificate → List Node
-all_nodes cs = flat_map (λ (c : Certificate). c.nodes) cs
+-- what is said carries these certificates
+abbrev pub said_certificates : Says.Claim → List Certificate
+said_certificates (Says.Optimal x vs cs) = cs
+said_certificates (Says.Infeasible c) = c ∷ []
+said_certificates (Says.Unbounded x vs cs r) = cs
+said_certificates (Says.BestSoFar x vs) = []
+said_certificates Says.Unsure = []
 
-abbrev said_nodes : Says.Claim → List Node
-said_nodes (Says.Optimal x vs cs) = all_nodes cs
-said_nodes (Says.Infeasible c) = all_nodes (c ∷ [])
-said_nodes (Says.Unbounded x vs cs r) = all_nodes cs
-said_nodes (Says.BestSoFar x vs) = []
-said_nodes Says.Unsure = []
+meant : (c : Claim) → said_certificates (Means.claim c) ≡ Means.certificates (certs_of c)
+meant (Has.Optimal x vs cs) = refl
+meant (Has.Infeasible cert) = refl
+meant (Has.Unbounded x vs cs r) = refl
+meant (Has.BestSoFar x vs c) = refl
+meant (Has.Unsure c) = refl
 
-all_are : (cs : List Cert) → all_nodes (Means.certificates cs) ≡ Means.nodes (flat_map (λ (c : Cert). c.nodes) cs)
-all_are [] = refl
-all_are (c ∷ cs) = ap (λ l. Means.nodes c.nodes ++ l) (all_are cs) ∙ sym (map-append Means.node c.nodes (flat_map (λ (c : Cert). c.nodes) cs))
+-- a claim carries those of its outcome
+pub carried : (c : Claim) (o : Outcome) → ClaimTells c o → said_certificates (said o) ≡ Means.certificates (certs_of c)
+carried c o tells = sym (ap said_certificates tells.says) ∙ meant c
 
-nodes_are : (c : Claim) → said_nodes (Means.claim c) ≡ Means.nodes (nodes_of c)
-nodes_are (Has.Optimal x vs cs) = all_are cs
-nodes_are (Has.Infeasible cert) = all_are (cert ∷ [])
-nodes_are (Has.Unbounded x vs cs r) = all_are cs
-nodes_are (Has.BestSoFar x vs c) = refl
-nodes_are (Has.Unsure c) = refl
+-- its columns are below n, and its tree has nodes
+pub record IsCertWithin (n : ℕ) (c : Certificate) : Type 0 where
+  pub rounds : All (λ (ms : List Multiplier). All (HasColumn n) ms) c.rounds
+  pub nodes : All (IsWithin n) c.nodes
+  pub some : 0 < length c.nodes
 
--- an instance has few columns
-few_columns : (p : Parts) → IsValid p → width (program p) + height (program p) ≤ 2 ^ 32
+after_within : (n : ℕ) (rounds : List (List Multiplier)) (I : Instance) (nodes : List Node) (z : Option Ratio) → width I + height I + length rounds ≤ n → ProvesAfter I rounds nodes z → IsCertWithin n (record { rounds = rounds; nodes = nodes })
+after_within n [] I nodes z few p = record {
+  rounds = All-nil (λ (ms : List Multiplier). All (HasColumn n) ms);
+  nodes = nodes_within n I p.tree z nodes (omega (arith, few)) p.listed p.shows;
+  some = omega (arith, some_nodes p.tree, ap length p.listed);
+}
+after_within n (ms ∷ rounds) I nodes z few (cs, k, cut, fits, rest) =
+    let more = height_added I (record { lb = Some (whole k); ub = None }) (λ j. whole (number_at cs j)) in
+    let r = after_within n rounds (derive I cs k) nodes z (omega (arith, few, more)) rest in
+    record {
+      rounds = All-cons (λ (ns : List Multiplier). All (HasColumn n) ns) ms rounds (λ i d h. let below = cut.legal.columns i d h in omega (arith, below, few)) r.rounds;
+      nodes = r.nodes;
+      some = r.some;
+    }
+
+certs_within : (n most rounds : ℕ) (cs : List Certificate) → most + rounds ≤ n → All (ProvesIn most) cs → All (λ (c : Certificate). length c.rounds ≤ rounds) cs → All (IsCertWithin n) cs
+certs_within n most rounds cs few each fewer i d h =
+    let c : Certificate = slice_index_or cs i d in
+    let p = each i d h in
+    let less = fewer i d h in
+    after_within n c.rounds p.0 c.nodes p.1 (omega (arith, few, less, p.2)) p.3
+
+-- ---- what is shown
+
+each_proves : (P : Problem) (o : Outcome) → IsShown P o → All (ProvesIn (most_columns P)) (said_certificates (said o))
+each_proves P (Optimal x vs cs) s = let l = best_levels P vs cs s.2 in l.each
+each_proves P (Infeasible c) s = All-cons (ProvesIn (most_columns P)) c [] (P.program, None, omega arith, s.1) (All-nil (ProvesIn (most_columns P)))
+each_proves P (Unbounded x vs cs r) s = let l = endless_levels P vs x r cs s.2 in l.each
+each_proves P (BestSoFar x vs c) s = All-nil (ProvesIn (most_columns P))
+each_proves P (Unsure c) s = All-nil (ProvesIn (most_columns P))
+
+-- a problem's programs have few columns
+few_columns : (p : Parts) → IsValid p → most_columns (problem p) + 100 ≤ 2 ^ 32
 few_columns p valid =
     let vars = valid.few_vars in
     let rows = valid.few_rows in
-    omega (arith, vars, rows, length-map p.vars variable, length-map p.rows row)
+    let asked = valid.few_goals in
+    omega (arith, vars, rows, asked, length-map p.vars variable, length-map p.rows row, length-drop 1 (goals p.goals), length-map p.goals goal)
 
-module _ (I : Instance) (few : width I + height I ≤ 2 ^ 32) where
-  alone_within : (ns : List Node) → All (IsWithin (2 ^ 32)) ns → All (IsWithin (2 ^ 32)) (ns ++ [])
-  alone_within ns h = All-append (IsWithin (2 ^ 32)) ns [] h (All-nil (IsWithin (2 ^ 32)))
+pub shown_within : (p : Parts) (c : Claim) → IsValid p → IsShownClaim p c → HasFewRounds c → All (IsCertWithin (2 ^ 32)) (Means.certificates (certs_of c))
+shown_within p c valid s few =
+    certs_within (2 ^ 32) (most_columns (problem p)) 100 (Means.certificates (certs_of c)) (few_columns p valid)
+    (subst (All (ProvesIn (most_columns (problem p)))) (carried c s.outcome s.tells) (each_proves (problem p) s.outcome s.shown))
+    (All-map (λ (d : Certificate). length d.rounds ≤ 100) Means.certificate (certs_of c)
+    (λ i d h. let cert : Cert = slice_index_or (certs_of c) i d in let less = few i d h in omega (arith, less, length-map cert.rounds Means.multipliers)))
 
-  outcome_within : (o : Outcome) → IsShown I o → All (IsWithin (2 ^ 32)) (said_nodes (said o))
-  outcome_within (Optimal x v ns) s = alone_within ns (nodes_within I s.proves.tree (Some (minimising I v)) ns few s.proves.listed s.proves.shows)
-  outcome_within (Infeasible ns) s = alone_within ns (nodes_within I s.tree None ns few s.listed s.shows)
-  outcome_within (Unbounded x v r) s = All-nil (IsWithin (2 ^ 32))
-  outcome_within (BestSoFar x v c) s = All-nil (IsWithin (2 ^ 32))
-  outcome_within (Unsure c) s = All-nil (IsWithin (2 ^ 32))
+-- splits of what is shown are at numbers that fit
+nodes_range : (cs : List Cert) → All (IsCertWithin (2 ^ 32)) (Means.certificates cs) → All IsInRange (flat_map (λ (c : Cert). c.nodes) cs)
+nodes_range [] h = All-nil IsInRange
+nodes_range (c ∷ cs) h =
+    let here = All-head (IsCertWithin (2 ^ 32)) (Means.certificate c) (Means.certificates cs) h in
+    All-append IsInRange c.nodes (flat_map (λ (d : Cert). d.nodes) cs) (in_range c.nodes here.nodes) (nodes_range cs (All-tail (IsCertWithin (2 ^ 32)) (Means.certificate c) (Means.certificates cs) h))
 
--- those of what is shown are of the instance's columns, and at numbers that fit
-pub shown_within : (p : Parts) (c : Claim) → IsValid p → IsShownClaim p c → All (IsWithin (2 ^ 32)) (Means.nodes (nodes_of c))
-shown_within p c valid s =
-    subst (All (IsWithin (2 ^ 32))) (ap said_nodes (sym s.tells.says) ∙ nodes_are c) (outcome_within (program p) (few_columns p valid) s.outcome s.shown)
-
-pub shown_range : (p : Parts) (c : Claim) → IsValid p → IsShownClaim p c → All IsInRange (nodes_of c)
-shown_range p c valid s = in_range (nodes_of c) (shown_within p c valid s)
+pub shown_range : (p : Parts) (c : Claim) → IsValid p → IsShownClaim p c → HasFewRounds c → All IsInRange (nodes_of c)
+shown_range p c valid s few = nodes_range (certs_of c) (shown_within p c valid s few)

@@ -153,14 +153,14 @@ module _ (job : Option (List ℕ)) (short : IsShortName job) where
       let cause = cause_size c in
       omega (arith, text, cause)
 
-  best_size : (x vs : List Frac) (c : Cause) → length x ≤ 1000 → length vs ≡ 1 → nodes_size (claim_nodes (BestSoFar x vs c)) ≤ 4000000
-  best_size x vs c few one =
+  best_size : (x vs : List Frac) (c : Cause) → length x ≤ 1000 → length vs ≤ 8 → nodes_size (claim_nodes (BestSoFar x vs c)) ≤ 4000000
+  best_size x vs c few asked =
       let text = text_size (cause_text c) in
       let cause = cause_size c in
-      omega (arith, text, cause, values_size 0 x, items_size x, goals_size 1 vs, items_size vs, few, one)
+      omega (arith, text, cause, values_size 0 x, items_size x, goals_size 1 vs, items_size vs, few, asked)
 
   pub unsure_short : (c : Cause) → IsShort job (Unsure c)
   unsure_short c = whole_size (Unsure c) (unsure_size c)
 
-  pub best_short : (x vs : List Frac) (c : Cause) → length x ≤ 1000 → length vs ≡ 1 → IsShort job (BestSoFar x vs c)
-  best_short x vs c few one = whole_size (BestSoFar x vs c) (best_size x vs c few one)
+  pub best_short : (x vs : List Frac) (c : Cause) → length x ≤ 1000 → length vs ≤ 8 → IsShort job (BestSoFar x vs c)
+  best_short x vs c few asked = whole_size (BestSoFar x vs c) (best_size x vs c few asked)

@@ -1,9 +1,12 @@
 pub mod Numbers
+pub mod Proved
 pub mod ClaimNodes
+pub mod FewRounds
 pub mod WidthRefusals
 pub mod PartialClaims
 pub mod Lengths
 pub mod Names
+pub mod RoundLimits
 pub mod ReadBack
 pub mod Closings
 pub mod Runs

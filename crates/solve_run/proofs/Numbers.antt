@@ -68,8 +68,8 @@ some_nodes (Of.Bound ms) = omega arith
 some_nodes (Of.Split j k a b) = omega arith
 some_nodes (Of.Zero j a b) = omega arith
 
-pub nodes_within : (I : Instance) (t : Tree) (z : Option Ratio) (ns : List Of.Node) → width I + height I ≤ 2 ^ 32 → ns ≡ preorder t → Shows I t z → All (IsWithin (2 ^ 32)) ns
-nodes_within I t z ns few listed shows = subst (All (IsWithin (2 ^ 32))) (sym listed) (tree_within (2 ^ 32) I t z few shows)
+pub nodes_within : (n : ℕ) (I : Instance) (t : Tree) (z : Option Ratio) (ns : List Of.Node) → width I + height I ≤ n → ns ≡ preorder t → Shows I t z → All (IsWithin n) ns
+nodes_within n I t z ns few listed shows = subst (All (IsWithin n)) (sym listed) (tree_within n I t z few shows)
 
 pub in_range : (ns : List Node) → All (IsWithin (2 ^ 32)) (nodes ns) → All IsInRange ns
 in_range ns h = each_of IsInRange node_range ns h

@@ -1,8 +1,7 @@
 -- A job is answered by one report, but for want of memory and for the look that stops it.
 use Rattle.std.proofs.Common.{◌≡◌, ◌≢◌, ◌∙◌, ℕ, ◌⊎◌, inl, inr, false, Option, None, Some, List, refl, ap, ap₂, sym, subst}
-use Rattle.std.specs.Prelude.{codes}
 use Rattle.instance.specs.Parts.{Parts}
-use Rattle.instance.specs.Program.{program, problem}
+use Rattle.instance.specs.Program.{problem}
 use Rattle.certificate.specs.Meanings as Means
 use Rattle.certificate.specs.declared.claims.Claim.{Claim}
 use Rattle.simplex_rules.specs.Ends.{Clock}
@@ -20,9 +19,9 @@ use Rattle.osil_grammar.specs.declared.fault.OsilFault.TheVariants as instance_f
 use Rattle.osil_grammar.specs.Reading.{IsInstanceText}
 use Rattle.osil_grammar.specs.Reading as instances
 use Rattle.osrl_grammar.specs.declared.report.Report.{Report}
-use Rattle.solve_run.specs.Judging.{IsSearched, IsWideAt, IsJudged, checked}
+use Rattle.solve_run.specs.Judging.{IsWideAt, IsJudged, checked}
 use Rattle.solve_run.specs.Closings.{error_report, claim_report, IsShort, IsFitted, IsToldOf}
-use Rattle.solve_run.specs.JobAnswers.{job_terms, RefusesOptions, RefusesInstance, LeavesInstance, AreJobTexts, Solved, GaveUp, MayStop, AnswersJob, no_options, no_instance, not_solved, solved, gave_up}
+use Rattle.solve_run.specs.JobAnswers.{job_terms, RefusesOptions, RefusesInstance, AreJobTexts, Solved, GaveUp, MayStop, AnswersJob, no_options, no_instance, solved, gave_up}
 use Rattle.document_checker.specs.Grounds.{InstancesAreOne}
 use Rattle.solve_run.specs.Grounds.{OptionsAreOne, SearchesAreOne}
 use Rattle.solve_run.proofs.OneClaim.{claim_once}
@@ -64,29 +63,15 @@ module _ (options : OptionsAreOne) (instances_one : InstancesAreOne) where
       let message = instances_one.told osil a.fault b.fault a.message b.message a.fails b.fails a.says b.says in
       a.is ∙ ap₂ error_report job message ∙ sym b.is
 
-  pub options_left : (osil osol : List ℕ) (r s : Report) → RefusesOptions osol r → LeavesInstance osil osol s → ⊥
-  options_left osil osol r s a b = no_options_given osol b.given.options r a b.given.options_text
-
-  pub instance_left : (osil osol : List ℕ) (r s : Report) → RefusesInstance osil osol r → LeavesInstance osil osol s → ⊥
-  instance_left osil osol r s a b = no_instance_given osil osol b.given.parts r a b.given.instance_text
-
-  pub left_search : (osil osol : List ℕ) (stop : Option ℕ) (looks : ℕ) (r s : Report) → LeavesInstance osil osol r → Solved osil osol stop looks s → ⊥
-  left_search osil osol stop looks r s a b = a.other (subst IsSearched (instances_one.once osil b.given.parts a.given.parts b.given.instance_text a.given.instance_text) b.searched)
-
-  pub left_once : (osil osol : List ℕ) (r s : Report) → LeavesInstance osil osol r → LeavesInstance osil osol s → r ≡ s
-  left_once osil osol r s a b =
-      let job = ap (λ (o : Options). o.job) (options.once osol a.given.options b.given.options a.given.options_text b.given.options_text) in
-      a.is ∙ ap (λ (j : Option (List ℕ)). error_report j (codes "not solved yet")) job ∙ sym b.is
-
 -- ---- what is told of a search
 
 module _ (laws : SearchesAreOne) where
   judged_once : (p : Parts) (c : Claim) (a b : Option ℕ) → IsJudged p c a → IsJudged p c b → a ≡ b
   judged_once p c None None j k = refl
-  judged_once p c None (Some m) j (final, r, refused, wide) = absurd (laws.apart (problem p) (Means.claim c) r (laws.numbers_of p) refused (j final))
-  judged_once p c (Some n) None (final, r, refused, wide) k = absurd (laws.apart (problem p) (Means.claim c) r (laws.numbers_of p) refused (k final))
+  judged_once p c None (Some m) j (final, r, refused, wide) = absurd (laws.apart (problem p) (Means.claim c) r (laws.numbers p) refused (j final))
+  judged_once p c (Some n) None (final, r, refused, wide) k = absurd (laws.apart (problem p) (Means.claim c) r (laws.numbers p) refused (k final))
   judged_once p c (Some n) (Some m) (final, r, refused, (level, is)) (final_too, s, refused_too, (level_too, is_too)) =
-      let same = laws.refusal (problem p) (Means.claim c) r s (laws.numbers_of p) refused refused_too in
+      let same = laws.refusal (problem p) (Means.claim c) r s (laws.numbers p) refused refused_too in
       let number : n ≡ m = cc in
       ap Some number
 
@@ -105,7 +90,7 @@ module _ (laws : SearchesAreOne) where
   record Ended (o : Options) (p : Parts) (stop : Option ℕ) (looks : ℕ) (r : Report) : Type 0 where
     turns : ℕ
     outcome : Outcome
-    ends : Search (program p) (job_terms o stop) outcome (record { turns = turns; looks = looks })
+    ends : Search (problem p) (job_terms o stop) outcome (record { turns = turns; looks = looks })
     found : Claim
     tells : ClaimTells found outcome
     told : Claim
@@ -117,7 +102,7 @@ module _ (laws : SearchesAreOne) where
 
   ended_once : (o : Options) (p : Parts) (stop : Option ℕ) (looks more : ℕ) (r s : Report) → Ended o p stop looks r → Ended o p stop more s → (r ≡ s) × (looks ≡ more)
   ended_once o p stop looks more r s a b =
-      let both = laws.once (program p) (job_terms o stop) a.outcome b.outcome _ _ (laws.numbers p) a.ends b.ends in
+      let both = laws.once (problem p) (job_terms o stop) a.outcome b.outcome _ _ (laws.numbers p) a.ends b.ends in
       let found = claim_once laws.fractions a.found b.found b.outcome (subst (ClaimTells a.found) both.0 a.tells) b.tells in
       let turns = ap (λ (c : Clock). c.turns) both.1 in
       let closed : IsToldOf p o.job b.turns b.found a.told = subst (λ (t : ℕ). IsToldOf p o.job t b.found a.told) turns (subst (λ (c : Claim). IsToldOf p o.job a.turns c a.told) found a.closed) in
@@ -135,13 +120,13 @@ module _ (laws : SearchesAreOne) where
         ended_once b.given.options b.given.parts stop looks more r s (moved osil osol a.given b.given stop looks r (ended osil osol stop looks r a)) (ended osil osol stop more s b)
 
     -- a search that ends with a claim that is refused for no width, and isn't too long, is told
-    complete : (osil osol : List ℕ) (o : Options) (p : Parts) (oc : Outcome) (found : Claim) (c : Clock) (r : Report) → IsOptionsText osol o → IsInstanceText osil p → Search (program p) (job_terms o None) oc c → ClaimTells found oc
+    complete : (osil osol : List ℕ) (o : Options) (p : Parts) (oc : Outcome) (found : Claim) (c : Clock) (r : Report) → IsOptionsText osol o → IsInstanceText osil p → Search (problem p) (job_terms o None) oc c → ClaimTells found oc
         → ((q : Refused) (n : ℕ) → IsRefusedFor (problem p) (Means.claim found) q → IsWideAt q n → ⊥) → IsShort o.job found → (looks : ℕ) → Solved osil osol None looks r → r ≡ claim_report o.job found
     complete osil osol o p oc found c r options_text instance_text ends tells fits short looks s =
         let here = ended osil osol None looks r s in
         let moved_here = subst (λ (x : Options). Ended x p None looks r) (options.once osol s.given.options o s.given.options_text options_text)
         (subst (λ (q : Parts). Ended s.given.options q None looks r) (instances_one.once osil s.given.parts p s.given.instance_text instance_text) here) in
-        let both = laws.once (program p) (job_terms o None) moved_here.outcome oc _ c (laws.numbers p) moved_here.ends ends in
+        let both = laws.once (problem p) (job_terms o None) moved_here.outcome oc _ c (laws.numbers p) moved_here.ends ends in
         let same = claim_once laws.fractions moved_here.found found oc (subst (ClaimTells moved_here.found) both.0 moved_here.tells) tells in
         let closed : IsToldOf p o.job moved_here.turns found moved_here.told = subst (λ (x : Claim). IsToldOf p o.job moved_here.turns x moved_here.told) same moved_here.closed in
         moved_here.is ∙ ap (claim_report o.job) (by moved_here.turns moved_here.told closed.width closed.judged closed.fitted)
@@ -151,14 +136,13 @@ module _ (laws : SearchesAreOne) where
         by turns told None judged (inr (long, same)) = absurd (long short)
         by turns told (Some n) (final, q, refused, wide) fitted = absurd (fits q n refused wide)
 
-    pub told_at_end : (osil osol : List ℕ) (o : Options) (p : Parts) (oc : Outcome) (found : Claim) (c : Clock) (r : Report) → IsOptionsText osol o → IsInstanceText osil p → IsSearched p → Search (program p) (job_terms o None) oc c → ClaimTells found oc → ((q : Refused) (n : ℕ) → IsRefusedFor (problem p) (Means.claim found) q → IsWideAt q n → ⊥) → IsShort o.job found → AnswersJob osil osol false r
+    pub told_at_end : (osil osol : List ℕ) (o : Options) (p : Parts) (oc : Outcome) (found : Claim) (c : Clock) (r : Report) → IsOptionsText osol o → IsInstanceText osil p → Search (problem p) (job_terms o None) oc c → ClaimTells found oc → ((q : Refused) (n : ℕ) → IsRefusedFor (problem p) (Means.claim found) q → IsWideAt q n → ⊥) → IsShort o.job found → AnswersJob osil osol false r
         → (r ≡ claim_report o.job found) ⊎ GaveUp osil osol r
-    told_at_end osil osol o p oc found c r options_text instance_text one ends tells fits short (no_options a) = absurd (no_options_given options instances_one osol o r a options_text)
-    told_at_end osil osol o p oc found c r options_text instance_text one ends tells fits short (no_instance a) = absurd (no_instance_given options instances_one osil osol p r a instance_text)
-    told_at_end osil osol o p oc found c r options_text instance_text one ends tells fits short (not_solved a) = absurd (a.other (subst IsSearched (instances_one.once osil p a.given.parts instance_text a.given.instance_text) one))
-    told_at_end osil osol o p oc found c r options_text instance_text one ends tells fits short (solved stop looks may s) = inl (complete osil osol o p oc found c r options_text instance_text ends tells fits short looks (subst (λ (x : Option ℕ). Solved osil osol x looks r) (none may) s))
+    told_at_end osil osol o p oc found c r options_text instance_text ends tells fits short (no_options a) = absurd (no_options_given options instances_one osol o r a options_text)
+    told_at_end osil osol o p oc found c r options_text instance_text ends tells fits short (no_instance a) = absurd (no_instance_given options instances_one osil osol p r a instance_text)
+    told_at_end osil osol o p oc found c r options_text instance_text ends tells fits short (solved stop looks may s) = inl (complete osil osol o p oc found c r options_text instance_text ends tells fits short looks (subst (λ (x : Option ℕ). Solved osil osol x looks r) (none may) s))
       where
         none : MayStop false stop looks → stop ≡ None
         none (inl is) = is
         none (inr (asked, is)) = absurd (cc)
-    told_at_end osil osol o p oc found c r options_text instance_text one ends tells fits short (gave_up a) = inr a
+    told_at_end osil osol o p oc found c r options_text instance_text ends tells fits short (gave_up a) = inr a

@@ -1,10 +1,10 @@
 -- What is left of a claim that is given up is shown too, and isn't final.
 use Rattle.std.proofs.Common.{◌≡◌, ◌∙◌, Option, None, Some, List, refl, ap, sym}
 use Rattle.rational.specs.Ratio.{Ratio}
-use Rattle.evidence.specs.Instance.{Instance}
+use Rattle.evidence.specs.Instance.{Problem}
 use Rattle.evidence.specs.Claim as Says
 use Rattle.instance.specs.Parts.{Parts}
-use Rattle.instance.specs.Program.{program}
+use Rattle.instance.specs.Program.{problem}
 use Rattle.certificate.specs.Meanings as Means
 use Rattle.certificate.specs.declared.causes.Cause.{Cause}
 use Rattle.certificate.specs.declared.claims.Claim.{Claim}
@@ -23,18 +23,18 @@ given_other (Has.Unsure c) cause f = f
 
 -- what is left of a claim that is given up tells what is left of its outcome
 abbrev left : Outcome → Cause → Outcome
-left (Optimal x v ns) c = BestSoFar x v c
-left (Infeasible ns) c = Unsure c
-left (Unbounded x v r) c = BestSoFar x v c
-left (BestSoFar x v old) c = BestSoFar x v c
+left (Optimal x vs cs) c = BestSoFar x vs c
+left (Infeasible cert) c = Unsure c
+left (Unbounded x vs cs r) c = BestSoFar x vs c
+left (BestSoFar x vs old) c = BestSoFar x vs c
 left (Unsure old) c = Unsure c
 
-left_shown : (I : Instance) (o : Outcome) (cause : Cause) → IsShown I o → IsShown I (left o cause)
-left_shown I (Optimal x v ns) cause s = s.point
-left_shown I (Infeasible ns) cause s = tt
-left_shown I (Unbounded x v r) cause s = s.0
-left_shown I (BestSoFar x v c) cause s = s
-left_shown I (Unsure c) cause s = tt
+left_shown : (P : Problem) (o : Outcome) (cause : Cause) → IsShown P o → IsShown P (left o cause)
+left_shown P (Optimal x vs cs) cause s = s.0
+left_shown P (Infeasible cert) cause s = tt
+left_shown P (Unbounded x vs cs r) cause s = s.0
+left_shown P (BestSoFar x vs c) cause s = s
+left_shown P (Unsure c) cause s = tt
 
 -- the point of what is said
 abbrev point_said : Says.Claim → Option (List Ratio × List Ratio)
@@ -56,10 +56,10 @@ given_says (Has.BestSoFar x vs c) cause = refl
 given_says (Has.Unsure c) cause = refl
 
 left_says : (o : Outcome) (cause : Cause) → said (left o cause) ≡ with_point (point_said (said o))
-left_says (Optimal x v ns) cause = refl
-left_says (Infeasible ns) cause = refl
-left_says (Unbounded x v r) cause = refl
-left_says (BestSoFar x v c) cause = refl
+left_says (Optimal x vs cs) cause = refl
+left_says (Infeasible cert) cause = refl
+left_says (Unbounded x vs cs r) cause = refl
+left_says (BestSoFar x vs c) cause = refl
 left_says (Unsure c) cause = refl
 
 given_cause : (c : Claim) (cause : Cause) → claimed_cause (given_up c cause) ≡ Some cause
@@ -70,10 +70,10 @@ given_cause (Has.BestSoFar x vs c) cause = refl
 given_cause (Has.Unsure c) cause = refl
 
 left_cause : (o : Outcome) (cause : Cause) → cause_of (left o cause) ≡ Some cause
-left_cause (Optimal x v ns) cause = refl
-left_cause (Infeasible ns) cause = refl
-left_cause (Unbounded x v r) cause = refl
-left_cause (BestSoFar x v c) cause = refl
+left_cause (Optimal x vs cs) cause = refl
+left_cause (Infeasible cert) cause = refl
+left_cause (Unbounded x vs cs r) cause = refl
+left_cause (BestSoFar x vs c) cause = refl
 left_cause (Unsure c) cause = refl
 
 pub given_shown : (p : Parts) (c : Claim) (cause : Cause) → IsShownClaim p c → IsShownClaim p (given_up c cause)
@@ -83,5 +83,5 @@ given_shown p c cause s = record {
     says = given_says c cause ∙ ap (λ d. with_point (point_said d)) s.tells.says ∙ sym (left_says s.outcome cause);
     cause = given_cause c cause ∙ sym (left_cause s.outcome cause);
   };
-  shown = left_shown (program p) s.outcome cause s.shown;
+  shown = left_shown (problem p) s.outcome cause s.shown;
 }

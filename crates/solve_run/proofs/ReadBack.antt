@@ -1,18 +1,19 @@
 -- What a search has shown is read back as it is told.
-use Rattle.std.proofs.Common.{◌≡◌, ◌∙◌, ℕ, ◌+◌, ◌^◌, ◌<◌, ◌≤◌, ℤ, pos, negsuc, Option, None, Some, List, [], ◌∷◌, ◌++◌, map, length, refl, ap, sym, subst, arith}
+use Rattle.std.proofs.Common.{◌≡◌, ◌∙◌, ℕ, suc, ◌+◌, ◌^◌, ◌<◌, ◌≤◌, ℤ, pos, negsuc, Option, None, Some, List, [], ◌∷◌, map, length, refl, sym, subst, arith}
 use Rattle.std.specs.Prelude.{unsigned_abs, neg_ℤ, ◌≤ℤ◌, ◌<ℤ◌}
-use Rattle.std.specs.List.{All, flat_map}
+use Rattle.std.specs.List.{All}
 use Rattle.std.proofs.lemmas.Int.{ints}
-use Rattle.std.proofs.lemmas.List.{append-nil, length-map}
+use Rattle.std.proofs.lemmas.List.{length-map}
 use Rattle.std.proofs.lemmas.List.Elements.{All-nil, All-cons, All-head, All-tail}
+use Rattle.rational.specs.Ratio.{Ratio}
 use Rattle.rational.specs.Width.{most}
 use Rattle.fraction.specs.Frac.{ratio}
-use Rattle.evidence.specs.Instance.{Instance}
+use Rattle.evidence.specs.Instance.{Problem}
 use Rattle.evidence.specs.Cases as Of
 use Rattle.evidence.specs.Rounds.{Certificate}
 use Rattle.evidence.specs.Claim as Says
 use Rattle.instance.specs.Parts.{Parts, IsValid}
-use Rattle.instance.specs.Program.{program}
+use Rattle.instance.specs.Program.{problem}
 use Rattle.certificate.specs.declared.lists.Mult.{Mult}
 use Rattle.certificate.specs.declared.nodes.Node.{Node}
 use Rattle.certificate.specs.declared.nodes.Node.TheVariants.{Split, Zero, Clash, Farkas, Bound}
@@ -22,17 +23,19 @@ use Rattle.certificate.specs.declared.causes.Cause.TheVariants.{Memory}
 use Rattle.certificate.specs.declared.claims.Claim.{Claim}
 use Rattle.certificate.specs.declared.claims.Claim.TheVariants as Has
 use Rattle.certificate.specs.Meanings.{multiplier, multipliers, node, certificate, certificates, claim}
-use Rattle.certificate.specs.Nodes.{nodes_of}
+use Rattle.certificate.specs.Nodes.{certs_of}
 use Rattle.search_rules.specs.Search.{Found, Outcome, Optimal, Infeasible, Unbounded, BestSoFar, Unsure, early}
-use Rattle.search_rules.specs.Outcomes.{Proves, IsShown}
+use Rattle.search_rules.specs.Outcomes.{IsPoint, IsShown}
+use Rattle.cert_checker.specs.LevelRefusals.{Best, Endless}
 use Rattle.branch_bound.specs.Claims.{said, cause_of, claimed_cause}
 use Rattle.osrl_grammar.specs.Back.{HaveColumns, NodeComesBack, CauseComesBack, LevelComesBack, TreesComeBack, HasTrees, MayHaveTrees, ClaimComesBack}
-use Rattle.solve_run.specs.Judging.{IsShownClaim}
+use Rattle.solve_run.specs.Judging.{IsShownClaim, HasFewRounds}
 use Rattle.solve_run.specs.Runs.{HasCauses}
-use Rattle.solve_run.proofs.Numbers.{HasColumn, IsWithin, each_of, some_nodes}
-use Rattle.solve_run.proofs.ClaimNodes.{shown_within}
+use Rattle.solve_run.proofs.Numbers.{HasColumn, IsWithin, each_of}
+use Rattle.solve_run.proofs.Proved.{at_most_goals, best_levels, endless_levels, HasNoRounds, HaveNoRoundsBehind, none_behind}
+use Rattle.solve_run.proofs.ClaimNodes.{said_certificates, carried, IsCertWithin, shown_within}
 
--- ---- nodes
+-- ---- certificates
 
 columns_back : (ms : List Mult) → All (HasColumn (2 ^ 32)) (multipliers ms) → HaveColumns ms
 columns_back [] h = All-nil (λ m. m.col < 2 ^ 32)
@@ -49,68 +52,92 @@ node_back (Clash c) h = h
 node_back (Farkas ms) h = columns_back ms h
 node_back (Bound ms) h = columns_back ms h
 
--- ---- what a search says of its one goal
+abbrev HaveTheirColumns : List Of.Multiplier → Type 0
+HaveTheirColumns ms = All (HasColumn (2 ^ 32)) ms
 
--- one value, and no round in a tree of some nodes
-abbrev IsAlone : Certificate → Type 0
-IsAlone c = (c.rounds ≡ []) × (0 < length c.nodes)
+rounds_back : (rs : List (List Mult)) → All HaveTheirColumns (map multipliers rs) → All HaveColumns rs
+rounds_back [] h = All-nil HaveColumns
+rounds_back (r ∷ rs) h =
+    All-cons HaveColumns r rs (columns_back r (All-head HaveTheirColumns (multipliers r) (map multipliers rs) h)) (rounds_back rs (All-tail HaveTheirColumns (multipliers r) (map multipliers rs) h))
 
-abbrev AreAlone : List Certificate → Type 0
-AreAlone [] = ⊥
-AreAlone (c ∷ cs) = IsAlone c × (cs ≡ [])
+nodes_back : (c : Cert) → IsCertWithin (2 ^ 32) (certificate c) → All NodeComesBack c.nodes
+nodes_back c within = each_of NodeComesBack node_back c.nodes within.nodes
 
-abbrev IsOfOneGoal : Says.Claim → Type 0
-IsOfOneGoal (Says.Optimal x vs cs) = (length vs ≡ 1) × AreAlone cs
-IsOfOneGoal (Says.Infeasible c) = IsAlone c
-IsOfOneGoal (Says.Unbounded x vs cs r) = (length vs ≡ 1) × (cs ≡ [])
-IsOfOneGoal (Says.BestSoFar x vs) = length vs ≡ 1
-IsOfOneGoal Says.Unsure = Unit {0}
+no_rounds : (rs : List (List Mult)) → map multipliers rs ≡ [] → rs ≡ []
+no_rounds [] e = refl
+no_rounds (r ∷ rs) e = let clash : multipliers r ∷ map multipliers rs ≡ [] = e in absurd (cc)
 
-module _ (I : Instance) where
-  some_proving : (ns : List Of.Node) (t : Of.Tree) → ns ≡ Of.preorder t → 0 < length ns
-  some_proving ns t listed = omega (arith, some_nodes t, ap length listed)
+abbrev AreWithin : List Cert → Type 0
+AreWithin cs = All (IsCertWithin (2 ^ 32)) (certificates cs)
 
-  one_goal : (o : Outcome) → IsShown I o → IsOfOneGoal (said o)
-  one_goal (Optimal x v ns) s = (refl, ((refl, some_proving ns s.proves.tree s.proves.listed), refl))
-  one_goal (Infeasible ns) s = (refl, some_proving ns s.tree s.listed)
-  one_goal (Unbounded x v r) s = (refl, refl)
-  one_goal (BestSoFar x v c) s = refl
-  one_goal (Unsure c) s = tt
+levels_back : (cs : List Cert) → AreWithin cs → All HasNoRounds (certificates cs) → All LevelComesBack cs
+levels_back [] within none = All-nil LevelComesBack
+levels_back (c ∷ cs) within none =
+    let here = All-head (IsCertWithin (2 ^ 32)) (certificate c) (certificates cs) within in
+    All-cons LevelComesBack c cs (no_rounds c.rounds (All-head HasNoRounds (certificate c) (certificates cs) none), nodes_back c here)
+    (levels_back cs (All-tail (IsCertWithin (2 ^ 32)) (certificate c) (certificates cs) within) (All-tail HasNoRounds (certificate c) (certificates cs) none))
+
+trees_back : (c : Cert) (cs : List Cert) → AreWithin (c ∷ cs) → All HasNoRounds (certificates cs) → TreesComeBack c cs
+trees_back c cs within none =
+    let here = All-head (IsCertWithin (2 ^ 32)) (certificate c) (certificates cs) within in
+    let some = here.some in
+    record {
+      some = omega (arith, some, length-map c.nodes node);
+      rounds = rounds_back c.rounds here.rounds;
+      first = nodes_back c here;
+      levels = levels_back cs (All-tail (IsCertWithin (2 ^ 32)) (certificate c) (certificates cs) within) none;
+    }
+
+some_back : (cs : List Cert) → 0 < length (certificates cs) → AreWithin cs → HaveNoRoundsBehind (certificates cs) → HasTrees cs
+some_back [] some within none = absurd (omega (arith, some))
+some_back (c ∷ cs) some within none = trees_back c cs within none
+
+all_back : (cs : List Cert) → AreWithin cs → HaveNoRoundsBehind (certificates cs) → MayHaveTrees cs
+all_back [] within none = tt
+all_back (c ∷ cs) within none = trees_back c cs within none
+
+-- ---- what a search says of its goals
+
+-- a value at least, and where the point is optimal a certificate
+abbrev HasValues : Says.Claim → Type 0
+HasValues (Says.Optimal x vs cs) = (0 < length vs) × (0 < length cs)
+HasValues (Says.Infeasible c) = Unit {0}
+HasValues (Says.Unbounded x vs cs r) = 0 < length vs
+HasValues (Says.BestSoFar x vs) = 0 < length vs
+HasValues Says.Unsure = Unit {0}
+
+module _ (P : Problem) where
+  some_values : (x vs : List Ratio) → IsPoint P x vs → 0 < length vs
+  some_values x vs p = let n = p.values.count in omega (arith, n)
+
+  has_values : (o : Outcome) → IsShown P o → HasValues (said o)
+  has_values (Optimal x vs cs) s = let l = best_levels P vs cs s.2 in let n = l.enough in (some_values x vs s.0, omega (arith, n))
+  has_values (Infeasible c) s = tt
+  has_values (Unbounded x vs cs r) s = some_values x vs s.0
+  has_values (BestSoFar x vs c) s = some_values x vs s
+  has_values (Unsure c) s = tt
+
+  no_rounds_behind : (o : Outcome) → IsShown P o → HaveNoRoundsBehind (said_certificates (said o))
+  no_rounds_behind (Optimal x vs cs) s = let l = best_levels P vs cs s.2 in none_behind P cs (at_most_goals Best (length cs) (suc (length P.later)) l.enough) s.1
+  no_rounds_behind (Infeasible c) s = All-nil HasNoRounds
+  no_rounds_behind (Unbounded x vs cs r) s = let l = endless_levels P vs x r cs s.2 in none_behind P cs (at_most_goals (Endless x r) (length cs) (suc (length P.later)) l.enough) s.1
+  no_rounds_behind (BestSoFar x vs c) s = tt
+  no_rounds_behind (Unsure c) s = tt
 
 -- ---- claims
 
-no_rounds : (rs : List (List Mult)) → map multipliers rs ≡ [] → All HaveColumns rs
-no_rounds [] e = All-nil HaveColumns
-no_rounds (r ∷ rs) e = let clash : multipliers r ∷ map multipliers rs ≡ [] = e in absurd (cc)
+claim_back : (c : Claim) → HasValues (claim c) → AreWithin (certs_of c) → HaveNoRoundsBehind (certificates (certs_of c)) → HasCauses c → ClaimComesBack (Some c)
+claim_back (Has.Optimal x vs cs) values within none causes = (omega (arith, values.0, length-map vs ratio), some_back cs values.1 within none)
+claim_back (Has.Infeasible cert) values within none causes = trees_back cert [] within none
+claim_back (Has.Unbounded x vs cs r) values within none causes = (omega (arith, values, length-map vs ratio), all_back cs within none)
+claim_back (Has.BestSoFar x vs c) values within none causes = (omega (arith, values, length-map vs ratio), causes)
+claim_back (Has.Unsure c) values within none causes = causes
 
-tree_back : (c : Cert) → IsAlone (certificate c) → All NodeComesBack (c.nodes ++ []) → TreesComeBack c []
-tree_back c alone back = record {
-  some = omega (arith, alone.1, length-map c.nodes node);
-  rounds = no_rounds c.rounds alone.0;
-  first = subst (All NodeComesBack) (append-nil c.nodes) back;
-  levels = All-nil LevelComesBack;
-}
-
-trees_back : (cs : List Cert) → AreAlone (certificates cs) → All NodeComesBack (flat_map (λ (c : Cert). c.nodes) cs) → HasTrees cs
-trees_back [] alone back = absurd alone
-trees_back (c ∷ []) alone back = tree_back c alone.0 back
-trees_back (c ∷ d ∷ cs) alone back = let clash : certificate d ∷ certificates cs ≡ [] = alone.1 in absurd (cc)
-
-no_trees : (cs : List Cert) → certificates cs ≡ [] → MayHaveTrees cs
-no_trees [] e = tt
-no_trees (c ∷ cs) e = let clash : certificate c ∷ certificates cs ≡ [] = e in absurd (cc)
-
-claim_back : (c : Claim) → IsOfOneGoal (claim c) → All NodeComesBack (nodes_of c) → HasCauses c → ClaimComesBack (Some c)
-claim_back (Has.Optimal x vs cs) one back causes = (omega (arith, one.0, length-map vs ratio), trees_back cs one.1 back)
-claim_back (Has.Infeasible cert) one back causes = tree_back cert one back
-claim_back (Has.Unbounded x vs cs r) one back causes = (omega (arith, one.0, length-map vs ratio), no_trees cs one.1)
-claim_back (Has.BestSoFar x vs c) one back causes = (omega (arith, one, length-map vs ratio), causes)
-claim_back (Has.Unsure c) one back causes = causes
-
--- a claim that is shown, whose cause has numbers of its types
-pub shown_back : (p : Parts) (c : Claim) → IsValid p → IsShownClaim p c → HasCauses c → ClaimComesBack (Some c)
-shown_back p c valid s causes =
-    claim_back c (subst IsOfOneGoal (sym s.tells.says) (one_goal (program p) s.outcome s.shown)) (each_of NodeComesBack node_back (nodes_of c) (shown_within p c valid s)) causes
+-- a claim that is shown, of few rounds, whose cause has numbers of its types
+pub shown_back : (p : Parts) (c : Claim) → IsValid p → IsShownClaim p c → HasFewRounds c → HasCauses c → ClaimComesBack (Some c)
+shown_back p c valid s few causes =
+    claim_back c (subst HasValues (sym s.tells.says) (has_values (problem p) s.outcome s.shown)) (shown_within p c valid s few)
+    (subst HaveNoRoundsBehind (carried c s.outcome s.tells) (no_rounds_behind (problem p) s.outcome s.shown)) causes
 
 -- ---- want of memory
 

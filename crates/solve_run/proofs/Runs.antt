@@ -1,21 +1,25 @@
 -- What the run of a job tells.
-use Rattle.std.proofs.Common.{◌≡◌, ◌∙◌, ℕ, zero, suc, ◌+◌, inl, inr, Bool, true, false, Option, None, Some, Result, Ok, List, [], ◌∷◌, ◌++◌, arith, refl, ap, sym, subst}
-use Rattle.std.specs.Prelude.{IfOk, codes}
+use Rattle.std.proofs.Common.{◌≡◌, ◌∙◌, ℕ, zero, suc, ◌+◌, ◌≤◌, inl, inr, Bool, true, false, Option, None, Some, Result, Ok, List, [], ◌∷◌, ◌++◌, length, slice_index_or, arith, refl, ap, sym, subst}
+use Rattle.std.specs.Prelude.{IfOk}
+use Rattle.std.specs.List.{All}
 use Rattle.std.proofs.lemmas.Result.{IfOk-weaker}
-use Rattle.std.proofs.lemmas.List.{length-map}
+use Rattle.std.proofs.lemmas.List.{length-map, get_or-map}
 use Rattle.os_io.specs.Looks.{stops_of}
-use Rattle.evidence.specs.Instance.{Instance, IsInstance}
+use Rattle.evidence.specs.Instance.{Problem, IsProblem}
+use Rattle.evidence.specs.Rounds.{Certificate}
 use Rattle.instance.specs.Parts.{Parts, IsValid}
-use Rattle.instance.specs.Program.{program, variable}
-use Rattle.fraction.specs.Frac.{ratio}
+use Rattle.instance.specs.Program.{problem}
+use Rattle.certificate.specs.Nodes.{certs_of}
+use Rattle.certificate.specs.declared.nodes.Cert.{Cert}
+use Rattle.certificate.specs.Meanings as Means
 use Rattle.certificate.specs.declared.causes.Cause.TheVariants.{Memory}
 use Rattle.certificate.specs.declared.claims.Claim.{Claim}
 use Rattle.certificate.specs.declared.claims.Claim.TheVariants as Has
 use Rattle.simplex_rules.specs.Ends.{Terms, Clock}
 use Rattle.simplex_rules.specs.Looks.{answers, went_on, AgreesWith as Agrees, looks_after, stop_after}
 use Rattle.simplex_rules.proofs.Looks.{agrees}
-use Rattle.search_rules.specs.Search.{Found, Outcome, BestSoFar, Unsure, Moment, ComesInSearch, Search, IsSearchAnswer, early, searched, given_up as given_up_at, given_up_after}
-use Rattle.search_rules.specs.Outcomes.{IsShown, HaveOneRange}
+use Rattle.search_rules.specs.Search.{Found, Outcome, BestSoFar, Unsure, SearchMoment, ComesInSearch, Search, IsSearchAnswer, early, searched, given_up as given_up_at, given_up_after}
+use Rattle.search_rules.specs.Outcomes.{IsShown}
 use Rattle.branch_bound.specs.Claims.{ClaimTells, is_killed}
 use Rattle.osol_grammar.specs.declared.options.Options.{Options}
 use Rattle.osol_grammar.specs.declared.fault.OsolFault.{OsolFault}
@@ -28,14 +32,16 @@ use Rattle.osil_grammar.specs.Reading.{IsInstanceText}
 use Rattle.osil_grammar.specs.Reading as instances
 use Rattle.osrl_grammar.specs.declared.report.Report.{Report}
 use Rattle.solve_run.specs.declared.document.Document.{Document}
-use Rattle.solve_run.specs.Judging.{IsSearched, IsShownClaim, IsFinal, IsJudged, checked}
+use Rattle.solve_run.specs.Judging.{IsShownClaim, AreFewRounds, HasFewRounds, IsFinal, IsJudged, checked}
 use Rattle.solve_run.specs.Closings.{claim_report, error_report, IsShort, IsFitted, IsToldOf}
 use Rattle.solve_run.specs.JobAnswers.{job_terms, AreJobTexts, IsJobOf, MayStop, AnswersJob, Right}
 use Rattle.solve_run.specs.JobAnswers as right
-use Rattle.solve_run.specs.Runs.{Reports, no_options, no_instance, not_solved, solved, gave_up, TellsOutcome, TellsText, TellsDocument, IsRight, Ran, ClosesClaim, IsClaimTold, IsMemoryDocument, IsErrorDocument}
+use Rattle.solve_run.specs.Runs.{Reports, no_options, no_instance, solved, gave_up, TellsOutcome, TellsText, TellsDocument, IsRight, Ran, ClosesClaim, IsClaimTold, IsMemoryDocument, IsErrorDocument}
 use Rattle.solve_run.proofs.Lengths.{IsShortName, best_short, unsure_short}
 use Rattle.solve_run.proofs.Names.{short_name}
-use Rattle.solve_run.proofs.WidthRefusals.{one_range, decided, few_values}
+use Rattle.solve_run.proofs.WidthRefusals.{decided, few_values}
+use Rattle.solve_run.proofs.ClaimNodes.{carried}
+use Rattle.solve_run.proofs.FewRounds.{answer_few}
 
 -- ---- claims that are given up
 
@@ -44,7 +50,7 @@ pub claim_short : (p : Parts) (job : Option (List ℕ)) (c : Claim) → IsValid 
 claim_short p job (Has.Optimal x vs cs) valid name s other = absurd (other tt)
 claim_short p job (Has.Infeasible cert) valid name s other = absurd (other tt)
 claim_short p job (Has.Unbounded x vs cs r) valid name s other = absurd (other tt)
-claim_short p job (Has.BestSoFar x vs c) valid name s other = let (few, one) = few_values p x vs c valid s in best_short job name x vs c few one
+claim_short p job (Has.BestSoFar x vs c) valid name s other = let (few, asked) = few_values p x vs c valid s in best_short job name x vs c few asked
 claim_short p job (Has.Unsure c) valid name s other = unsure_short job name c
 
 -- what is told of it is the claim itself
@@ -59,7 +65,7 @@ kept p job turns found told other short c = by c.width c.judged c.fitted
 -- a claim for want of memory isn't final
 pub wanting : (c : Claim) (best : Option Found) → ClaimTells c (early best Memory) → IsFinal c → ⊥
 wanting c None t final = decided c (Unsure Memory) final t.says
-wanting c (Some f) t final = decided c (BestSoFar f.point f.value Memory) final t.says
+wanting c (Some f) t final = decided c (BestSoFar f.point f.values Memory) final t.says
 
 -- no look stopped its search
 memory_killed : (best : Option Found) → is_killed (early best Memory) ≡ false
@@ -71,13 +77,13 @@ memory_killed (Some f) = refl
 abbrev clock_after : (turns n : ℕ) (killed : Bool) → Clock
 clock_after turns n killed = record { turns = turns; looks = looks_after 0 n killed }
 
-module _ (osil osol : List ℕ) (o : Options) (p : Parts) (valid : IsValid p) (options_text : IsOptionsText osol o) (name : IsNameOrNone o.job) (instance_text : IsInstanceText osil p) (one : IsSearched p) where
+module _ (osil osol : List ℕ) (o : Options) (p : Parts) (valid : IsValid p) (options_text : IsOptionsText osol o) (name : IsNameOrNone o.job) (instance_text : IsInstanceText osil p) where
   abbrev given : AreJobTexts osil osol
   given = record { options = o; options_text = options_text; parts = p; valid = valid; instance_text = instance_text }
 
   module _ (found : Claim) (turns n : ℕ) (doc : Document) where
     -- memory was wanting in the search: the claim of its moment is told
-    wanted : (oc : Outcome) (m : Moment) → ClaimTells found oc → IsShown (program p) oc → ComesInSearch (program p) (job_terms o (stop_after n (is_killed oc))) m → early m.best Memory ≡ oc → ClosesClaim p o.job turns found doc → TellsOutcome osil osol n (is_killed oc) doc
+    wanted : (oc : Outcome) (m : SearchMoment) → ClaimTells found oc → IsShown (problem p) oc → ComesInSearch (problem p) (job_terms o (stop_after n (is_killed oc))) m → early m.best Memory ≡ oc → ClosesClaim p o.job turns found doc → TellsOutcome osil osol n (is_killed oc) doc
     wanted oc m tells shown comes is closes =
         let early_told : ClaimTells found (early m.best Memory) = subst (ClaimTells found) (sym is) tells in
         let other = wanting found m.best early_told in
@@ -91,9 +97,8 @@ module _ (osil osol : List ℕ) (o : Options) (p : Parts) (valid : IsValid p) (o
             claim = closes.told;
             claims = inr (record {
               given = given;
-              searched = one;
               moment = m;
-              comes = subst (λ (k : Bool). ComesInSearch (program p) (job_terms o (stop_after n k)) m) went comes;
+              comes = subst (λ (k : Bool). ComesInSearch (problem p) (job_terms o (stop_after n k)) m) went comes;
               tells = subst (λ (c : Claim). ClaimTells c (early m.best Memory)) (sym same) early_told;
             });
             is = refl;
@@ -101,12 +106,11 @@ module _ (osil osol : List ℕ) (o : Options) (p : Parts) (valid : IsValid p) (o
           is = closes.is;
         }
 
-    ended : (oc : Outcome) → ClaimTells found oc → Search (program p) (job_terms o (stop_after n (is_killed oc))) oc (clock_after turns n (is_killed oc)) → ClosesClaim p o.job turns found doc → TellsOutcome osil osol n (is_killed oc) doc
+    ended : (oc : Outcome) → ClaimTells found oc → Search (problem p) (job_terms o (stop_after n (is_killed oc))) oc (clock_after turns n (is_killed oc)) → ClosesClaim p o.job turns found doc → TellsOutcome osil osol n (is_killed oc) doc
     ended oc tells ends closes = record {
       report = claim_report o.job closes.told;
       reports = solved (record {
         given = given;
-        searched = one;
         turns = turns;
         outcome = oc;
         ends = ends;
@@ -120,10 +124,10 @@ module _ (osil osol : List ℕ) (o : Options) (p : Parts) (valid : IsValid p) (o
       is = closes.is;
     }
 
-    answered : (oc of : Outcome) (d : Clock) → of ≡ oc → d ≡ clock_after turns n (is_killed oc) → ClaimTells found oc → IsShown (program p) oc → IsSearchAnswer (program p) (job_terms o (stop_after n (is_killed oc))) of d → ClosesClaim p o.job turns found doc → TellsOutcome osil osol n (is_killed oc) doc
+    answered : (oc of : Outcome) (d : Clock) → of ≡ oc → d ≡ clock_after turns n (is_killed oc) → ClaimTells found oc → IsShown (problem p) oc → IsSearchAnswer (problem p) (job_terms o (stop_after n (is_killed oc))) of d → ClosesClaim p o.job turns found doc → TellsOutcome osil osol n (is_killed oc) doc
     answered oc of d e f tells shown (searched s) closes =
-        ended oc tells (subst (λ (x : Outcome). Search (program p) (job_terms o (stop_after n (is_killed oc))) x (clock_after turns n (is_killed oc))) e
-        (subst (λ (x : Clock). Search (program p) (job_terms o (stop_after n (is_killed oc))) of x) f s)) closes
+        ended oc tells (subst (λ (x : Outcome). Search (problem p) (job_terms o (stop_after n (is_killed oc))) x (clock_after turns n (is_killed oc))) e
+        (subst (λ (x : Clock). Search (problem p) (job_terms o (stop_after n (is_killed oc))) of x) f s)) closes
     answered oc of d e f tells shown (given_up_at {m} c) closes = wanted oc m tells shown c e closes
     answered oc of d e f tells shown (given_up_after {m} c r) closes = wanted oc m tells shown c e closes
 
@@ -137,29 +141,38 @@ untold osil osol n killed job doc whose is = record {
 
 -- the run of an instance
 pub ran : {E : Type 0} (Came : List Bool → Type 0) (osil osol : List ℕ) (o : Options) (p : Parts) (found : Claim) (turns n : ℕ) (oc : Outcome) (result : Result Document E)
-    → IsValid p → IsNameOrNone o.job → IsOptionsText osol o → IsInstanceText osil p → IsSearched p → ClaimTells found oc → IsShown (program p) oc
+    → IsValid p → IsNameOrNone o.job → IsOptionsText osol o → IsInstanceText osil p → ClaimTells found oc → IsShown (problem p) oc
     → Came (answers n (is_killed oc))
-    → ((stop : Option ℕ) → Agrees stop 0 n (is_killed oc) → IsSearchAnswer (program p) (job_terms o stop) oc (clock_after turns n (is_killed oc)))
+    → ((stop : Option ℕ) → Agrees stop 0 n (is_killed oc) → IsSearchAnswer (problem p) (job_terms o stop) oc (clock_after turns n (is_killed oc)))
     → IfOk result (IsClaimTold p o.job turns found) → Ran Came osil osol (TellsDocument osil osol result)
-ran {E} Came osil osol o p found turns n oc result valid name options_text instance_text one tells shown came answer told =
+ran {E} Came osil osol o p found turns n oc result valid name options_text instance_text tells shown came answer told =
     let is = answer (stop_after n (is_killed oc)) (agrees n (is_killed oc)) in
     record {
       went_on = n;
       killed = is_killed oc;
       came = came;
-      looks = inr (record { given = given osil osol o p valid options_text name instance_text one; turns = turns; outcome = oc; answers = is });
+      looks = inr (record { given = given osil osol o p valid options_text name instance_text; turns = turns; outcome = oc; answers = is });
       tells = IfOk-weaker result (IsClaimTold p o.job turns found) (TellsOutcome osil osol n (is_killed oc)) (by is) told;
     }
   where
-    by : IsSearchAnswer (program p) (job_terms o (stop_after n (is_killed oc))) oc (clock_after turns n (is_killed oc)) → (doc : Document) → IsClaimTold p o.job turns found doc → TellsOutcome osil osol n (is_killed oc) doc
-    by is doc (inl closes) = answered osil osol o p valid options_text name instance_text one found turns n doc oc oc (clock_after turns n (is_killed oc)) refl refl tells shown is closes
+    by : IsSearchAnswer (problem p) (job_terms o (stop_after n (is_killed oc))) oc (clock_after turns n (is_killed oc)) → (doc : Document) → IsClaimTold p o.job turns found doc → TellsOutcome osil osol n (is_killed oc) doc
+    by is doc (inl closes) = answered osil osol o p valid options_text name instance_text found turns n doc oc oc (clock_after turns n (is_killed oc)) refl refl tells shown is closes
     by is doc (inr memory) = untold osil osol n (is_killed oc) o.job doc (inr (o, options_text, refl)) memory
 
 -- what was found is shown
-pub shown_by : ((I : Instance) (t : Terms) (oc : Outcome) (c : Clock) → IsInstance I → HaveOneRange I → IsSearchAnswer I t oc c → IsShown I oc) → ((q : Parts) → IsInstance (program q))
-    → (p : Parts) (o : Options) (turns n : ℕ) (oc : Outcome) → IsSearched p → ((stop : Option ℕ) → Agrees stop 0 n (is_killed oc) → IsSearchAnswer (program p) (job_terms o stop) oc (clock_after turns n (is_killed oc))) → IsShown (program p) oc
-shown_by shows numbers p o turns n oc one answer =
-    shows (program p) _ oc _ (numbers p) (one_range p one) (answer (stop_after n (is_killed oc)) (agrees n (is_killed oc)))
+pub shown_by : ((P : Problem) (t : Terms) (oc : Outcome) (c : Clock) → IsProblem P → IsSearchAnswer P t oc c → IsShown P oc) → ((q : Parts) → IsProblem (problem q))
+    → (p : Parts) (o : Options) (turns n : ℕ) (oc : Outcome) → ((stop : Option ℕ) → Agrees stop 0 n (is_killed oc) → IsSearchAnswer (problem p) (job_terms o stop) oc (clock_after turns n (is_killed oc))) → IsShown (problem p) oc
+shown_by shows numbers p o turns n oc answer =
+    shows (problem p) _ oc _ (numbers p) (answer (stop_after n (is_killed oc)) (agrees n (is_killed oc)))
+
+-- with no more rounds than the options ask for
+pub few_by : (p : Parts) (o : Options) (turns n : ℕ) (found : Claim) (oc : Outcome) → AreFewRounds o.rounds → ClaimTells found oc → ((stop : Option ℕ) → Agrees stop 0 n (is_killed oc) → IsSearchAnswer (problem p) (job_terms o stop) oc (clock_after turns n (is_killed oc))) → HasFewRounds found
+few_by p o turns n found oc asked tells answer i d h =
+    let few = answer_few (problem p) (job_terms o (stop_after n (is_killed oc))) oc _ (answer (stop_after n (is_killed oc)) (agrees n (is_killed oc))) in
+    let each : All (λ (c : Certificate). length c.rounds ≤ o.rounds) (Means.certificates (certs_of found)) = subst (All (λ (c : Certificate). length c.rounds ≤ o.rounds)) (carried found oc tells) few in
+    let cert : Cert = slice_index_or (certs_of found) i d in
+    let less = each i (Means.certificate d) (omega (arith, h, length-map (certs_of found) Means.certificate)) in
+    omega (arith, asked, less, ap (λ (c : Certificate). length c.rounds) (get_or-map Means.certificate (certs_of found) i d (Means.certificate d) h), length-map cert.rounds Means.multipliers)
 
 -- ---- no search
 
@@ -198,23 +211,6 @@ quiet_instance {E} Came osil osol o fault message result came options_text fails
     }
     by doc (inr memory) = untold osil osol 0 false o.job doc (inr (o, options_text, refl)) memory
 
--- an instance that isn't searched
-pub quiet_left : {E : Type 0} (Came : List Bool → Type 0) (osil osol : List ℕ) (o : Options) (p : Parts) (message : Result (List ℕ) E) (result : Result Document E) → Came [] → IsValid p → IsOptionsText osol o → IsInstanceText osil p → (IsSearched p → ⊥) → IfOk message (λ m. m ≡ codes "not solved yet") → IfOk result (IsErrorDocument o.job message) → Ran Came osil osol (TellsDocument osil osol result)
-quiet_left {E} Came osil osol o p message result came valid options_text instance_text other says is =
-    quiet Came osil osol result came (IfOk-weaker result (IsErrorDocument o.job message) (TellsOutcome osil osol 0 false) by is)
-  where
-    by : (doc : Document) → IsErrorDocument o.job message doc → TellsOutcome osil osol 0 false doc
-    by doc (inl (m, same, written)) = record {
-      report = error_report o.job m;
-      reports = not_solved (record {
-        given = record { options = o; options_text = options_text; parts = p; valid = valid; instance_text = instance_text };
-        other = other;
-        is = ap (error_report o.job) (message_of message (λ t. t ≡ codes "not solved yet") m same says);
-      });
-      is = written;
-    }
-    by doc (inr memory) = untold osil osol 0 false o.job doc (inr (o, options_text, refl)) memory
-
 -- ---- the verdict
 
 one_stop : (n : ℕ) → stops_of (went_on n ++ true ∷ []) ≡ 1
@@ -227,7 +223,6 @@ Asked killed asked = killed ≡ true → asked ≡ true
 answers_right : (osil osol : List ℕ) (n : ℕ) (killed asked : Bool) (r : Report) → Asked killed asked → Reports osil osol n killed r → AnswersJob osil osol asked r
 answers_right osil osol n killed asked r only (no_options h) = right.no_options h
 answers_right osil osol n killed asked r only (no_instance h) = right.no_instance h
-answers_right osil osol n killed asked r only (not_solved h) = right.not_solved h
 answers_right osil osol n killed asked r only (solved h) = right.solved (stop_after n killed) (looks_after 0 n killed) (stops killed only) h
   where
     stops : (k : Bool) → Asked k asked → MayStop asked (stop_after n k) (looks_after 0 n k)

@@ -3,11 +3,11 @@ use Rattle.std.specs.Prelude.{◌≡◌, ◌≢◌, ℕ, List}
 use Rattle.rational.specs.Ratio.{IsSame}
 use Rattle.fraction.specs.Frac.{ratio}
 use Rattle.fraction.specs.declared.frac.Frac.{Frac}
-use Rattle.evidence.specs.Instance.{Instance, IsInstance, Problem, IsProblem}
+use Rattle.evidence.specs.Instance.{Problem, IsProblem}
 use Rattle.evidence.specs.Claim as Says
 use Rattle.evidence.specs.Claim.{Accepts}
 use Rattle.instance.specs.Parts.{Parts}
-use Rattle.instance.specs.Program.{program, problem}
+use Rattle.instance.specs.Program.{problem}
 use Rattle.simplex_rules.specs.Ends.{Terms, Clock}
 use Rattle.search_rules.specs.Search.{Outcome, Search}
 use Rattle.cert_checker.specs.declared.refused.Refused.{Refused}
@@ -28,9 +28,8 @@ pub record OptionsAreOne : Type 0 where
 
 -- a search has one outcome, whose claim is checked with one answer
 pub record SearchesAreOne : Type 0 where
-  pub numbers : (p : Parts) → IsInstance (program p)
-  pub numbers_of : (p : Parts) → IsProblem (problem p)
-  pub once : (I : Instance) (t : Terms) (o p : Outcome) (c d : Clock) → IsInstance I → Search I t o c → Search I t p d → (o ≡ p) × (c ≡ d)
+  pub numbers : (p : Parts) → IsProblem (problem p)
+  pub once : (P : Problem) (t : Terms) (o p : Outcome) (c d : Clock) → IsProblem P → Search P t o c → Search P t p d → (o ≡ p) × (c ≡ d)
   pub fractions : (x y : Frac) → IsSame (ratio x) (ratio y) → x ≡ y
   pub refusal : (P : Problem) (claim : Says.Claim) (r s : Refused) → IsProblem P → IsRefusedFor P claim r → IsRefusedFor P claim s → r ≡ s
   pub apart : (P : Problem) (claim : Says.Claim) (r : Refused) → IsProblem P → IsRefusedFor P claim r → Accepts P claim → ⊥

@@ -1,12 +1,12 @@
 -- Which documents answer a job: the texts of its instance and its options decide it, but for want of memory and for the look that stops the search.
-use Rattle.std.specs.Prelude.{◌≡◌, ◌⊎◌, ℕ, Bool, true, Option, None, Some, List, codes}
+use Rattle.std.specs.Prelude.{◌≡◌, ◌⊎◌, ℕ, Bool, true, Option, None, Some, List}
 use Rattle.instance.specs.Parts.{Parts, IsValid}
-use Rattle.instance.specs.Program.{program}
+use Rattle.instance.specs.Program.{problem}
 use Rattle.certificate.specs.declared.causes.Cause.TheVariants.{Memory}
 use Rattle.certificate.specs.declared.claims.Claim.{Claim}
 use Rattle.certificate.specs.declared.claims.Claim.TheVariants.{Unsure}
 use Rattle.simplex_rules.specs.Ends.{Terms}
-use Rattle.search_rules.specs.Search.{Outcome, Moment, ComesInSearch, Search, early}
+use Rattle.search_rules.specs.Search.{Outcome, SearchMoment, ComesInSearch, Search, early}
 use Rattle.branch_bound.specs.Claims.{ClaimTells}
 use Rattle.osol_grammar.specs.declared.options.Options.{Options}
 use Rattle.osol_grammar.specs.declared.fault.OsolFault.{OsolFault}
@@ -19,12 +19,11 @@ use Rattle.osil_grammar.specs.Reading as instances
 use Rattle.osrl_grammar.specs.declared.report.Report.{Report}
 use Rattle.osrl_grammar.specs.Writing.{report_text}
 use Rattle.osrl_grammar.specs.Back.{ClaimComesBack}
-use Rattle.solve_run.specs.Judging.{IsSearched}
 use Rattle.solve_run.specs.Closings.{error_report, claim_report, IsToldOf}
 
 -- a search within the options' limits, stopped by this look, if by one
 abbrev pub job_terms : Options → (stop : Option ℕ) → Terms
-job_terms o stop = record { nodes = o.nodes; turns = o.turns; stop = stop }
+job_terms o stop = record { nodes = o.nodes; turns = o.turns; rounds = o.rounds; stop = stop }
 
 -- the options are refused: the report is an error's of no job, and says why
 pub record RefusesOptions (osol : List ℕ) (r : Report) : Type 0 where
@@ -52,19 +51,12 @@ pub record AreJobTexts (osil osol : List ℕ) : Type 0 where
   pub valid : IsValid parts
   pub instance_text : IsInstanceText osil parts
 
--- the instance isn't one that is searched: the report is an error's of the options' job, and says so
-pub record LeavesInstance (osil osol : List ℕ) (r : Report) : Type 0 where
-  pub given : AreJobTexts osil osol
-  pub other : IsSearched given.parts → ⊥
-  pub is : r ≡ error_report given.options.job (codes "not solved yet")
-
 -- the search of the instance within the options' limits ends after so many looks, of which the given one stops it, and the report tells what it found; the claim's numbers are those of their types
 pub record Solved (osil osol : List ℕ) (stop : Option ℕ) (looks : ℕ) (r : Report) : Type 0 where
   pub given : AreJobTexts osil osol
-  pub searched : IsSearched given.parts
   pub turns : ℕ
   pub outcome : Outcome
-  pub ends : Search (program given.parts) (job_terms given.options stop) outcome (record { turns = turns; looks = looks })
+  pub ends : Search (problem given.parts) (job_terms given.options stop) outcome (record { turns = turns; looks = looks })
   pub found : Claim
   pub tells : ClaimTells found outcome
   pub told : Claim
@@ -79,9 +71,8 @@ IsJobOf osol job = (job ≡ None) ⊎ ((o : Options) × IsOptionsText osol o × 
 -- the claim has the best point of some moment of the search
 pub record IsBestOfSearch (osil osol : List ℕ) (c : Claim) : Type 0 where
   pub given : AreJobTexts osil osol
-  pub searched : IsSearched given.parts
-  pub moment : Moment
-  pub comes : ComesInSearch (program given.parts) (job_terms given.options None) moment
+  pub moment : SearchMoment
+  pub comes : ComesInSearch (problem given.parts) (job_terms given.options None) moment
   pub tells : ClaimTells c (early moment.best Memory)
 
 -- memory was wanting: nothing is claimed, or the best point of some moment of the search
@@ -100,7 +91,6 @@ MayStop asked stop looks = (stop ≡ None) ⊎ ((asked ≡ true) × (stop ≡ So
 pub data AnswersJob (osil osol : List ℕ) (asked : Bool) (r : Report) : Type 0 where
   no_options : RefusesOptions osol r → AnswersJob osil osol asked r
   no_instance : RefusesInstance osil osol r → AnswersJob osil osol asked r
-  not_solved : LeavesInstance osil osol r → AnswersJob osil osol asked r
   solved : (stop : Option ℕ) (looks : ℕ) → MayStop asked stop looks → Solved osil osol stop looks r → AnswersJob osil osol asked r
   gave_up : GaveUp osil osol r → AnswersJob osil osol asked r
 

@@ -1,11 +1,12 @@
 -- What is checked of a search's claim before it is told, and what is left of a claim that is given up.
-use Rattle.std.specs.Prelude.{◌≡◌, ℕ, false, Option, None, Some, length}
+use Rattle.std.specs.Prelude.{◌≡◌, ℕ, ◌≤◌, Option, None, Some, length}
 use Rattle.std.specs.List.{All}
 use Rattle.evidence.specs.Claim.{Accepts}
-use Rattle.instance.specs.declared.parts.Var.{Var}
 use Rattle.instance.specs.Parts.{Parts}
-use Rattle.instance.specs.Program.{program, problem}
+use Rattle.instance.specs.Program.{problem}
 use Rattle.certificate.specs.Meanings as Means
+use Rattle.certificate.specs.Nodes.{certs_of}
+use Rattle.certificate.specs.declared.nodes.Cert.{Cert}
 use Rattle.certificate.specs.declared.causes.Cause.{Cause}
 use Rattle.certificate.specs.declared.causes.Cause.TheVariants as causes
 use Rattle.certificate.specs.declared.causes.Step.TheVariants as steps
@@ -19,16 +20,18 @@ use Rattle.cert_checker.specs.declared.refused.Refused.TheVariants.{Level}
 use Rattle.cert_checker.specs.declared.refused.Unshown.TheVariants as why
 use Rattle.cert_checker.specs.Refusals.{IsRefusedFor}
 
--- the instances that are searched: of one goal, and no variable may be 0 besides
-pub record IsSearched (p : Parts) : Type 0 where
-  pub goals : length p.goals ≡ 1
-  pub ranges : All (λ (v : Var). v.zero ≡ false) p.vars
-
 -- the claim tells an outcome that is shown
 pub record IsShownClaim (p : Parts) (c : Claim) : Type 0 where
   pub outcome : Outcome
   pub tells : ClaimTells c outcome
-  pub shown : IsShown (program p) outcome
+  pub shown : IsShown (problem p) outcome
+
+-- as many rounds as options may ask for
+abbrev pub AreFewRounds : ℕ → Type 0
+AreFewRounds n = n ≤ 100
+
+abbrev pub HasFewRounds : Claim → Type 0
+HasFewRounds c = All (λ (cert : Cert). AreFewRounds (length cert.rounds)) (certs_of c)
 
 -- the claim says that a point is optimal, that none is feasible, or that points have no best value
 abbrev pub IsFinal : Claim → Type 0

@@ -1,7 +1,7 @@
 -- What the run of a job answers after its looks, of which the last may have stopped it.
 use Rattle.std.specs.Prelude.{◌≡◌, ◌⊎◌, ℕ, ◌+◌, Bool, true, false, Option, None, Some, Result, Ok, IfOk, List}
 use Rattle.instance.specs.Parts.{Parts}
-use Rattle.instance.specs.Program.{program}
+use Rattle.instance.specs.Program.{problem}
 use Rattle.certificate.specs.declared.causes.Cause.TheVariants.{Memory}
 use Rattle.certificate.specs.declared.claims.Claim.{Claim}
 use Rattle.certificate.specs.declared.claims.Claim.TheVariants.{Optimal, Infeasible, Unbounded, BestSoFar, Unsure}
@@ -12,14 +12,14 @@ use Rattle.osrl_grammar.specs.Writing.{report_text}
 use Rattle.osrl_grammar.specs.Back.{CauseComesBack, ClaimComesBack}
 use Rattle.solve_run.specs.Closings.{claim_report, error_report, IsFitted, IsToldOf}
 use Rattle.solve_run.specs.declared.document.Document.{Document}
-use Rattle.solve_run.specs.JobAnswers.{job_terms, RefusesOptions, RefusesInstance, LeavesInstance, AreJobTexts, Solved, GaveUp, AnswersJob}
+use Rattle.solve_run.specs.JobAnswers.{job_terms, RefusesOptions, RefusesInstance, AreJobTexts, Solved, GaveUp, AnswersJob}
 
 -- the looks are those of the search of the instance, up to its end or to where memory was wanting
 pub record AreSearched (osil osol : List ℕ) (n : ℕ) (killed : Bool) : Type 0 where
   pub given : AreJobTexts osil osol
   pub turns : ℕ
   pub outcome : Outcome
-  pub answers : IsSearchAnswer (program given.parts) (job_terms given.options (stop_after n killed)) outcome (record { turns = turns; looks = looks_after 0 n killed })
+  pub answers : IsSearchAnswer (problem given.parts) (job_terms given.options (stop_after n killed)) outcome (record { turns = turns; looks = looks_after 0 n killed })
 
 -- there were no looks, or those of the search
 abbrev pub AreSearchLooks : (osil osol : List ℕ) → ℕ → Bool → Type 0
@@ -29,7 +29,6 @@ AreSearchLooks osil osol n killed = ((n ≡ 0) × (killed ≡ false)) ⊎ AreSea
 pub data Reports (osil osol : List ℕ) (n : ℕ) (killed : Bool) (r : Report) : Type 0 where
   no_options : RefusesOptions osol r → Reports osil osol n killed r
   no_instance : RefusesInstance osil osol r → Reports osil osol n killed r
-  not_solved : LeavesInstance osil osol r → Reports osil osol n killed r
   solved : Solved osil osol (stop_after n killed) (looks_after 0 n killed) r → Reports osil osol n killed r
   gave_up : GaveUp osil osol r → Reports osil osol n killed r
 

@@ -1,4 +1,4 @@
-// The check of a claim before it is told.
+//! The check of a claim before it is told.
 ghost use Rattle.std.specs.Prelude.{◌≡◌, ℕ, ◌<◌, ◌^◌, true, false, IfOk, IfSome};
 ghost use Rattle.instance.specs.Parts.{IsValid};
 ghost use Rattle.cert_checker.specs.Cuts.{HasRoom};
@@ -53,8 +53,8 @@ fn wide_node(refused: Refused) -> u32
 /// nothing else.
 fn judge_in(instance: &Instance, claim: &Claim, scratch: &mut Scratch) -> Option<u32>
     requires valid { IsValid instance.now }
-    requires searched { specs.IsSearched instance.now }
     requires shown { specs.IsShownClaim instance.now claim.now }
+    requires few { specs.HasFewRounds claim.now }
     requires is_final { specs.IsFinal claim.now }
     requires room { HasRoom instance.now claim.now scratch.old }
     ensures judged { specs.IsJudged instance.now claim.now result }
@@ -82,8 +82,8 @@ fn is_final(claim: &Claim) -> bool
 /// Checks a claim that a search has shown, where it is one that is checked.
 pub fn judge(alloc: Global, instance: &Instance, claim: &Claim) -> Result<Option<u32>, Memory>
     requires valid { IsValid instance.now }
-    requires searched { specs.IsSearched instance.now }
     requires shown { specs.IsShownClaim instance.now claim.now }
+    requires few { specs.HasFewRounds claim.now }
     ensures judged { IfOk result (specs.IsJudged instance.now claim.now) }
     ensures few { IfOk result (λ width. IfSome width (λ n. n < 2 ^ 32)) }
 {

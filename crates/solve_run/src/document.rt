@@ -1,4 +1,4 @@
-// Result documents.
+//! Result documents.
 use os_io::Text;
 
 /// The text of a result document, and whether it reports an error.

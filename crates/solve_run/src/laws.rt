@@ -2,7 +2,7 @@
 ghost use Rattle.std.specs.Prelude.{◌≡◌, ◌⊎◌, ℕ, Bool, false, Option, None, Some, List};
 ghost use Rattle.evidence.specs.Claim.{IsTrueOf};
 ghost use Rattle.instance.specs.Parts.{Parts};
-ghost use Rattle.instance.specs.Program.{program, problem};
+ghost use Rattle.instance.specs.Program.{problem};
 ghost use Rattle.certificate.specs.Meanings as Means;
 ghost use Rattle.certificate.specs.declared.claims.Claim.{Claim};
 ghost use Rattle.simplex_rules.specs.Ends.{Terms, Clock};
@@ -18,9 +18,9 @@ ghost use Rattle.document_checker.specs.declared.documents.Kind.{Kind};
 ghost use Rattle.cert_checker.specs.declared.refused.Refused.{Refused};
 ghost use Rattle.cert_checker.specs.Refusals.{IsRefusedFor};
 ghost use Rattle.document_checker.specs.Documents.{kind, IsAcceptedText};
-ghost use Rattle.solve_run.specs.Judging.{IsSearched, IsFinal, IsWideAt};
+ghost use Rattle.solve_run.specs.Judging.{IsFinal, IsWideAt};
 ghost use Rattle.solve_run.specs.Closings.{IsShort, claim_report};
-ghost use Rattle.solve_run.specs.JobAnswers.{job_terms, RefusesOptions, RefusesInstance, LeavesInstance, Solved, GaveUp, AnswersJob, Right};
+ghost use Rattle.solve_run.specs.JobAnswers.{job_terms, RefusesOptions, RefusesInstance, Solved, GaveUp, AnswersJob, Right};
 ghost use Rattle.solve_run.specs.Grounds.{OptionsAreOne, SearchesAreOne};
 
 use cert_checker::{
@@ -29,11 +29,11 @@ use cert_checker::{
 use document_checker::{accepted_documents_are_true, instances_are_one};
 use document_tags::tree_faults_have_one_text;
 use fraction::equal_fractions;
-use instance::{problems_have_numbers, programs_have_numbers};
+use instance::problems_have_numbers;
 use osol_grammar::{
     document_has_one_refusal, document_says_one, options_are_not_refused, options_have_names,
 };
-use osrl_grammar::comes_back;
+use osrl_grammar::written_texts_are_reports;
 use search_rules::{answers_are_shown, outcomes_are_shown, searches_have_one_outcome};
 
 /// The laws of options' texts.
@@ -50,7 +50,6 @@ fn options_are_one()
 fn searches_are_one()
     ensures { SearchesAreOne }
 {
-    programs_have_numbers();
     problems_have_numbers();
     searches_have_one_outcome();
     equal_fractions();
@@ -58,26 +57,21 @@ fn searches_are_one()
     refused_is_not_accepted();
 }
 
-/// Law: whether the options are refused, the instance is, it isn't searched, or it is, is decided by their texts, but for want of
-/// memory.
+/// Law: whether the options are refused, the instance is, or it is searched, is decided by their texts, but for want of memory.
 pub fn answers_exclude_each_other()
     ensures options_instance { (osil osol : List ℕ) (r s : Report) → RefusesOptions osol r → RefusesInstance osil osol s → ⊥ }
     ensures options_search { (osil osol : List ℕ) (stop : Option ℕ) (looks : ℕ) (r s : Report) → RefusesOptions osol r → Solved osil osol stop looks s → ⊥ }
-    ensures options_left { (osil osol : List ℕ) (r s : Report) → RefusesOptions osol r → LeavesInstance osil osol s → ⊥ }
-    ensures instance_left { (osil osol : List ℕ) (r s : Report) → RefusesInstance osil osol r → LeavesInstance osil osol s → ⊥ }
-    ensures left_search { (osil osol : List ℕ) (stop : Option ℕ) (looks : ℕ) (r s : Report) → LeavesInstance osil osol r → Solved osil osol stop looks s → ⊥ }
     ensures instance_search { (osil osol : List ℕ) (stop : Option ℕ) (looks : ℕ) (r s : Report) → RefusesInstance osil osol r → Solved osil osol stop looks s → ⊥ }
 {
     options_are_one();
     instances_are_one();
 }
 
-/// Law: a job has one answer of each kind: one for refused options, one for a refused instance, one for an instance that isn't searched, and one for a search that no
+/// Law: a job has one answer of each kind: one for refused options, one for a refused instance, and one for a search that no
 /// look stops, or that the same look stops, after so many looks.
 pub fn answers_are_one()
     ensures options { (osol : List ℕ) (r s : Report) → RefusesOptions osol r → RefusesOptions osol s → r ≡ s }
     ensures instance { (osil osol : List ℕ) (r s : Report) → RefusesInstance osil osol r → RefusesInstance osil osol s → r ≡ s }
-    ensures left { (osil osol : List ℕ) (r s : Report) → LeavesInstance osil osol r → LeavesInstance osil osol s → r ≡ s }
     ensures search { (osil osol : List ℕ) (stop : Option ℕ) (looks more : ℕ) (r s : Report) → Solved osil osol stop looks r → Solved osil osol stop more s → (r ≡ s) × (looks ≡ more) }
 {
     options_are_one();
@@ -88,9 +82,8 @@ pub fn answers_are_one()
 /// Law: a claim that a search finds, that a point is optimal, that none is feasible or that points have no best value, is refused
 /// by the checker for width alone.
 pub fn found_claims_are_refused_for_width_alone()
-    ensures { (p : Parts) (t : Terms) (o : Outcome) (found : Claim) (c : Clock) (r : Refused) → IsSearched p → Search (program p) t o c → ClaimTells found o → IsFinal found → IsRefusedFor (problem p) (Means.claim found) r → (n : ℕ) × IsWideAt r n }
+    ensures { (p : Parts) (t : Terms) (o : Outcome) (found : Claim) (c : Clock) (r : Refused) → Search (problem p) t o c → ClaimTells found o → IsFinal found → IsRefusedFor (problem p) (Means.claim found) r → (n : ℕ) × IsWideAt r n }
 {
-    programs_have_numbers();
     problems_have_numbers();
     outcomes_are_shown();
     shown_is_refused_for_width_alone();
@@ -100,7 +93,7 @@ pub fn found_claims_are_refused_for_width_alone()
 /// isn't too long, the job's answer tells it, or memory is wanting. Such is each claim that a point is optimal, that none is
 /// feasible or that points have no best value, and that the checker accepts.
 pub fn ended_searches_are_told()
-    ensures { (osil osol : List ℕ) (o : kinds.Options) (p : Parts) (oc : Outcome) (found : Claim) (c : Clock) (r : Report) → IsOptionsText osol o → IsInstanceText osil p → IsSearched p → Search (program p) (job_terms o None) oc c → ClaimTells found oc → ((q : Refused) (n : ℕ) → IsRefusedFor (problem p) (Means.claim found) q → IsWideAt q n → ⊥) → IsShort o.job found → AnswersJob osil osol false r → (r ≡ claim_report o.job found) ⊎ GaveUp osil osol r }
+    ensures { (osil osol : List ℕ) (o : kinds.Options) (p : Parts) (oc : Outcome) (found : Claim) (c : Clock) (r : Report) → IsOptionsText osol o → IsInstanceText osil p → Search (problem p) (job_terms o None) oc c → ClaimTells found oc → ((q : Refused) (n : ℕ) → IsRefusedFor (problem p) (Means.claim found) q → IsWideAt q n → ⊥) → IsShort o.job found → AnswersJob osil osol false r → (r ≡ claim_report o.job found) ⊎ GaveUp osil osol r }
 {
     options_are_one();
     instances_are_one();
@@ -115,8 +108,8 @@ pub fn claims_are_accepted()
     ensures is_true { (osil osol : List ℕ) (asked : Bool) (p : Parts) (r : Report) (c : Claim) (k : Kind) → IsInstanceText osil p → AnswersJob osil osol asked r → r.claim ≡ Some c → kind c ≡ Some k → IsTrueOf (problem p) (Means.claim c) }
 {
     options_have_names();
-    programs_have_numbers();
+    problems_have_numbers();
     answers_are_shown();
-    comes_back();
+    written_texts_are_reports();
     accepted_documents_are_true();
 }

@@ -1,11 +1,10 @@
 //! The run of a job: from the texts of its instance and its options to the text of its result document.
 //!
 //! [`run_job`] reads the options and then the instance, searches the instance within the options' limits for as long as a watch
-//! lets it, and writes a report: an error where one of the texts is refused, or where the instance has several goals or a
-//! variable that may be 0 besides, which isn't searched; or else what the search claims. A claim that a point is optimal, that
-//! none is feasible, or that points have no best value is checked by `cert_checker` before it is told. Where a sum of that check
-//! doesn't fit 128 bits, or where the document would be longer than a document may be, only the claim's point is told, with that
-//! cause. [`answer_job`] does the same, and its [`Document`] says too whether the report is of an error.
+//! lets it, and writes a report: an error where one of the texts is refused, or else what the search claims. A claim that a
+//! point is optimal, that none is feasible, or that points have no best value is checked by `cert_checker` before it is told.
+//! Where a sum of that check doesn't fit 128 bits, or where the document would be longer than a document may be, only the claim's
+//! point is told, with that cause. [`answer_job`] does the same, and its [`Document`] says too whether the report is of an error.
 //!
 //! `Right` says which documents answer a job: for one pair of texts there is one, but for want of memory and for the look that
 //! stops the search. The laws say so, that a search which comes to its end is told, and that what a document claims is

@@ -3,17 +3,18 @@ ghost use Rattle.std.specs.Prelude.{◌≡◌, ℕ, ◌-◌, ◌^◌, ◌<◌, B
 ghost use Rattle.instance.specs.Parts.{IsValid};
 ghost use Rattle.osol_grammar.specs.Meaning.{IsOptionsText};
 ghost use Rattle.osil_grammar.specs.Reading.{IsInstanceText};
+ghost use Rattle.solve_run.specs.Judging.{AreFewRounds};
 ghost use Rattle.solve_run.specs.JobAnswers.{Right};
 ghost use Rattle.solve_run.specs.Runs.{Ran, IsRight, TellsDocument, TellsText};
 
 use crate::document::Document;
-use crate::finding::{find, is_searched};
+use crate::finding::find;
 use crate::telling::{found_document, memory_document, refusal};
 use branch_bound::Searched;
-use instance::{Instance, programs_have_numbers};
+use instance::{Instance, problems_have_numbers};
 use os_io::{Memory, Text, Watch};
 use osil_grammar::OsilFault;
-use osol_grammar::{Options, OsolFault, options_have_names};
+use osol_grammar::{Options, OsolFault, options_have_names, read_options_come_back};
 use search_rules::answers_are_shown;
 use std::alloc::Global;
 
@@ -25,16 +26,13 @@ fn run_instance<W: Watch>(
     watch: &mut W,
 ) -> Result<Document, Memory>
     requires valid { IsValid instance.now }
+    requires rounds { AreFewRounds options.rounds }
     requires stops { W.stops watch.old < 2 ^ 64 - 1 }
     ensures { (osil osol : List ℕ) → IsOptionsText osol options → IsInstanceText osil instance.now → Ran (W.came watch.old watch.new) osil osol (TellsDocument osil osol result) }
 {
-    if !is_searched(instance) {
-        let message = Text::from_slice(alloc, b"not solved yet");
-        return refusal(alloc, options.job, message);
-    }
     let Searched { claim, turns } = find(alloc, instance, &options, watch);
     options_have_names();
-    programs_have_numbers();
+    problems_have_numbers();
     answers_are_shown();
     found_document(alloc, instance, options.job, claim, turns)
 }
@@ -46,7 +44,8 @@ fn run_options<W: Watch>(
     options: Options,
     watch: &mut W,
 ) -> Result<Document, Memory>
-    requires { W.stops watch.old < 2 ^ 64 - 1 }
+    requires rounds { AreFewRounds options.rounds }
+    requires stops { W.stops watch.old < 2 ^ 64 - 1 }
     ensures { (osol : List ℕ) → IsOptionsText osol options → Ran (W.came watch.old watch.new) osil.now osol (TellsDocument osil.now osol result) }
 {
     match osil_grammar::decode(alloc, osil) {
@@ -69,6 +68,7 @@ fn run_texts<W: Watch>(
     requires { W.stops watch.old < 2 ^ 64 - 1 }
     ensures { Ran (W.came watch.old watch.new) osil.now osol.now (TellsDocument osil.now osol.now result) }
 {
+    read_options_come_back();
     match osol_grammar::decode(alloc, osol) {
         Ok(options) => run_options(alloc, osil, options, watch),
         Err(OsolFault::Memory) => memory_document(alloc, None),

@@ -1,10 +1,10 @@
-// The documents of reports.
+//! The documents of reports.
 ghost use Rattle.std.specs.Prelude.{◌≡◌, ℕ, Option, List, IfOk};
 ghost use Rattle.instance.specs.Parts.{IsValid};
 ghost use Rattle.certificate.specs.declared.causes.Cause.TheVariants as causes;
 ghost use Rattle.certificate.specs.declared.claims.Claim.{Claim as OneClaim};
 ghost use Rattle.osrl_grammar.specs.Back.{CauseComesBack};
-ghost use Rattle.solve_run.specs.Judging.{given_up, IsSearched, IsShownClaim};
+ghost use Rattle.solve_run.specs.Judging.{given_up, IsShownClaim, HasFewRounds};
 ghost use Rattle.solve_run.specs.Closings as specs;
 ghost use Rattle.solve_run.specs.Runs.{IsClaimTold, IsTextOf, IsFittedDocument, IsMemoryDocument, IsErrorDocument, HasCauses};
 
@@ -146,8 +146,8 @@ pub fn found_document(
     turns: u64,
 ) -> Result<Document, Memory>
     requires valid { IsValid instance.now }
-    requires searched { IsSearched instance.now }
     requires shown { IsShownClaim instance.now found }
+    requires few { HasFewRounds found }
     ensures { IfOk result (IsClaimTold instance.now job turns found) }
 {
     read_causes(&found);

@@ -1,4 +1,4 @@
-use Rattle.solve_run.proofs.OneAnswer.{options_once, instance_once, left_once, search_once}
+use Rattle.solve_run.proofs.OneAnswer.{options_once, instance_once, search_once}
 use Rattle.solve_run.proofs.laws.answers_are_one.Goals as goal
 
 pub returns-clause-options : goal.returns-clause-options
@@ -9,6 +9,3 @@ returns-clause-instance c = instance_once c.options_are_one.ensures c.instances_
 
 pub returns-clause-search : goal.returns-clause-search
 returns-clause-search c = search_once c.searches_are_one.ensures c.options_are_one.ensures c.instances_are_one.ensures
-
-pub returns-clause-left : goal.returns-clause-left
-returns-clause-left c = left_once c.options_are_one.ensures c.instances_are_one.ensures

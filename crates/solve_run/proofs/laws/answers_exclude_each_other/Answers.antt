@@ -1,4 +1,4 @@
-use Rattle.solve_run.proofs.OneAnswer.{options_instance, options_search, instance_search, options_left, instance_left, left_search}
+use Rattle.solve_run.proofs.OneAnswer.{options_instance, options_search, instance_search}
 use Rattle.solve_run.proofs.laws.answers_exclude_each_other.Goals as goal
 
 pub returns-clause-options_instance : goal.returns-clause-options_instance
@@ -9,12 +9,3 @@ returns-clause-options_search c = options_search c.options_are_one.ensures c.ins
 
 pub returns-clause-instance_search : goal.returns-clause-instance_search
 returns-clause-instance_search c = instance_search c.options_are_one.ensures c.instances_are_one.ensures
-
-pub returns-clause-options_left : goal.returns-clause-options_left
-returns-clause-options_left c = options_left c.options_are_one.ensures c.instances_are_one.ensures
-
-pub returns-clause-instance_left : goal.returns-clause-instance_left
-returns-clause-instance_left c = instance_left c.options_are_one.ensures c.instances_are_one.ensures
-
-pub returns-clause-left_search : goal.returns-clause-left_search
-returns-clause-left_search c = left_search c.options_are_one.ensures c.instances_are_one.ensures

@@ -1,6 +1,10 @@
 use Rattle.std.proofs.Common.{None, inl, refl}
+use Rattle.solve_run.proofs.RoundLimits.{few_rounds}
 use Rattle.solve_run.proofs.Runs.{quiet_memory, quiet_options}
 use Rattle.solve_run.proofs.running.run_texts.Goals as goal
+
+pub run_options-requires-clause-rounds : goal.run_options-requires-clause-rounds
+run_options-requires-clause-rounds g c = few_rounds c.in-Ok.options (c.read_options_come_back.ensures c.args.osol.now c.in-Ok.options c.in-Ok.ensures.ok)
 
 pub returns-in-Ok : goal.returns-in-Ok
 returns-in-Ok g c = c.run_options.ensures c.args.osol.now c.in-Ok.ensures.ok
