@@ -8,21 +8,18 @@ use lib.ListN.{get_elem?}
 use prog.Atomic.{either}
 use Rattle.atomic_table.specs.Table.{opening, State, Me, step, keeps, takes, gives, stepped, Allows, put_back, rest}
 use Rattle.atomic_table.proofs.Lists.{at_set, set_here, set_else, set_again}
-use Rattle.job_table.specs.Jobs.{Register, beginning}
-use Rattle.job_table.specs.Steps.{Step as Step_of}
 use Rattle.job_table.specs.declared.entries.TableMove.{TableMove}
 use Rattle.job_table.specs.declared.entries.Reply.{Reply}
-use Rattle.desk.specs.declared.held.Held.{Held}
 use Rattle.desk.specs.declared.view.SeatEntry.{SeatEntry}
 use Rattle.desk.specs.declared.view.Met.{Met}
 use Rattle.desk.specs.declared.view.View.{View}
 use Rattle.desk.specs.declared.view.Turn.{Turn}
 use Rattle.desk.specs.declared.view.Turn.TheVariants.{Idle, Waiting, Served}
-use Rattle.desk.specs.History.{LeadsFrom, entries_by, StartsWith, entry_of_seat}
-use Rattle.desk.specs.Rule.{first_view, with_turn, with_seen, one_if, live_in, KnowsLog, KnowsTurn, Knows, HasNumber, Turns, Slot, HasMet, StandsInSeen, CountsSeats, First, Kept}
+use Rattle.desk.specs.History.{Makes, CanMake, entries_by, StartsWith, entry_of_seat}
+use Rattle.desk.specs.Rule.{first_view, with_turn, with_seen, one_if, live_in, KnowsLog, KnowsTurn, Knows, HoldsTicket, Turns, Slot, HasMet, StandsInSeen, CountsSeats, First, Kept}
 use Rattle.desk.specs.Steps.{drew, looked_at_turn, with_entry, passed_on, skipped}
 use Rattle.desk.specs.SeatMoves.{AddsEntry, HasTurn, IsServed, IsMoveAnswered, AnswersMove, reply_in}
-use Rattle.desk.proofs.Histories.{entries_own, entries_other, none_behind, starts_again, starts_grown, leads_on, met_stand}
+use Rattle.desk.proofs.Histories.{entries_own, entries_other, none_behind, starts_again, starts_grown, makes_on, from_told, met_stand}
 
 pub false_is_not : true ≡ false → ⊥
 false_is_not e = cc
@@ -178,16 +175,16 @@ others_pass log more ticket serving id owner away j seen (Waiting n) mine other 
 others_pass log more ticket serving id owner away j seen (Served n) mine other k = absurd (other (sym k.2 ∙ (ap owner k.0 ∙ mine)))
 
 -- a seat that hasn't that number isn't its owner
-pub owner_else : (views : List View) (id k n : ℕ) (v u : View) → get_elem? views id ≡ some v → get_elem? views k ≡ some u → HasNumber n u.turn → (HasNumber n v.turn → ⊥) → k ≢ id
+pub owner_else : (views : List View) (id k n : ℕ) (v u : View) → get_elem? views id ≡ some v → get_elem? views k ≡ some u → HoldsTicket n u.turn → (HoldsTicket n v.turn → ⊥) → k ≢ id
 owner_else views id k n v u at there has hasnt is =
-    hasnt (subst (λ (z : View). HasNumber n z.turn) (some-injective u v (sym there ∙ ap (get_elem? views) is ∙ at)) has)
+    hasnt (subst (λ (z : View). HoldsTicket n z.turn) (some-injective u v (sym there ∙ ap (get_elem? views) is ∙ at)) has)
 
-pub idle_has_none : (n : ℕ) (v : View) → v.turn ≡ Idle → HasNumber n v.turn → ⊥
-idle_has_none n v idle has = subst (HasNumber n) idle has
+pub idle_has_none : (n : ℕ) (v : View) → v.turn ≡ Idle → HoldsTicket n v.turn → ⊥
+idle_has_none n v idle has = subst (HoldsTicket n) idle has
 
 -- the numbers of the other seats stay theirs
 turns_else : (ticket serving : ℕ) (owner : ℕ → ℕ) (views : List View) (id : ℕ) (v w : View) → get_elem? views id ≡ some v → Turns ticket serving owner views
-    → (n : ℕ) → serving ≤ n → n < ticket → (HasNumber n v.turn → ⊥) → (u : View) × (get_elem? (set views id w) (owner n) ≡ some u) × HasNumber n u.turn
+    → (n : ℕ) → serving ≤ n → n < ticket → (HoldsTicket n v.turn → ⊥) → (u : View) × (get_elem? (set views id w) (owner n) ≡ some u) × HoldsTicket n u.turn
 turns_else ticket serving owner views id v w at turns n from below hasnt =
     let t = turns n from below in (t.0, set_else views id (owner n) w (owner_else views id (owner n) n v t.0 at t.1 t.2 hasnt) ∙ t.1, t.2)
 
@@ -205,13 +202,13 @@ turns_drawn ticket serving old id owner views v is at idle turns n from below =
 turns_taken : (ticket serving id m : ℕ) (owner : ℕ → ℕ) (views : List View) (v w : View) → get_elem? views id ≡ some v → v.turn ≡ Waiting m → w.turn ≡ Served m → owner m ≡ id → Turns ticket serving owner views
     → Turns ticket serving owner (set views id w)
 turns_taken ticket serving id m owner views v w at waits served mine turns n from below = dite (ℕ_discrete n m)
-    (λ here. (w, ap (get_elem? (set views id w)) (ap owner here ∙ mine) ∙ set_here views id w (length_above views id v at), subst (HasNumber n) (sym served) (sym here)))
-    (λ other. turns_else ticket serving owner views id v w at turns n from below (λ has. other (sym (subst (HasNumber n) waits has))))
+    (λ here. (w, ap (get_elem? (set views id w)) (ap owner here ∙ mine) ∙ set_here views id w (length_above views id v at), subst (HoldsTicket n) (sym served) (sym here)))
+    (λ other. turns_else ticket serving owner views id v w at turns n from below (λ has. other (sym (subst (HoldsTicket n) waits has))))
 
 turns_passed : (ticket serving id m : ℕ) (owner : ℕ → ℕ) (views : List View) (v w : View) → get_elem? views id ≡ some v → v.turn ≡ Served m → m ≡ serving → Turns ticket serving owner views
     → Turns ticket (serving + 1) owner (set views id w)
 turns_passed ticket serving id m owner views v w at served is turns n from below =
-    turns_else ticket serving owner views id v w at turns n (omega arith) below (λ has. let same : m ≡ n = subst (HasNumber n) served has in omega arith)
+    turns_else ticket serving owner views id v w at turns n (omega arith) below (λ has. let same : m ≡ n = subst (HoldsTicket n) served has in omega arith)
 
 none_there : (i : ℕ) (m : Met) → get_elem? [] i ≡ some m → ⊥
 none_there i m e = some-ne-none m (sym e)
@@ -232,20 +229,20 @@ pub led_by : {A : Type 0} (l : List (ℕ × A)) (x : ℕ × A) → l ≡ x ∷ [
 led_by l x e = e ∙ (λ i. x ∷ rest (sym e i))
 
 abbrev pub S : Type 0 → Type 0
-S J = Option (Held J)
+S T = Option T
 
 abbrev pub St : Type 0 → Type 0
-St J = State (S J) View
+St T = State (S T) View
 
 abbrev pub M : Type 0 → Type 0
-M J = Me (S J) View
+M T = Me (S T) View
 
-module _ {J : Type 0} where
+module _ {T : Type 0} where
   -- the slot stays where it is, when an idle seat draws
-  slot_drawn : (state : Register) (serving ticket id : ℕ) (owner : ℕ → ℕ) (homes : List (maybe.Option (S J))) (views : List View) (v w : View) (away : Bool)
+  slot_drawn : (state : T) (serving ticket id : ℕ) (owner : ℕ → ℕ) (homes : List (maybe.Option (S T))) (views : List View) (v w : View) (away : Bool)
       → get_elem? views id ≡ some v → v.turn ≡ Idle → serving ≤ ticket
       → ((n : ℕ) (u : View) → away ≡ true → get_elem? views n ≡ some u → u.turn ≡ Served serving → serving < ticket)
-      → Slot {J = J} state serving owner homes views away → Slot {J = J} state serving (given_to ticket id owner) homes (set views id w) away
+      → Slot state serving owner homes views away → Slot state serving (given_to ticket id owner) homes (set views id w) away
   slot_drawn state serving ticket id owner homes views v w false at idle ordered below slot = slot
   slot_drawn state serving ticket id owner homes views v w true at idle ordered below slot =
       let u : View = slot.1.0 in
@@ -257,27 +254,27 @@ module _ {J : Type 0} where
       (slot.0, (u, ap (get_elem? (set views id w)) keeps_owner ∙ set_else views id (owner serving) w other ∙ there, served))
 
   -- where it is the turn of a seat that waits, the slot is at home
-  slot_at_turn : (state : Register) (serving id : ℕ) (owner : ℕ → ℕ) (homes : List (maybe.Option (S J))) (views : List View) (v : View) (away : Bool)
-      → owner serving ≡ id → get_elem? views id ≡ some v → v.turn ≡ Waiting serving → Slot {J = J} state serving owner homes views away
-      → (away ≡ false) × ((held : Held J) × (homes ≡ some (Some held) ∷ []) × (held.table ≡ state))
+  slot_at_turn : (state : T) (serving id : ℕ) (owner : ℕ → ℕ) (homes : List (maybe.Option (S T))) (views : List View) (v : View) (away : Bool)
+      → owner serving ≡ id → get_elem? views id ≡ some v → v.turn ≡ Waiting serving → Slot state serving owner homes views away
+      → (away ≡ false) × (homes ≡ some (Some state) ∷ [])
   slot_at_turn state serving id owner homes views v false mine at waits slot = (refl, slot)
   slot_at_turn state serving id owner homes views v true mine at waits slot =
       absurd (waiting_is_not_served serving serving (sym waits ∙ ap (λ (z : View). z.turn) (some-injective v slot.1.0 (sym at ∙ ap (get_elem? views) (sym mine) ∙ slot.1.1)) ∙ slot.1.2))
 
-  slot_away : (state : Register) (serving : ℕ) (owner : ℕ → ℕ) (homes : List (maybe.Option (S J))) (views : List View) (away : Bool) → away ≡ true → Slot {J = J} state serving owner homes views away → homes ≡ none ∷ []
+  slot_away : (state : T) (serving : ℕ) (owner : ℕ → ℕ) (homes : List (maybe.Option (S T))) (views : List View) (away : Bool) → away ≡ true → Slot state serving owner homes views away → homes ≡ none ∷ []
   slot_away state serving owner homes views true is slot = slot.0
   slot_away state serving owner homes views false is slot = absurd (true_is_not false refl is)
 
-module _ {J : Type 0} (right : List ℕ → List ℕ → Bool → Option (List ℕ) → Type 0) {start : ℕ} where
+module _ {T : Type 0} (becomes : T → TableMove → Reply → T → Type 0) {start : T} where
   -- a live seat makes a step
-  pub moves : (s : St J) (r : Kept right start s) (id : ℕ) (v w : View) (words : List ℕ) (homes : List (maybe.Option (S J))) (log : List SeatEntry) (state : Register) (ticket serving : ℕ) (owner : ℕ → ℕ) (away : Bool)
+  pub moves : (s : St T) (r : Kept becomes start s) (id : ℕ) (v w : View) (words : List ℕ) (homes : List (maybe.Option (S T))) (log : List SeatEntry) (state : T) (ticket serving : ℕ) (owner : ℕ → ℕ) (away : Bool)
       → get_elem? s.views id ≡ some v → v.live ≡ true → Same v w → Longer id r.log log
-      → words ≡ ticket ∷ serving ∷ [] → serving ≤ ticket → ticket < 18446744073709551616 → LeadsFrom right start log state
-      → Slot {J = J} state serving owner homes (set s.views id w) away
+      → words ≡ ticket ∷ serving ∷ [] → serving ≤ ticket → ticket < 18446744073709551616 → Makes becomes start log state
+      → Slot state serving owner homes (set s.views id w) away
       → Knows log ticket serving owner away id w
       → ((j : ℕ) (u : View) → j ≢ id → Knows r.log r.ticket r.serving r.owner r.away j u → KnowsTurn log ticket serving owner away j u.seen u.turn)
       → Turns ticket serving owner (set s.views id w)
-      → Kept right start record { words = words; homes = homes; views = set s.views id w }
+      → Kept becomes start record { words = words; homes = homes; views = set s.views id w }
   moves s r id v w words homes log state ticket serving owner away at live same longer words_are ordered bounded runs slot mine others turns =
       let first = first_stays r.log log s.views id v w r.head at live same longer ((mine.knows (same.live ∙ live)).prefix) r.first in record {
         log = log;
@@ -309,13 +306,13 @@ module _ {J : Type 0} (right : List ℕ → List ℕ → Bool → Option (List �
       }
 
   -- a step that changes nothing
-  pub stays_so : (s : St J) (r : Kept right start s) (id : ℕ) (v : View) (words : List ℕ) → get_elem? s.views id ≡ some v → words ≡ r.ticket ∷ r.serving ∷ []
-      → Kept right start record { words = words; homes = s.homes; views = set s.views id v }
+  pub stays_so : (s : St T) (r : Kept becomes start s) (id : ℕ) (v : View) (words : List ℕ) → get_elem? s.views id ≡ some v → words ≡ r.ticket ∷ r.serving ∷ []
+      → Kept becomes start record { words = words; homes = s.homes; views = set s.views id v }
   stays_so s r id v words at are =
-      subst (λ (z : List ℕ × List View). Kept right start record { words = z.0; homes = s.homes; views = z.1 }) (λ i. ((r.words ∙ sym are) i, sym (set_again s.views id v at) i)) r
+      subst (λ (z : List ℕ × List View). Kept becomes start record { words = z.0; homes = s.homes; views = z.1 }) (λ i. ((r.words ∙ sym are) i, sym (set_again s.views id v at) i)) r
 
   -- all moves of a live seat stand in what it has seen, and all moves of those that it met
-  pub stands_of : (s : St J) (r : Kept {J = J} right start s) (id : ℕ) (v : View) → get_elem? s.views id ≡ some v → v.live ≡ true → StandsInSeen v
+  pub stands_of : (s : St T) (r : Kept becomes start s) (id : ℕ) (v : View) → get_elem? s.views id ≡ some v → v.live ≡ true → StandsInSeen v
   stands_of s r id v at live =
       let k = (r.seats id v at).knows live in (
         ap (λ (n : ℕ). entries_by n v.seen) k.number ∙ k.stand,
@@ -325,8 +322,8 @@ module _ {J : Type 0} (right : List ℕ → List ℕ → Bool → Option (List �
       )
 
   -- a ticket is drawn, where the word is the number asked for
-  pub draws : (slots id : ℕ) (me : M J) (old : ℕ) → me.0.turn ≡ Idle → me.0.live ≡ true → old + 1 < 18446744073709551616
-      → Allows (Kept {J = J} right start) slots id me 0 (λ n. either (eqb n old) (old + 1) n) (drew (step slots 0 old (old + 1) none) me)
+  pub draws : (slots id : ℕ) (me : M T) (old : ℕ) → me.0.turn ≡ Idle → me.0.live ≡ true → old + 1 < 18446744073709551616
+      → Allows (Kept becomes start) slots id me 0 (λ n. either (eqb n old) (old + 1) n) (drew (step slots 0 old (old + 1) none) me)
   draws slots id me old idle live small s r _ at _ =
       let x : ℕ = get_or s.words 0 0 in
       let found : x ≡ r.ticket = ap (λ (ws : List ℕ). get_or ws 0 0) r.words in
@@ -360,8 +357,8 @@ module _ {J : Type 0} (right : List ℕ → List ℕ → Bool → Option (List �
       ))
 
   -- a look at the turn
-  pub looks : (slots id : ℕ) (me : M J) (n told : ℕ) → told ≡ start → me.0.turn ≡ Waiting n → me.0.live ≡ true → me.1 ≡ []
-      → Allows (Kept {J = J} right start) slots id me 1 (λ k. k) (looked_at_turn right told (step slots 1 0 0 none) me)
+  pub looks : (slots id : ℕ) (me : M T) (n : ℕ) (told : Option T) → told ≡ Some start → me.0.turn ≡ Waiting n → me.0.live ≡ true → me.1 ≡ []
+      → Allows (Kept becomes start) slots id me 1 (λ k. k) (looked_at_turn becomes told (step slots 1 0 0 none) me)
   looks slots id me n told begins waits live bare s r _ at _ =
       let x : ℕ = get_or s.words 1 0 in
       let found : x ≡ r.serving = ap (λ (ws : List ℕ). get_or ws 1 0) r.words in
@@ -373,12 +370,12 @@ module _ {J : Type 0} (right : List ℕ → List ℕ → Bool → Option (List �
       let is : r.serving ≡ n = sym found ∙ hit in
       let mine : r.owner r.serving ≡ id = ap r.owner is ∙ known.2 in
       let home = slot_at_turn r.state r.serving id r.owner s.homes s.views me.0 r.away mine at (waits ∙ ap Waiting (sym is)) r.slot in
-      let held : Held J = home.1.0 in
+      let held : T = r.state in
       let w : View = with_seen (Served n) r.log me.0.mine me.0 in
       let kn = k.knows live in
       let new = moves s r id me.0 w (set s.words 1 x) (set s.homes 0 none) r.log r.state r.ticket r.serving r.owner true at live (same_seen me.0 (Served n) r.log me.0.mine kn.prefix) (same_log id r.log)
       (λ i. set (r.words i) 1 (found i)) r.ordered r.bounded r.runs
-      (ap (λ (hs : List (maybe.Option (S J))). set hs 0 none) home.1.1, (w, ap (get_elem? (set s.views id w)) mine ∙ set_here s.views id w (length_above s.views id me.0 at), ap Served (sym is)))
+      (ap (λ (hs : List (maybe.Option (S T))). set hs 0 none) home.1, (w, ap (get_elem? (set s.views id w)) mine ∙ set_here s.views id w (length_above s.views id me.0 at), ap Served (sym is)))
       record {
         turn = (sym is, known.1, known.2, refl, refl);
         idle = λ dead. absurd (false_is_not (sym live ∙ dead));
@@ -388,11 +385,11 @@ module _ {J : Type 0} (right : List ℕ → List ℕ → Bool → Option (List �
       (turns_taken r.ticket r.serving id n r.owner s.views me.0 w at waits refl known.2 r.turns) in (
         w,
         takes 0 (Some held),
-        ap (λ (hs : List (maybe.Option (S J))). get_elem? hs 0) home.1.1,
+        ap (λ (hs : List (maybe.Option (S T))). get_elem? hs 0) home.1,
         new,
         λ m is_m. (
           λ miss. absurd (miss (hit ∙ sym (one m is_m))),
-          λ _. (r.log, held, (λ i. (with_seen (Served (sym (one m is_m) i)) r.log me.0.mine me.0, (0, Some held) ∷ bare i)), kn.prefix, subst (λ (z : ℕ × Register). LeadsFrom right z.0 r.log z.1) (λ i. (sym begins i, sym home.1.2 i)) r.runs, stands_of _ new id w (set_here s.views id w (length_above s.views id me.0 at)) live),
+          λ _. (r.log, held, (λ i. (with_seen (Served (sym (one m is_m) i)) r.log me.0.mine me.0, (0, Some held) ∷ bare i)), kn.prefix, from_told becomes told start r.log held begins r.runs, stands_of _ new id w (set_here s.views id w (length_above s.views id me.0 at)) live),
         ),
       ))
       (λ miss. (
@@ -404,15 +401,15 @@ module _ {J : Type 0} (right : List ℕ → List ℕ → Bool → Option (List �
       ))
 
   -- what the seat whose turn it is knows
-  served_knows : (s : St J) (r : Kept {J = J} right start s) (id n : ℕ) (me : View) → get_elem? s.views id ≡ some me → me.turn ≡ Served n
+  served_knows : (s : St T) (r : Kept becomes start s) (id n : ℕ) (me : View) → get_elem? s.views id ≡ some me → me.turn ≡ Served n
       → KnowsTurn r.log r.ticket r.serving r.owner r.away id me.seen (Served n)
   served_knows s r id n me at served = subst (λ (t : Turn). KnowsTurn r.log r.ticket r.serving r.owner r.away id me.seen t) served ((r.seats id me at).turn)
 
   -- the seat whose turn it is gives the slot back and passes the turn on, with the history `more`
-  ends : (s : St J) (r : Kept {J = J} right start s) (id n : ℕ) (me : M J) (held : Held J) (w : View) (more : List SeatEntry) → get_elem? s.views id ≡ some me.0 → me.0.turn ≡ Served n → me.0.live ≡ true → me.1 ≡ (0, Some held) ∷ []
+  ends : (s : St T) (r : Kept becomes start s) (id n : ℕ) (me : M T) (held : T) (w : View) (more : List SeatEntry) → get_elem? s.views id ≡ some me.0 → me.0.turn ≡ Served n → me.0.live ≡ true → me.1 ≡ (0, Some held) ∷ []
       → get_or s.words 1 0 < 18446744073709551616
-      → Same me.0 w → w.turn ≡ Idle → Longer id r.log more → LeadsFrom right start more held.table → KnowsLog more id w
-      → Kept {J = J} right start (stepped s 1 ((get_or s.words 1 0 + 1) % 18446744073709551616) id me.1 w gives)
+      → Same me.0 w → w.turn ≡ Idle → Longer id r.log more → Makes becomes start more held → KnowsLog more id w
+      → Kept becomes start (stepped s 1 ((get_or s.words 1 0 + 1) % 18446744073709551616) id me.1 w gives)
   ends s r id n me held w more at served live has small same idle longer runs knows =
       let k = served_knows s r id n me.0 at served in
       let found : get_or s.words 1 0 ≡ r.serving = ap (λ (ws : List ℕ). get_or ws 1 0) r.words in
@@ -421,9 +418,9 @@ module _ {J : Type 0} (right : List ℕ → List ℕ → Bool → Option (List �
       let below = k.1 in
       let fits : r.serving + 1 < 18446744073709551616 = omega arith in
       let next : (get_or s.words 1 0 + 1) % 18446744073709551616 ≡ r.serving + 1 = ap (λ (z : ℕ). (z + 1) % 18446744073709551616) found ∙ mod-eq_of_lt fits in
-      moves s r id me.0 w (set s.words 1 ((get_or s.words 1 0 + 1) % 18446744073709551616)) (put_back s.homes me.1) more held.table r.ticket (r.serving + 1) r.owner false at live same longer
+      moves s r id me.0 w (set s.words 1 ((get_or s.words 1 0 + 1) % 18446744073709551616)) (put_back s.homes me.1) more held r.ticket (r.serving + 1) r.owner false at live same longer
       (λ i. set (r.words i) 1 (next i)) (omega arith) bounded runs
-      (held, (λ i. put_back (slot_away r.state r.serving r.owner s.homes s.views r.away k.3 r.slot i) (has i)), refl)
+      (λ i. put_back (slot_away r.state r.serving r.owner s.homes s.views r.away k.3 r.slot i) (has i))
       record {
         turn = subst (λ (t : Turn). KnowsTurn more r.ticket (r.serving + 1) r.owner false id w.seen t) (sym idle) tt;
         idle = λ _. idle;
@@ -433,8 +430,8 @@ module _ {J : Type 0} (right : List ℕ → List ℕ → Bool → Option (List �
       (turns_passed r.ticket r.serving id n r.owner s.views me.0 w at served k.0 r.turns)
 
   -- a move goes into the history
-  pub passes : (slots id : ℕ) (me : M J) (move : TableMove) (reply : Reply) → IsMoveAnswered right {J = J} start move reply me
-      → Allows (Kept {J = J} right start) slots id me 1 (λ k. (k + 1) % 18446744073709551616) (passed_on move reply (step slots 1 1 0 none) me)
+  pub passes : (slots id : ℕ) (me : M T) (move : TableMove) (reply : Reply) → IsMoveAnswered becomes start move reply me
+      → Allows (Kept becomes start) slots id me 1 (λ k. (k + 1) % 18446744073709551616) (passed_on move reply (step slots 1 1 0 none) me)
   passes slots id me move reply a s r _ at small =
       let n = a.number in
       let held = a.held in
@@ -450,7 +447,7 @@ module _ {J : Type 0} (right : List ℕ → List ℕ → Bool → Option (List �
       let same_all : me.0.seen ++ e ∷ [] ≡ r.log ++ e ∷ [] = ap (λ (l : List SeatEntry). l ++ e ∷ []) all in
       let new = ends s r id n me held w (r.log ++ e ∷ []) at served live has small
       (same_seen me.0 Idle (me.0.seen ++ e ∷ []) (me.0.mine ++ e ∷ []) (e ∷ [], refl)) refl (longer_log id r.log e kn.number)
-      (leads_on right start r.log a.before e held.table (subst (λ (l : List SeatEntry). LeadsFrom right start l a.before) all a.leads) a.answers)
+      (makes_on becomes start r.log a.before e held (subst (λ (l : List SeatEntry). Makes becomes start l a.before) all a.leads) a.answers)
       record {
         number = kn.number;
         prefix = subst (λ (l : List SeatEntry). StartsWith (r.log ++ e ∷ []) l) (sym same_all) (starts_again (r.log ++ e ∷ []));
@@ -467,9 +464,9 @@ module _ {J : Type 0} (right : List ℕ → List ℕ → Bool → Option (List �
       )
 
   -- a turn with no move
-  pub skips : (slots id : ℕ) (me : M J) (n : ℕ) (held : Held J) → me.0.turn ≡ Served n → me.0.live ≡ true → me.1 ≡ (0, Some held) ∷ []
-      → LeadsFrom right start me.0.seen held.table
-      → Allows (Kept {J = J} right start) slots id me 1 (λ k. (k + 1) % 18446744073709551616) (skipped (step slots 1 1 0 none) me)
+  pub skips : (slots id : ℕ) (me : M T) (n : ℕ) (held : T) → me.0.turn ≡ Served n → me.0.live ≡ true → me.1 ≡ (0, Some held) ∷ []
+      → Makes becomes start me.0.seen held
+      → Allows (Kept becomes start) slots id me 1 (λ k. (k + 1) % 18446744073709551616) (skipped (step slots 1 1 0 none) me)
   skips slots id me n held served live has run s r _ at small =
       let k = served_knows s r id n me.0 at served in
       let kn = (r.seats id me.0 at).knows live in (
@@ -478,16 +475,16 @@ module _ {J : Type 0} (right : List ℕ → List ℕ → Bool → Option (List �
         tt,
         ends s r id n me held (with_turn Idle me.0) r.log at served live has small
             (same_view me.0 Idle) refl (same_log id r.log)
-            (subst (λ (l : List SeatEntry). LeadsFrom right start l held.table) k.4 run)
+            (subst (λ (l : List SeatEntry). Makes becomes start l held) k.4 run)
             record { number = kn.number; prefix = kn.prefix; mine = kn.mine; stand = kn.stand; shorter = kn.shorter; alone = kn.alone },
         (λ i. (with_turn Idle me.0, rest (has i))),
       )
 
   -- the desk at the start
-  pub opens : (slots before : List (S J)) (held : Held J) → slots ≡ before ++ Some held ∷ [] → before ≡ [] → held.table ≡ beginning start → Kept {J = J} right start (opening (0 ∷ 0 ∷ []) slots first_view)
+  pub opens : (slots before : List (S T)) (held : T) → slots ≡ before ++ Some held ∷ [] → before ≡ [] → held ≡ start → Kept becomes start (opening (0 ∷ 0 ∷ []) slots first_view)
   opens slots before held are none_before is = record {
     log = [];
-    state = beginning start;
+    state = start;
     ticket = 0;
     serving = 0;
     owner = λ n. 0;
@@ -497,7 +494,7 @@ module _ {J : Type 0} (right : List ℕ → List ℕ → Bool → Option (List �
     ordered = omega arith;
     bounded = omega arith;
     runs = refl;
-    slot = (held, ap (map some) (are ∙ ap (λ l. l ++ Some held ∷ []) none_before), is);
+    slot = ap (map some) (are ∙ ap (λ l. l ++ Some held ∷ []) none_before) ∙ ap (λ (x : T). some (Some x) ∷ []) is;
     seats = λ j v there. first_knows j v there;
     turns = λ n from below. absurd (omega arith);
     strangers = λ j far. refl;
@@ -515,38 +512,38 @@ module _ {J : Type 0} (right : List ℕ → List ℕ → Bool → Option (List �
   }
 
   -- what the seat whose move went into the history then knows
-  pub passed_tells : (slots r : ℕ) (me after : M J) (move : TableMove) (reply : Reply) → IsMoveAnswered right {J = J} start move reply me
-      → passed_on move reply (step slots 1 1 0 none) me r after → AnswersMove right {J = J} start move reply me after
+  pub passed_tells : (slots r : ℕ) (me after : M T) (move : TableMove) (reply : Reply) → IsMoveAnswered becomes start move reply me
+      → passed_on move reply (step slots 1 1 0 none) me r after → AnswersMove becomes start move reply me after
   passed_tells slots r me after move reply a told = (
     told.0,
-    (a.held.table, leads_on right start me.0.seen a.before (entry_of_seat me.0.number move reply) a.held.table a.leads a.answers),
-    subst (λ (m : M J). StandsInSeen m.0) (sym told.0) told.1,
+    (a.held, makes_on becomes start me.0.seen a.before (entry_of_seat me.0.number move reply) a.held a.leads a.answers),
+    subst (λ (m : M T). StandsInSeen m.0) (sym told.0) told.1,
   )
 
   -- a seat that has just put the table back
-  pub answered : (me given : M J) (n : ℕ) (held new : Held J) (move : TableMove) (said : Option Reply) → IsServed right {J = J} start n me held
-      → given ≡ (me.0, (0, Some new) ∷ []) → IfSome said (λ reply. Step_of right held.table move reply new.table) → IsSome said
-      → IsMoveAnswered right {J = J} start move (reply_in said) given
+  pub answered : (me given : M T) (n : ℕ) (held new : T) (move : TableMove) (said : Option Reply) → IsServed becomes start n me held
+      → given ≡ (me.0, (0, Some new) ∷ []) → IfSome said (λ reply. becomes held move reply new) → IsSome said
+      → IsMoveAnswered becomes start move (reply_in said) given
   answered me given n held new move (Some reply) turn is stp there = record {
     number = n;
-    before = held.table;
+    before = held;
     held = new;
-    turn = ap (λ (m : M J). m.0.turn) is ∙ turn.turn;
-    live = ap (λ (m : M J). m.0.live) is ∙ turn.live;
-    given = ap (λ (m : M J). m.1) is;
-    leads = subst (λ (l : List SeatEntry). LeadsFrom right start l held.table) (sym (ap (λ (m : M J). m.0.seen) is)) turn.leads;
+    turn = ap (λ (m : M T). m.0.turn) is ∙ turn.turn;
+    live = ap (λ (m : M T). m.0.live) is ∙ turn.live;
+    given = ap (λ (m : M T). m.1) is;
+    leads = subst (λ (l : List SeatEntry). Makes becomes start l held) (sym (ap (λ (m : M T). m.0.seen) is)) turn.leads;
     answers = stp;
   }
   answered me given n held new move None turn is stp there = absurd (false_is_not (sym there))
 
   -- a seat that drew a number, had its turn and made its move
-  pub adds_of : (v : View) (n : ℕ) (drawn served after : M J) (held : Held J) (move : TableMove) (reply : Reply) → entries_by v.number v.seen ≡ v.mine → drawn ≡ (with_turn (Waiting n) v, [])
-      → HasTurn right {J = J} start n drawn.0 served held → AnswersMove right {J = J} start move reply served after → AddsEntry right start v move reply after.0
+  pub adds_of : (v : View) (n : ℕ) (drawn served after : M T) (held : T) (move : TableMove) (reply : Reply) → entries_by v.number v.seen ≡ v.mine → drawn ≡ (with_turn (Waiting n) v, [])
+      → HasTurn becomes (Some start) n drawn.0 served held → AnswersMove becomes start move reply served after → AddsEntry (CanMake becomes start) v move reply after.0
   adds_of v n drawn served after held move reply stand is turn answered =
       let e : SeatEntry = entry_of_seat v.number move reply in
-      let t = subst (λ (m : M J). HasTurn right {J = J} start n m.0 served held) is turn in
-      let a = subst (λ (m : M J). AnswersMove right {J = J} start move reply m after) t.now answered in
-      subst (λ (m : M J). AddsEntry right start v move reply m.0) (sym a.0) record {
+      let t = subst (λ (m : M T). HasTurn becomes (Some start) n m.0 served held) is turn in
+      let a = subst (λ (m : M T). AnswersMove becomes start move reply m after) t.now answered in
+      subst (λ (m : M T). AddsEntry (CanMake becomes start) v move reply m.0) (sym a.0) record {
         between = t.begins.0;
         seen = ap (λ (l : List SeatEntry). l ++ e ∷ []) t.begins.1;
         others = none_behind v.number v.seen t.begins.0 v.mine stand (ap (entries_by v.number) (sym t.begins.1) ∙ t.stands.0);
@@ -556,8 +553,8 @@ module _ {J : Type 0} (right : List ℕ → List ℕ → Bool → Option (List �
       }
 
   -- the same where it made its move, or didn't
-  pub adds_if : (v : View) (n : ℕ) (drawn served after : M J) (held : Held J) (move : TableMove) (said : Option Reply) → entries_by v.number v.seen ≡ v.mine
-      → drawn ≡ (with_turn (Waiting n) v, []) → HasTurn right {J = J} start n drawn.0 served held
-      → IfSome said (λ reply. AnswersMove right {J = J} start move reply served after) → IfSome said (λ reply. AddsEntry right start v move reply after.0)
+  pub adds_if : (v : View) (n : ℕ) (drawn served after : M T) (held : T) (move : TableMove) (said : Option Reply) → entries_by v.number v.seen ≡ v.mine
+      → drawn ≡ (with_turn (Waiting n) v, []) → HasTurn becomes (Some start) n drawn.0 served held
+      → IfSome said (λ reply. AnswersMove becomes start move reply served after) → IfSome said (λ reply. AddsEntry (CanMake becomes start) v move reply after.0)
   adds_if v n drawn served after held move (Some reply) stand is turn answered = adds_of v n drawn served after held move reply stand is turn answered
   adds_if v n drawn served after held move None stand is turn answered = tt

@@ -1,18 +1,17 @@
 -- The whole history of a desk that is closed: what its first seat had seen at some time, and that seat's moves since, where all that it met
 -- had been met by then.
-use Rattle.std.proofs.Common.{◌≡◌, ◌≢◌, ℕ, zero, suc, ◌⊎◌, eqb, eq-eqb, eqb-true, cond, Bool, true, false, List, [], ◌∷◌, ◌++◌, Option, refl, sym, ap, ◌∙◌, subst, inl, inr, ⊎_elim, append_assoc}
+use Rattle.std.proofs.Common.{◌≡◌, ◌≢◌, ℕ, zero, suc, ◌⊎◌, eqb, eq-eqb, eqb-true, cond, Bool, true, false, List, [], ◌∷◌, ◌++◌, refl, sym, ap, ◌∙◌, subst, inl, inr, ⊎_elim, append_assoc}
 use Rattle.std.proofs.lemmas.List.{append_cancel_left, map-append}
 use mathlib.Core.Option.{some, some-injective, some-ne-none}
 use lib.ListN.{get_elem?}
-use Rattle.job_table.specs.Jobs.{Register}
 use Rattle.job_table.specs.History as table
 use Rattle.desk.specs.declared.view.SeatEntry.{SeatEntry}
 use Rattle.desk.specs.declared.view.Met.{Met}
 use Rattle.desk.specs.declared.view.View.{View}
 use Rattle.desk.specs.History.{moves_in, entries_by, by}
 use Rattle.desk.specs.Rule.{HasMet}
-use Rattle.desk.specs.SeatMoves.{Closes}
-use Rattle.desk.specs.SeatHistory.{Asked}
+use Rattle.desk.specs.SeatMoves.{ClosesBy}
+use Rattle.desk.specs.SeatHistory.{AskedBy}
 use Rattle.desk.proofs.Histories.{entries_append, none_before, none_behind}
 
 false_is_not : false ≡ true → ⊥
@@ -77,8 +76,8 @@ met_or_not k (m ∷ ms) = met_step k m ms (eqb m.seat k) refl (met_or_not k ms)
 
 -- ---- a desk that is closed
 
-module _ (right : List ℕ → List ℕ → Bool → Option (List ℕ) → Type 0) (v w : View) (said : List table.MoveEntry) (asked : Asked right v w said) (first : v.number ≡ 0)
-    (stand : entries_by v.number v.seen ≡ v.mine) (known : HasMet v.seen v.met) (held : Register) (c : Closes right w held) where
+module _ {is_legal makes : List SeatEntry → Type 0} (v w : View) (said : List table.MoveEntry) (asked : AskedBy is_legal v w said) (first : v.number ≡ 0)
+    (stand : entries_by v.number v.seen ≡ v.mine) (known : HasMet v.seen v.met) (c : ClosesBy makes w) where
   -- what stands behind all that had been seen
   later : List SeatEntry
   later = asked.seen.0 ++ c.begins.0

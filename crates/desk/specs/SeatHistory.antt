@@ -23,19 +23,19 @@ legal_then : (before after : Type 0) (a b : List Said) → (a ≢ [] → before)
 legal_then before after a [] first still last some = still (first (λ none. some (append-nil a ∙ none)))
 legal_then before after a (y ∷ ys) first still last some = last (λ none. subst IsFull none tt)
 
-module _ (right : List ℕ → List ℕ → Bool → Option (List ℕ) → Type 0) where
-  pub record Asked (v w : View) (said : List Said) : Type 0 where
+module _ (is_legal : List SeatEntry → Type 0) where
+  pub record AskedBy (v w : View) (said : List Said) : Type 0 where
     pub mine : w.mine ≡ v.mine ++ by v.number said
     pub seen : StartsWith w.seen v.seen
     pub stand : entries_by w.number w.seen ≡ entries_by v.number v.seen ++ by v.number said
-    pub legal : IsLegal right v.seen → IsLegal right w.seen
-    pub made_legal : said ≢ [] → IsLegal right w.seen
+    pub legal : is_legal v.seen → is_legal w.seen
+    pub made_legal : said ≢ [] → is_legal w.seen
     pub known : HasMet v.seen v.met → HasMet w.seen w.met
     pub stays : Stays v w
 
   -- no move
-  pub asked_none : (v : View) → Asked v v []
-  asked_none v = record {
+  pub made_none : (v : View) → AskedBy v v []
+  made_none v = record {
     mine = sym (append-nil v.mine);
     seen = ([], sym (append-nil v.seen));
     stand = sym (append-nil (entries_by v.number v.seen));
@@ -46,8 +46,8 @@ module _ (right : List ℕ → List ℕ → Bool → Option (List ℕ) → Type 
   }
 
   -- moves after moves are both
-  pub asked_then : (v w x : View) (a b : List Said) → Asked v w a → Asked w x b → Asked v x (a ++ b)
-  asked_then v w x a b p q =
+  pub made_then : (v w x : View) (a b : List Said) → AskedBy v w a → AskedBy w x b → AskedBy v x (a ++ b)
+  made_then v w x a b p q =
       let both : (m m' m'' : List SeatEntry) → m' ≡ m ++ by v.number a → m'' ≡ m' ++ by w.number b → m'' ≡ m ++ by v.number (a ++ b) = λ m m' m'' first last.
       last ∙ ap (λ l. l ++ by w.number b) first ∙ append_assoc m (by v.number a) (by w.number b)
       ∙ ap (λ l. m ++ l) (by_then v.number w.number a b p.stays.number) in record {
@@ -55,7 +55,7 @@ module _ (right : List ℕ → List ℕ → Bool → Option (List ℕ) → Type 
         seen = (p.seen.0 ++ q.seen.0, q.seen.1 ∙ ap (λ s. s ++ q.seen.0) p.seen.1 ∙ append_assoc v.seen p.seen.0 q.seen.0);
         stand = both (entries_by v.number v.seen) (entries_by w.number w.seen) (entries_by x.number x.seen) p.stand q.stand;
         legal = λ before. q.legal (p.legal before);
-        made_legal = legal_then (IsLegal right w.seen) (IsLegal right x.seen) a b p.made_legal q.legal q.made_legal;
+        made_legal = legal_then (is_legal w.seen) (is_legal x.seen) a b p.made_legal q.legal q.made_legal;
         known = λ before. q.known (p.known before);
         stays = record {
           number = q.stays.number ∙ p.stays.number;
@@ -63,3 +63,19 @@ module _ (right : List ℕ → List ℕ → Bool → Option (List ℕ) → Type 
           met = q.stays.met ∙ p.stays.met;
         };
       }
+
+-- the same where which histories are legal goes by what was told, and the same was told
+pub then_by : {T : Type 0} (legal : T → List SeatEntry → Type 0) (told other : T) (v w x : View) (a b : List Said) → other ≡ told → AskedBy (legal told) v w a → AskedBy (legal other) w x b
+    → AskedBy (legal told) v x (a ++ b)
+then_by legal told other v w x a b same p q = made_then (legal told) v w x a b p (subst (λ t. AskedBy (legal t) w x b) same q)
+
+-- the same where a history is legal from some empty table on
+module _ (right : List ℕ → List ℕ → Bool → Option (List ℕ) → Type 0) where
+  abbrev pub Asked : View → View → List Said → Type 0
+  Asked v w said = AskedBy (IsLegal right) v w said
+
+  pub asked_none : (v : View) → Asked v v []
+  asked_none v = made_none (IsLegal right) v
+
+  pub asked_then : (v w x : View) (a b : List Said) → Asked v w a → Asked w x b → Asked v x (a ++ b)
+  asked_then v w x a b p q = made_then (IsLegal right) v w x a b p q

@@ -1,71 +1,99 @@
 -- A job's run, and the moves round it.
-use Rattle.std.proofs.Common.{◌≡◌, ℕ, ◌+◌, nat_lt, Bool, true, false, List, [], ◌∷◌, ◌++◌, Option, Some, refl, sym, ap, subst, append-nil, inr, arith, rules, IsTrue, ◌↔◌, IsSome}
+use Rattle.std.proofs.Common.{◌≡◌, ℕ, ◌+◌, nat_lt, Bool, true, false, List, [], ◌∷◌, ◌++◌, Option, Some, None, IfSome, IfNone, refl, sym, ap, subst, append-nil, inl, inr, arith, rules, IsTrue, ◌↔◌, IsSome}
 use Rattle.std.proofs.lemmas.Bool.Decides.{nat_tests}
 use Rattle.os_io.specs.Looks.{stops_of}
 use Rattle.os_io.specs.Laws.{stops_more}
 use Rattle.job_table.specs.declared.entries.TableMove.TheVariants.{Claim, Finish, Enter, Retrieve}
+use Rattle.effects.specs.declared.store.NotStored.{NotStored}
+use Rattle.job_table.specs.declared.entries.Reply.{Reply}
 use Rattle.job_table.specs.declared.entries.Reply.TheVariants as reply
 use Rattle.job_table.specs.declared.entries.Retrieved.{Retrieved}
 use Rattle.job_table.specs.declared.entries.Finishing as answer
 use Rattle.job_table.specs.declared.job.Job.{Job}
 use Rattle.job_table.specs.History.{MoveEntry, entry_of_move}
 use Rattle.job_table.specs.Looks.{looks}
-use Rattle.job_runs.specs.Runs.{AreLooks, IsJobRun, Works}
-use Rattle.job_runs.specs.Solves.{EntersAndRuns, Solves, BeginsToSolve}
+use Rattle.job_runs.specs.Runs.{AreLooks, IsJobRun, Works, end_reply}
+use Rattle.job_runs.specs.Solves.{RunsAndShows, Solves, BeginsToSolve}
 use Rattle.job_runs.proofs.Judgements.{Made, Joins}
 
 -- looks and a finish are a run
 pub run_of : (made : Made) (did did' both : List MoveEntry → Type 0) → Joins did did' both
-    → (j : Job) (asked : Bool) (document : Option (List ℕ)) (end : answer.Finishing)
+    → (j : Job) (asked : Bool) (document : Option (List ℕ)) (fault : Option NotStored) (end : answer.Finishing)
     → ((answers : List Bool) × did (looks j.number answers) × AreLooks asked answers × made j.osil j.osol answers document)
-    → did' (entry_of_move (Finish j asked document) (reply.Finish end) ∷ [])
-    → (run : List MoveEntry) × both run × IsJobRun made j run
-run_of made did did' both joins j asked document end (answers, looked, are, is_made) finished = (
-  looks j.number answers ++ entry_of_move (Finish j asked document) (reply.Finish end) ∷ [],
+    → did' (entry_of_move (Finish j asked document) (end_reply fault end) ∷ [])
+    → (run : List MoveEntry) × both run × IsJobRun made j fault run
+run_of made did did' both joins j asked document fault end (answers, looked, are, is_made) finished = (
+  looks j.number answers ++ entry_of_move (Finish j asked document) (end_reply fault end) ∷ [],
   joins _ _ looked finished,
   record { answers = answers; asked = asked; document = document; end = end; looked = are; is_made = is_made; are = refl },
 )
 
 -- the run of a job that a claim gave
 pub claimed_run : (made : Made) (did did' both : List MoveEntry → Type 0) → Joins did did' both
-    → (worker : Bool) (j : Job) → did (entry_of_move (Claim worker) (reply.Gave (Some j)) ∷ [])
-    → ((run : List MoveEntry) × did' run × IsJobRun made j run)
+    → (worker : Bool) (j : Job) (fault : Option NotStored) → did (entry_of_move (Claim worker) (reply.Gave (Some j)) ∷ [])
+    → ((run : List MoveEntry) × did' run × IsJobRun made j fault run)
     → (given : Option Job) × (entries : List MoveEntry) × both entries × Works made worker given entries × (IsTrue true ↔ IsSome given)
-claimed_run made did did' both joins worker j claimed (run, ran, is_run) = (
+claimed_run made did did' both joins worker j fault claimed (run, ran, is_run) = (
   Some j,
   entry_of_move (Claim worker) (reply.Gave (Some j)) ∷ run,
   joins _ _ claimed ran,
-  record { run = run; ran = is_run; are = refl },
+  record { run = run; ran = (fault, is_run); are = refl },
   search rules,
 )
 
--- a job that was entered and run
-pub entered_run : (made : Made) (did did' both : List MoveEntry → Type 0) → Joins did did' both
-    → (o p : List ℕ) (j : Job) → did (entry_of_move (Enter o p) (reply.Gave (Some j)) ∷ []) → ((run : List MoveEntry) × did' run × IsJobRun made j run)
-    → (entries : List MoveEntry) × both entries × EntersAndRuns made o p j entries
-entered_run made did did' both joins o p j entered (run, ran, is_run) =
-    (entry_of_move (Enter o p) (reply.Gave (Some j)) ∷ run, joins _ _ entered ran, record { run = run; is_run = is_run; are = refl })
-
--- and retrieved
-pub solved : (made : Made) (did did' both : List MoveEntry → Type 0) → Joins did did' both
-    → (o p : List ℕ) (j : Job) (shown : Retrieved) → ((ran : List MoveEntry) × did ran × EntersAndRuns made o p j ran)
+-- a job that was run and retrieved
+pub shown_run : (made : Made) (did did' both : List MoveEntry → Type 0) → Joins did did' both
+    → (j : Job) (shown : Retrieved) → ((run : List MoveEntry) × did run × IsJobRun made j None run)
     → did' (entry_of_move (Retrieve j.number) (reply.Retrieved shown) ∷ [])
-    → (own : List MoveEntry) × both own × Solves made o p (reply.Retrieved shown) own
-solved made did did' both joins o p j shown (ran, moves, enters) last = (
-  ran ++ entry_of_move (Retrieve j.number) (reply.Retrieved shown) ∷ [],
-  joins _ _ moves last,
-  inr (record { job = j; run = ran; shown = shown; ran = enters; is_shown = refl; are = refl }),
+    → (own : List MoveEntry) × both own × RunsAndShows made j (reply.Retrieved shown) own
+shown_run made did did' both joins j shown (run, ran, is_run) last = (
+  run ++ entry_of_move (Retrieve j.number) (reply.Retrieved shown) ∷ [],
+  joins _ _ ran last,
+  inl (run, shown, is_run, refl, refl),
 )
 
--- or not, for want of memory
-pub unsolved : (made : Made) (did did' both : List MoveEntry → Type 0) → Joins did did' both
-    → (o p : List ℕ) (j : Job) → ((ran : List MoveEntry) × did ran × EntersAndRuns made o p j ran)
-    → did' [] → (own : List MoveEntry) × both own × BeginsToSolve made o p own
-unsolved made did did' both joins o p j (ran, moves, enters) last = (
-  ran ++ [],
-  joins _ _ moves last,
-  inr (j, subst (λ (es : List MoveEntry). EntersAndRuns made o p j es) (sym (append-nil ran)) enters),
+-- or that wasn't shown, for want of memory
+pub unshown_run : (made : Made) (did did' both : List MoveEntry → Type 0) → Joins did did' both
+    → (j : Job) → ((run : List MoveEntry) × did run × IsJobRun made j None run) → did' [] → (run : List MoveEntry) × both run × IsJobRun made j None run
+unshown_run made did did' both joins j (run, ran, is_run) last =
+    (run ++ [], joins _ _ ran last, subst (λ (es : List MoveEntry). IsJobRun made j None es) (sym (append-nil run)) is_run)
+
+-- or the effect of whose finish wasn't stored
+pub unstored_run : (made : Made) (did : List MoveEntry → Type 0) (j : Job) (fault : NotStored) → ((run : List MoveEntry) × did run × IsJobRun made j (Some fault) run)
+    → (own : List MoveEntry) × did own × RunsAndShows made j (reply.NotStored fault) own
+unstored_run made did j fault (run, ran, is_run) = (run, ran, inr (fault, is_run, refl))
+
+-- what follows the enter of a job
+pub solved : (made : Made) (did did' both : List MoveEntry → Type 0) → Joins did did' both
+    → (o p : List ℕ) (j : Job) (said : Reply) → did (entry_of_move (Enter o p) (reply.Gave (Some j)) ∷ [])
+    → ((later : List MoveEntry) × did' later × RunsAndShows made j said later) → (own : List MoveEntry) × both own × Solves made o p said own
+solved made did did' both joins o p j said entered (later, moves, shows) = (
+  entry_of_move (Enter o p) (reply.Gave (Some j)) ∷ later,
+  joins _ _ entered moves,
+  inr (record { job = j; later = later; shows = shows; are = refl }),
 )
+
+pub unsolved : (made : Made) (did did' both : List MoveEntry → Type 0) → Joins did did' both
+    → (o p : List ℕ) (j : Job) → did (entry_of_move (Enter o p) (reply.Gave (Some j)) ∷ []) → ((run : List MoveEntry) × did' run × IsJobRun made j None run)
+    → (own : List MoveEntry) × both own × BeginsToSolve made o p own
+unsolved made did did' both joins o p j entered (run, ran, is_run) = (
+  entry_of_move (Enter o p) (reply.Gave (Some j)) ∷ run,
+  joins _ _ entered ran,
+  inr (j, record { run = run; is_run = is_run; are = refl }),
+)
+
+-- the same by the last reply, or none
+pub solved_if : (made : Made) (did did' both : List MoveEntry → Type 0) → Joins did did' both
+    → (o p : List ℕ) (j : Job) (said : Option Reply) → did (entry_of_move (Enter o p) (reply.Gave (Some j)) ∷ [])
+    → IfSome said (λ last. (later : List MoveEntry) × did' later × RunsAndShows made j last later) → IfSome said (λ last. (own : List MoveEntry) × both own × Solves made o p last own)
+solved_if made did did' both joins o p j None entered later = tt
+solved_if made did did' both joins o p j (Some said) entered later = solved made did did' both joins o p j said entered later
+
+pub unsolved_if : (made : Made) (did did' both : List MoveEntry → Type 0) → Joins did did' both
+    → (o p : List ℕ) (j : Job) (said : Option Reply) → did (entry_of_move (Enter o p) (reply.Gave (Some j)) ∷ [])
+    → IfNone said ((run : List MoveEntry) × did' run × IsJobRun made j None run) → IfNone said ((own : List MoveEntry) × both own × BeginsToSolve made o p own)
+unsolved_if made did did' both joins o p j (Some said) entered ran = tt
+unsolved_if made did did' both joins o p j None entered ran = unsolved made did did' both joins o p j entered ran
 
 -- a count of stops is above none where a run was asked to stop, and nowhere else
 pub stops_tell : (asked : Bool) (answers : List Bool) (stops : ℕ) → AreLooks asked answers → stops ≡ 0 + stops_of answers

@@ -1,5 +1,6 @@
 -- What holds of runs in every history from an empty table on, whatever its numbers begin with.
 use Rattle.std.specs.Prelude.{◌≡◌, ℕ, Bool, true, false, All, List, ◌∷◌, ◌++◌, Option, Some}
+use Rattle.effects.specs.declared.store.NotStored.{NotStored}
 use Rattle.job_table.specs.declared.job.Job.{Job}
 use Rattle.job_table.specs.declared.entries.TableMove.{TableMove}
 use Rattle.job_table.specs.declared.entries.TableMove.TheVariants as moves
@@ -37,5 +38,5 @@ AreKept entries = All IsFinishKept entries
 -- the finish of a run that follows the claim or the enter that gave the job is kept
 abbrev pub RunsAreKept : (List ℕ → List ℕ → List Bool → Option (List ℕ) → Type 0) → (List ℕ → List ℕ → Bool → Option (List ℕ) → Type 0) → Type 0
 RunsAreKept made right =
-    (j : Job) (move : TableMove) (before run : List MoveEntry) (now : Register) → IsGiving move → IsJobRun made j run
+    (j : Job) (move : TableMove) (fault : Option NotStored) (before run : List MoveEntry) (now : Register) → IsGiving move → IsJobRun made j fault run
     → LeadsTo right (before ++ entry_of_move move (reply.Gave (Some j)) ∷ run) now → AreKept run

@@ -1,10 +1,12 @@
 //! A job that was given is run and finished.
 ghost use Rattle.std.specs.Prelude.{◌≡◌, ◌<◌, ◌-◌, ◌^◌, List, Bool, [], ◌∷◌, IsTrue, ◌↔◌, Some, None, IsSome, Option};
+ghost use Rattle.effects.specs.Stores.{fault_of};
 ghost use Rattle.job_table.specs.History.{MoveEntry, entry_of_move};
 ghost use Rattle.job_table.specs.Looks.{looks};
 ghost use Rattle.job_runs.specs.Runs.{AreLooks, IsJobRun, Works};
 
 use crate::runner::Runner;
+use effects::NotStored;
 use job_table::{Job, Mover, MoverWatch, SharedText, Verdicts};
 use std::alloc::Global;
 use std::marker::PhantomData;
@@ -36,17 +38,21 @@ fn run_watched<V: Verdicts, C: Mover<V>, R: Runner<V>>(
     (document, asked)
 }
 
-/// Runs a job that a claim or an enter gave, and finishes it.
+/// Runs a job that a claim or an enter gave, and finishes it. The answer is whether the effect of the finish was stored, where it has
+/// one.
 pub fn run_given<V: Verdicts, C: Mover<V>, R: Runner<V>>(
     alloc: Global,
     mover: &mut C,
     runner: &R,
     job: Job,
-)
-    ensures { (run : List MoveEntry) × C.did mover.old mover.new run × IsJobRun R.ran job run }
+) -> Result<(), NotStored>
+    ensures { (run : List MoveEntry) × C.did mover.old mover.new run × IsJobRun R.ran job (fault_of result) run }
 {
     let (document, asked) = run_watched(alloc, mover, runner, &job);
-    mover.finish(job, asked, document);
+    match mover.finish(job, asked, document) {
+        Ok(_) => Ok(()),
+        Err(fault) => Err(fault),
+    }
 }
 
 /// Claims a job that waits, runs it and finishes it. False exactly where the claim gave none. It takes no memory but what a run
@@ -61,7 +67,8 @@ pub fn work_one<V: Verdicts, C: Mover<V>, R: Runner<V>>(
 {
     match mover.claim(worker) {
         Some(job) => {
-            run_given(alloc, mover, runner, job);
+            // Nobody waits for the answer of this run, stored or not.
+            let _stored = run_given(alloc, mover, runner, job);
             true
         }
         None => false,

@@ -61,6 +61,15 @@ planned (Finish j asked document) r = finished_of j asked (phase_of j.number r.j
 planned (Kill n) r = killed_of n (phase_of n r.jobs)
 planned _ r = None
 
+-- a move that has an effect in some table, and so may be refused where that isn't stored
+abbrev pub may_have_effect : TableMove → Bool
+may_have_effect Issue = true
+may_have_effect (Send n osil osol) = true
+may_have_effect (Enter osil osol) = true
+may_have_effect (Finish j asked document) = true
+may_have_effect (Kill n) = true
+may_have_effect _ = false
+
 -- the effect leads there; without one nothing changes
 abbrev pub Effected : Option Deed → Ledger → Ledger → Type 0
 Effected (Some d) old new = after d old ≡ Some new

@@ -161,6 +161,13 @@ impl Jobs {
         }
     }
 
+    /// The number with which numbers begin.
+    pub(crate) fn first(&self) -> u64
+        ensures { result ≡ self.now.first }
+    {
+        self.first
+    }
+
     /// How many numbers were given.
     pub(crate) fn issued(&self) -> u64
         ensures { result ≡ self.now.issued }

@@ -1,6 +1,7 @@
 //! The moves of the table, each with its own type of answer.
 
-ghost use Rattle.std.specs.Prelude.{◌≡◌, Some, None};
+ghost use Rattle.std.specs.Prelude.{◌≡◌, Some, None, IsTrue, ◌↔◌, IsSome};
+ghost use Rattle.job_table.specs.Kept.{said_in};
 ghost use Rattle.job_table.specs.declared.entries.TableMove.TheVariants as asks;
 ghost use Rattle.job_table.specs.declared.entries.Reply.TheVariants as replies;
 ghost use Rattle.job_table.specs.Steps.{added_reply, ok_reply};
@@ -78,6 +79,16 @@ pub trait Move<V: Verdicts>: Sized {
             Ok(answer) => answer,
             Err(_) => unreachable!(),
         }
+    }
+}
+
+/// Whether a move has a reply: false where there was no memory.
+pub fn is_answered<V: Verdicts, M: Move<V>>(answer: &Result<M::Answer, NotStored>) -> bool
+    ensures { IsTrue result ↔ IsSome (said_in M.said answer.now) }
+{
+    match answer {
+        Ok(answer) => M::is_made(answer),
+        Err(_) => true,
     }
 }
 

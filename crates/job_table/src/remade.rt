@@ -1,6 +1,6 @@
 //! Effects, made again in a table.
 
-ghost use Rattle.std.specs.Prelude.{◌≡◌, Some, None, true, false, if◌then◌else◌, IfOk};
+ghost use Rattle.std.specs.Prelude.{◌≡◌, nat_lt, Some, None, true, false, if◌then◌else◌, IfOk};
 ghost use Rattle.std.specs.Option.{option_copied};
 ghost use Rattle.effects.specs.Records as deeds;
 ghost use Rattle.effects.specs.Records.{paper_of, deed_of};
@@ -293,6 +293,20 @@ impl<V: Verdicts> Remade<V> {
             jobs: Jobs::new(alloc, 1),
             verdicts: PhantomData,
         }
+    }
+
+    /// The number with which numbers begin.
+    pub fn first(&self) -> u64
+        ensures { result ≡ self.now.first }
+    {
+        self.jobs.first()
+    }
+
+    /// Whether a number was given.
+    pub fn has_given(&self) -> bool
+        ensures { result ≡ nat_lt 0 self.now.issued }
+    {
+        self.jobs.issued() > 0
     }
 
     /// The table that goes on from what they left: a job that was asked to stop is killed.

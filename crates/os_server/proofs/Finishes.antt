@@ -42,7 +42,7 @@ module _ (made : Made) (right : Judgement) (law : RunsAreKept made right) where
     none = λ before now runs. All-nil IsFinishKept;
     both = both_kept;
     plain = λ move said plain before now runs. All-cons IsFinishKept (entry_of_move move said) [] (plain_kept move said plain) (All-nil IsFinishKept);
-    given = λ j move run giving is_run before now runs. All-cons IsFinishKept (entry_of_move move (reply.Gave (Some j))) run (given_kept move j giving) (law j move before run now giving is_run runs);
+    given = λ j move fault run giving is_run before now runs. All-cons IsFinishKept (entry_of_move move (reply.Gave (Some j))) run (given_kept move j giving) (law j move fault before run now giving is_run runs);
   }
 
   -- every finish of a conversation

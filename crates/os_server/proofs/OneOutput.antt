@@ -1,5 +1,5 @@
 -- The bytes to come and the replies to the moves decide the bytes written.
-use Rattle.std.proofs.Common.{◌≡◌, ◌≢◌, ℕ, ◌+◌, Bool, false, List, [], ◌∷◌, ◌++◌, length, refl, sym, ◌∙◌, ap, subst, inl, inr, ◌⊎◌, arith, append_assoc, Option, None, Some, Err, codes, decimal}
+use Rattle.std.proofs.Common.{◌≡◌, ◌≢◌, ℕ, ◌+◌, Bool, true, false, List, [], ◌∷◌, ◌++◌, length, refl, sym, ◌∙◌, ap, subst, inl, inr, ◌⊎◌, arith, append_assoc, Option, None, Some, Err, codes, decimal}
 use Rattle.std.specs.Prelude.{All}
 use Rattle.std.proofs.lemmas.List.{append_cancel_left, map-append}
 use Rattle.std.proofs.lemmas.List.Elements.{All-head, All-tail}
@@ -21,6 +21,7 @@ use Rattle.osol_grammar.specs.Texts as osol_texts
 use Rattle.ospl_grammar.specs.declared.fault.OsplFault.{OsplFault}
 use Rattle.ospl_grammar.specs.declared.fault.OsplFault.TheVariants as ospl
 use Rattle.ospl_grammar.specs.Texts as ospl_texts
+use Rattle.effects.specs.declared.store.NotStored.{NotStored}
 use Rattle.job_table.specs.declared.job.Job.{Job}
 use Rattle.job_table.specs.declared.entries.TableMove.{TableMove}
 use Rattle.job_table.specs.declared.entries.TableMove.TheVariants as tables
@@ -29,8 +30,8 @@ use Rattle.job_table.specs.declared.entries.Reply.{Reply}
 use Rattle.job_table.specs.declared.entries.Reply.TheVariants as reply
 use Rattle.job_table.specs.Looks.{looks}
 use Rattle.job_table.specs.History.{MoveEntry, entry_of_move}
-use Rattle.job_runs.specs.Runs.{IsJobRun, RunsGiven, Works}
-use Rattle.job_runs.specs.Solves.{IsRetrieved, Solves}
+use Rattle.job_runs.specs.Runs.{IsJobRun, RunsGiven, Works, end_reply}
+use Rattle.job_runs.specs.Solves.{IsRetrieved, RunsAndShows, Solves}
 use Rattle.os_server.specs.declared.order.Order.{Order}
 use Rattle.os_server.specs.declared.fault.FaultCode.{FaultCode}
 use Rattle.os_server.specs.declared.fault.FaultCode.TheVariants as codes_of
@@ -81,6 +82,7 @@ why body codes_of.Options text (call, is, refuses) = inr (call, is, inl (refl, r
 why body codes_of.Process text (call, is, refuses) = inr (call, is, inr (refl, refuses))
 why body codes_of.Full text p = absurd p
 why body codes_of.Spent text p = absurd p
+why body codes_of.Disk text p = absurd p
 
 -- a refusal has a text, and want of memory none
 has_osol_text : (t : List ℕ) (f : OsolFault) → osol_texts.IsFaultText f t → f ≢ osol.Memory
@@ -172,36 +174,46 @@ replies_of own es x is = ap (λ k. replies k ++ x) is
 replies_then : (a b : List MoveEntry) (x : List Reply) → replies (a ++ b) ++ x ≡ replies a ++ (replies b ++ x)
 replies_then a b x = ap (λ r. r ++ x) (map-append (λ (e : MoveEntry). e.reply) a b) ∙ append_assoc (replies a) (replies b) x
 
--- looks and a finish end at one place
-past_looks : (n m : ℕ) (s t : List Bool) (e f : Finishing) (x y : List Reply)
-    → replies (looks n s) ++ (reply.Finish e ∷ x) ≡ replies (looks m t) ++ (reply.Finish f ∷ y) → x ≡ y
-past_looks n m [] [] e f x y h = (cons_same (reply.Finish e) (reply.Finish f) x y h).1
-past_looks n m [] (b ∷ t) e f x y h =
-    let same = (cons_same (reply.Finish e) (reply.Marked b) x (replies (looks m t) ++ (reply.Finish f ∷ y)) h).0 in cc
-past_looks n m (a ∷ s) [] e f x y h =
-    let same = (cons_same (reply.Marked a) (reply.Finish f) (replies (looks n s) ++ (reply.Finish e ∷ x)) y h).0 in cc
-past_looks n m (a ∷ s) (b ∷ t) e f x y h =
-    past_looks n m s t e f x y
-    (cons_same (reply.Marked a) (reply.Marked b) (replies (looks n s) ++ (reply.Finish e ∷ x)) (replies (looks m t) ++ (reply.Finish f ∷ y)) h).1
+abbrev is_look_reply : Reply → Bool
+is_look_reply (reply.Marked b) = true
+is_look_reply _ = false
+
+look_is_not : (b : Bool) (e : Reply) → is_look_reply e ≡ false → e ≡ reply.Marked b → ⊥
+look_is_not b e other is = let wrong : true ≡ false = sym (ap is_look_reply is) ∙ other in cc
+
+end_is_no_look : (fault : Option NotStored) (end : Finishing) → is_look_reply (end_reply fault end) ≡ false
+end_is_no_look None end = refl
+end_is_no_look (Some fault) end = refl
+
+-- looks and what is no look end at one place
+past_looks : (n m : ℕ) (s t : List Bool) (e f : Reply) (x y : List Reply) → is_look_reply e ≡ false → is_look_reply f ≡ false
+    → replies (looks n s) ++ (e ∷ x) ≡ replies (looks m t) ++ (f ∷ y) → (e ≡ f) × (x ≡ y)
+past_looks n m [] [] e f x y other other' h = cons_same e f x y h
+past_looks n m [] (b ∷ t) e f x y other other' h = absurd (look_is_not b e other (cons_same e (reply.Marked b) x (replies (looks m t) ++ (f ∷ y)) h).0)
+past_looks n m (a ∷ s) [] e f x y other other' h = absurd (look_is_not a f other' (sym (cons_same (reply.Marked a) f (replies (looks n s) ++ (e ∷ x)) y h).0))
+past_looks n m (a ∷ s) (b ∷ t) e f x y other other' h =
+    past_looks n m s t e f x y other other'
+    (cons_same (reply.Marked a) (reply.Marked b) (replies (looks n s) ++ (e ∷ x)) (replies (looks m t) ++ (f ∷ y)) h).1
 
 module _ (made : Made) where
-  run_replies : (j : Job) (run : List MoveEntry) (r : IsJobRun made j run) (x : List Reply)
-      → replies run ++ x ≡ replies (looks j.number r.answers) ++ (reply.Finish r.end ∷ x)
-  run_replies j run r x =
-      let finish = entry_of_move (tables.Finish j r.asked r.document) (reply.Finish r.end) in
+  run_replies : (j : Job) (fault : Option NotStored) (run : List MoveEntry) (r : IsJobRun made j fault run) (x : List Reply)
+      → replies run ++ x ≡ replies (looks j.number r.answers) ++ (end_reply fault r.end ∷ x)
+  run_replies j fault run r x =
+      let finish = entry_of_move (tables.Finish j r.asked r.document) (end_reply fault r.end) in
       replies_of run (looks j.number r.answers ++ finish ∷ []) x r.are ∙ replies_then (looks j.number r.answers) (finish ∷ []) x
 
-  past_run : (j k : Job) (run again : List MoveEntry) (x y : List Reply) → IsJobRun made j run → IsJobRun made k again
-      → replies run ++ x ≡ replies again ++ y → x ≡ y
-  past_run j k run again x y p q h =
-      past_looks j.number k.number p.answers q.answers p.end q.end x y (sym (run_replies j run p x) ∙ h ∙ run_replies k again q y)
+  past_run : (j k : Job) (fault fault' : Option NotStored) (run again : List MoveEntry) (x y : List Reply) (p : IsJobRun made j fault run) (q : IsJobRun made k fault' again)
+      → replies run ++ x ≡ replies again ++ y → (end_reply fault p.end ≡ end_reply fault' q.end) × (x ≡ y)
+  past_run j k fault fault' run again x y p q h =
+      past_looks j.number k.number p.answers q.answers (end_reply fault p.end) (end_reply fault' q.end) x y (end_is_no_look fault p.end) (end_is_no_look fault' q.end)
+      (sym (run_replies j fault run p x) ∙ h ∙ run_replies k fault' again q y)
 
   past_given : (g h : Option Job) (run again : List MoveEntry) (x y : List Reply) → RunsGiven made g run → RunsGiven made h again
       → g ≡ h → replies run ++ x ≡ replies again ++ y → x ≡ y
   past_given None None run again x y p q same e = sym (replies_of run [] x p) ∙ e ∙ replies_of again [] y q
   past_given None (Some k) run again x y p q same e = cc
   past_given (Some j) None run again x y p q same e = cc
-  past_given (Some j) (Some k) run again x y p q same e = past_run j k run again x y p q e
+  past_given (Some j) (Some k) run again x y p q same e = (past_run j k p.0 q.0 run again x y p.1 q.1 e).1
 
   -- a claim and the run of the job that it gave
   past_work : (w v : Bool) (g h : Option Job) (a b : List MoveEntry) (x y : List Reply) → Works made w g a → Works made v h b
@@ -219,33 +231,44 @@ module _ (made : Made) where
 
   module _ (osil osol : List ℕ) where
     solved_replies : (said : Reply) (own : List MoveEntry) (r : IsRetrieved made osil osol said own) (x : List Reply)
-        → replies own ++ x ≡ reply.Gave (Some r.job) ∷ (replies r.ran.run ++ (said ∷ x))
-    solved_replies said own r x =
-        replies_of own (r.run ++ entry_of_move (tables.Retrieve r.job.number) said ∷ []) x r.are
-        ∙ replies_then r.run (entry_of_move (tables.Retrieve r.job.number) said ∷ []) x
-        ∙ replies_of r.run (entry_of_move (tables.Enter osil osol) (reply.Gave (Some r.job)) ∷ r.ran.run) (said ∷ x) r.ran.are
+        → replies own ++ x ≡ reply.Gave (Some r.job) ∷ (replies r.later ++ x)
+    solved_replies said own r x = replies_of own (entry_of_move (tables.Enter osil osol) (reply.Gave (Some r.job)) ∷ r.later) x r.are
 
     -- a job that was turned away, and one that was given
-    no_job : (l : Reply) (j : Job) → (l ≡ reply.Full) ⊎ (l ≡ reply.Spent) → l ≡ reply.Gave (Some j) → ⊥
+    no_job : (l : Reply) (j : Job) → (l ≡ reply.Full) ⊎ ((l ≡ reply.Spent) ⊎ ((fault : NotStored) × (l ≡ reply.NotStored fault))) → l ≡ reply.Gave (Some j) → ⊥
     no_job l j (inl full) e = cc
-    no_job l j (inr spent) e = cc
+    no_job l j (inr (inl spent)) e = cc
+    no_job l j (inr (inr (fault, refused))) e = cc
+
+    shown_replies : (n : ℕ) (l : Reply) (run later : List MoveEntry) (x : List Reply) → later ≡ run ++ entry_of_move (tables.Retrieve n) l ∷ [] → replies later ++ x ≡ replies run ++ (l ∷ x)
+    shown_replies n l run later x are = replies_of later (run ++ entry_of_move (tables.Retrieve n) l ∷ []) x are ∙ replies_then run (entry_of_move (tables.Retrieve n) l ∷ []) x
+
+    past_shows : (j k : Job) (l m : Reply) (later again : List MoveEntry) (x y : List Reply) → RunsAndShows made j l later → RunsAndShows made k m again
+        → replies later ++ x ≡ replies again ++ y → (l ≡ m) × (x ≡ y)
+    past_shows j k l m later again x y (inl (run, shown, p, is, are)) (inl (run', shown', q, is', are')) e =
+        cons_same l m x y (past_run j k None None run run' (l ∷ x) (m ∷ y) p q (sym (shown_replies j.number l run later x are) ∙ e ∙ shown_replies k.number m run' again y are')).1
+    past_shows j k l m later again x y (inl (run, shown, p, is, are)) (inr (fault, q, is')) e =
+        let wrong = (past_run j k None (Some fault) run again (l ∷ x) y p q (sym (shown_replies j.number l run later x are) ∙ e)).0 in absurd cc
+    past_shows j k l m later again x y (inr (fault, p, is)) (inl (run', shown', q, is', are')) e =
+        let wrong = (past_run j k (Some fault) None later run' x (m ∷ y) p q (e ∙ shown_replies k.number m run' again y are')).0 in absurd cc
+    past_shows j k l m later again x y (inr (fault, p, is)) (inr (fault', q, is')) e =
+        let past = past_run j k (Some fault) (Some fault') later again x y p q e in (is ∙ past.0 ∙ sym is', past.1)
 
     past_solve : (l m : Reply) (own again : List MoveEntry) (x y : List Reply) → Solves made osil osol l own → Solves made osil osol m again
         → replies own ++ x ≡ replies again ++ y → (l ≡ m) × (x ≡ y)
     past_solve l m own again x y (inl p) (inl q) e = past_one (tables.Enter osil osol) (tables.Enter osil osol) l m own again x y p.0 q.0 e
     past_solve l m own again x y (inl p) (inr q) e =
         absurd (no_job l q.job p.1
-        (cons_same l (reply.Gave (Some q.job)) x (replies q.ran.run ++ (m ∷ y))
+        (cons_same l (reply.Gave (Some q.job)) x (replies q.later ++ y)
         (sym (replies_of own (entry_of_move (tables.Enter osil osol) l ∷ []) x p.0) ∙ e ∙ solved_replies m again q y)).0)
     past_solve l m own again x y (inr p) (inl q) e =
         absurd (no_job m p.job q.1
-        (sym (cons_same (reply.Gave (Some p.job)) m (replies p.ran.run ++ (l ∷ x)) y
+        (sym (cons_same (reply.Gave (Some p.job)) m (replies p.later ++ x) y
         (sym (solved_replies l own p x) ∙ e ∙ replies_of again (entry_of_move (tables.Enter osil osol) m ∷ []) y q.0)).0))
     past_solve l m own again x y (inr p) (inr q) e =
-        cons_same l m x y
-        (past_run p.job q.job p.ran.run q.ran.run (l ∷ x) (m ∷ y) p.ran.is_run q.ran.is_run
-        (cons_same (reply.Gave (Some p.job)) (reply.Gave (Some q.job)) (replies p.ran.run ++ (l ∷ x)) (replies q.ran.run ++ (m ∷ y))
-        (sym (solved_replies l own p x) ∙ e ∙ solved_replies m again q y)).1)
+        past_shows p.job q.job l m p.later q.later x y p.shows q.shows
+        (cons_same (reply.Gave (Some p.job)) (reply.Gave (Some q.job)) (replies p.later ++ x) (replies q.later ++ y)
+        (sym (solved_replies l own p x) ∙ e ∙ solved_replies m again q y)).1
 
   -- the moves that do what is asked
   past_doing : (d : Doing) (l m : Reply) (own again : List MoveEntry) (x y : List Reply) → DoesSo made d l own → DoesSo made d m again

@@ -4,6 +4,7 @@ use Rattle.std.specs.Prelude.{All, ◌⊎◌}
 use Rattle.std.proofs.lemmas.List.Elements.{All-head, All-tail}
 use Rattle.six_calls.specs.declared.call.CallKind.{CallKind}
 use Rattle.six_calls.proofs.Names.{each_passes}
+use Rattle.effects.specs.declared.store.NotStored.{NotStored}
 use Rattle.job_table.specs.declared.job.Job.{Job}
 use Rattle.job_table.specs.declared.entries.TableMove.{TableMove}
 use Rattle.job_table.specs.declared.entries.TableMove.TheVariants as moves
@@ -11,7 +12,7 @@ use Rattle.job_table.specs.declared.entries.Reply as tables
 use Rattle.job_table.specs.declared.entries.Reply.TheVariants as reply
 use Rattle.job_table.specs.History.{MoveEntry, entry_of_move, IsGiving}
 use Rattle.job_runs.specs.Runs.{IsJobRun, Works}
-use Rattle.job_runs.specs.Solves.{EntersAndRuns}
+use Rattle.job_runs.specs.Solves.{EntersAndRuns, RunsAndShows}
 use Rattle.job_runs.proofs.Judgements.{Made}
 use Rattle.os_server.specs.declared.order.Order.{Order}
 use Rattle.os_server.specs.declared.saying.Said.{Said}
@@ -65,7 +66,7 @@ pub record Builds (made : Made) (Holds : List MoveEntry → Type 0) : Type 0 whe
   pub none : Holds []
   pub both : (a b : List MoveEntry) → Holds a → Holds b → Holds (a ++ b)
   pub plain : (move : TableMove) (said : tables.Reply) → is_plain move said ≡ true → Holds (entry_of_move move said ∷ [])
-  pub given : (j : Job) (move : TableMove) (run : List MoveEntry) → IsGiving move → IsJobRun made j run → Holds (entry_of_move move (reply.Gave (Some j)) ∷ run)
+  pub given : (j : Job) (move : TableMove) (fault : Option NotStored) (run : List MoveEntry) → IsGiving move → IsJobRun made j fault run → Holds (entry_of_move move (reply.Gave (Some j)) ∷ run)
 
 module _ (made : Made) (Holds : List MoveEntry → Type 0) (b : Builds made Holds) where
   no_moves : (own : List MoveEntry) → own ≡ [] → Holds own
@@ -75,22 +76,31 @@ module _ (made : Made) (Holds : List MoveEntry → Type 0) (b : Builds made Hold
   one_move move said own is plain = subst Holds (sym is) (b.plain move said plain)
 
   entered : (o p : List ℕ) (j : Job) (own : List MoveEntry) → EntersAndRuns made o p j own → Holds own
-  entered o p j own e = subst Holds (sym e.are) (b.given j (moves.Enter o p) e.run tt e.is_run)
+  entered o p j own e = subst Holds (sym e.are) (b.given j (moves.Enter o p) None e.run tt e.is_run)
 
   pub works_so : (as_worker : Bool) (given : Option Job) (own : List MoveEntry) → Works made as_worker given own → Holds own
   works_so as_worker None own w =
       one_move (moves.Claim as_worker) (reply.Gave None) own (w.are ∙ ap (λ es. entry_of_move (moves.Claim as_worker) (reply.Gave None) ∷ es) w.ran) refl
-  works_so as_worker (Some j) own w = subst Holds (sym w.are) (b.given j (moves.Claim as_worker) w.run tt w.ran)
+  works_so as_worker (Some j) own w = subst Holds (sym w.are) (b.given j (moves.Claim as_worker) w.ran.0 w.run tt w.ran.1)
 
-  turned_away : (said : tables.Reply) → (said ≡ reply.Full) ⊎ (said ≡ reply.Spent) → gives_none said ≡ true
+  turned_away : (said : tables.Reply) → (said ≡ reply.Full) ⊎ ((said ≡ reply.Spent) ⊎ ((fault : NotStored) × (said ≡ reply.NotStored fault))) → gives_none said ≡ true
   turned_away said (inl full) = subst (λ (s : tables.Reply). gives_none s ≡ true) (sym full) refl
-  turned_away said (inr spent) = subst (λ (s : tables.Reply). gives_none s ≡ true) (sym spent) refl
+  turned_away said (inr (inl spent)) = subst (λ (s : tables.Reply). gives_none s ≡ true) (sym spent) refl
+  turned_away said (inr (inr (fault, refused))) = subst (λ (s : tables.Reply). gives_none s ≡ true) (sym refused) refl
+
+  -- what follows a job that was entered
+  shown_so : (o p : List ℕ) (j : Job) (last : tables.Reply) (later : List MoveEntry) → RunsAndShows made j last later → Holds (entry_of_move (moves.Enter o p) (reply.Gave (Some j)) ∷ later)
+  shown_so o p j last later (inl (run, shown, is_run, is, are)) =
+      let enter : MoveEntry = entry_of_move (moves.Enter o p) (reply.Gave (Some j)) in
+      subst (λ (es : List MoveEntry). Holds (enter ∷ es)) (sym are)
+      (b.both (enter ∷ run) (entry_of_move (moves.Retrieve j.number) last ∷ []) (b.given j (moves.Enter o p) None run tt is_run) (b.plain (moves.Retrieve j.number) last refl))
+  shown_so o p j last later (inr (fault, is_run, is)) = b.given j (moves.Enter o p) (Some fault) later tt is_run
 
   doing_so : (d : Doing) (last : tables.Reply) (own : List MoveEntry) → moves_plainly d ≡ true → DoesSo made d last own → Holds own
   doing_so (Moves move) last own plain is = one_move move last own is (plain_then move last plain)
   doing_so (RunsAtOnce o p) last own plain (inl away) = one_move (moves.Enter o p) last own away.0 (turned_away last away.1)
   doing_so (RunsAtOnce o p) last own plain (inr r) =
-      subst Holds (sym r.are) (b.both r.run (entry_of_move (moves.Retrieve r.job.number) last ∷ []) (entered o p r.job r.run r.ran) (b.plain (moves.Retrieve r.job.number) last refl))
+      subst Holds (sym r.are) (shown_so o p r.job last r.later r.shows)
 
   does_so : (order : Order) (last : tables.Reply) (own : List MoveEntry) → Does made order last own → Holds own
   does_so order last own does = doing_so (doing_of order) last own (done_plainly order.kind order.number order.osil order.osol) does

@@ -114,6 +114,7 @@ faults_call by body codes_of.Process text (call, is, refuses) none =
     let same : soap.Envelope ≡ soap.Memory = by.apart body call soap.Envelope is none in cc
 faults_call by body codes_of.Full text p none = p
 faults_call by body codes_of.Spent text p none = p
+faults_call by body codes_of.Disk text p none = p
 
 module _ (made : Made) (wakes : Wakes) where
   -- what a front brings

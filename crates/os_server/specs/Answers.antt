@@ -1,5 +1,7 @@
 -- What answers a call, by the last reply of the table of jobs.
 use Rattle.std.specs.Prelude.{◌≡◌, ℕ, Bool, true, false, List, [], ◌∷◌, Option, None, Some, map, codes}
+use Rattle.effects.specs.declared.store.NotStored.{NotStored}
+use Rattle.effects.specs.declared.store.NotStored.TheVariants as faults
 use Rattle.job_table.specs.declared.job.State.{State}
 use Rattle.job_table.specs.declared.job.State.TheVariants as states
 use Rattle.job_table.specs.declared.entries.TableMove.{TableMove}
@@ -90,6 +92,12 @@ returns kind text = Some (record { fault = false; text = reply_text (kind_text k
 abbrev pub fault_said : FaultCode → List ℕ → Said
 fault_said code text = record { fault = true; text = fault_text (code_text code) text }
 
+-- why a change wasn't stored
+abbrev pub why_text : NotStored → List ℕ
+why_text faults.Disk = codes "disk"
+why_text faults.Broken = codes "broken"
+why_text faults.Long = codes "journal full"
+
 -- the last reply of the table to what was asked
 abbrev pub reply_of : LastReply → Reply
 reply_of (lasts.Issued m) = reply.Issued m
@@ -99,6 +107,7 @@ reply_of (lasts.Sent taken) = reply.Sent taken
 reply_of (lasts.Killing told) = reply.Killing told
 reply_of (lasts.Retrieved job) = reply.Retrieved job
 reply_of (lasts.Statistics told) = reply.Statistics told
+reply_of (lasts.NotStored fault) = reply.NotStored fault
 
 -- what answers the call of this kind about the job with this number, whose last reply is this; none where it isn't the last
 -- reply of a call
@@ -110,6 +119,7 @@ said_by kind n (reply.Sent taken) = returns kind (bool_text taken)
 said_by kind n (reply.Killing told) = returns kind (process_text (process_after n told))
 said_by kind n (reply.Retrieved job) = returns kind (shown_text job)
 said_by kind n (reply.Statistics told) = returns kind (process_text (process_of told))
+said_by kind n (reply.NotStored fault) = Some (fault_said codes_of.Disk (why_text fault))
 said_by kind n _ = None
 
 -- what is done for a call: one move of the table, or a job with these texts is entered and run at once

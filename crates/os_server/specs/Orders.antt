@@ -66,6 +66,7 @@ code_text codes_of.Options = codes "Client.Options"
 code_text codes_of.Process = codes "Client.Process"
 code_text codes_of.Full = codes "Server.Full"
 code_text codes_of.Spent = codes "Server.Spent"
+code_text codes_of.Disk = codes "Server.Disk"
 
 -- a call's options are refused, and this text says why
 abbrev pub SaysOptionsRefused : SoapCall → List ℕ → Type 0
@@ -89,6 +90,7 @@ RefusesCall call codes_of.Options text = SaysOptionsRefused call text
 RefusesCall call codes_of.Process text = RefusesProcess call text
 RefusesCall call codes_of.Full text = ⊥
 RefusesCall call codes_of.Spent text = ⊥
+RefusesCall call codes_of.Disk text = ⊥
 
 -- a body is an envelope whose call is refused, with this code and this text. Of the codes the first that fits is told
 abbrev pub Faults : List ℕ → FaultCode → List ℕ → Type 0
@@ -100,6 +102,7 @@ Faults body codes_of.Options text = (c : SoapCall) × IsCallText body c × Refus
 Faults body codes_of.Process text = (c : SoapCall) × IsCallText body c × RefusesCall c codes_of.Process text
 Faults body codes_of.Full text = ⊥
 Faults body codes_of.Spent text = ⊥
+Faults body codes_of.Disk text = ⊥
 
 -- why a body asks nothing: it is no envelope of a call, or one of a call that is refused, or there was no memory
 abbrev pub AsksNothing : List ℕ → NoOrder → Type 0

@@ -4,6 +4,7 @@ ghost use Rattle.job_table.specs.History.{MoveEntry};
 ghost use Rattle.os_server.specs.Answers.{reply_of, Does, BeginsToDo};
 
 use crate::order::Order;
+use effects::NotStored;
 use job_runs::{Runner, solve};
 use job_table::{IssueFault, Killing, Mover, Retrieved, Statistics, Twin, Verdicts};
 use os_io::Memory;
@@ -27,6 +28,8 @@ pub enum LastReply {
     Retrieved(Retrieved),
     /// How far all jobs have come.
     Statistics(Statistics),
+    /// The effect of a move wasn't stored.
+    NotStored(NotStored),
 }
 
 /// Does what is asked, and gives the last reply.
@@ -47,25 +50,30 @@ pub(crate) fn do_order<V: Verdicts, C: Mover<V>, R: Runner<V>>(
     } = order;
     match kind {
         CallKind::GetJobId => match mover.issue() {
-            Ok(number) => Ok(LastReply::Issued(number)),
-            Err(IssueFault::Full) => Ok(LastReply::Full),
-            Err(IssueFault::Spent) => Ok(LastReply::Spent),
-            Err(IssueFault::Memory) => Err(AllocError),
+            Ok(Ok(number)) => Ok(LastReply::Issued(number)),
+            Ok(Err(IssueFault::Full)) => Ok(LastReply::Full),
+            Ok(Err(IssueFault::Spent)) => Ok(LastReply::Spent),
+            Ok(Err(IssueFault::Memory)) => Err(AllocError),
+            Err(fault) => Ok(LastReply::NotStored(fault)),
         },
         CallKind::Solve => {
             let osil = Twin::new(alloc, osil)?;
             let osol = Twin::new(alloc, osol)?;
             match solve(alloc, mover, runner, osil, osol) {
-                Ok(shown) => Ok(LastReply::Retrieved(shown)),
-                Err(IssueFault::Full) => Ok(LastReply::Full),
-                Err(IssueFault::Spent) => Ok(LastReply::Spent),
-                Err(IssueFault::Memory) => Err(AllocError),
+                Ok(Ok(shown)) => Ok(LastReply::Retrieved(shown)),
+                Ok(Err(IssueFault::Full)) => Ok(LastReply::Full),
+                Ok(Err(IssueFault::Spent)) => Ok(LastReply::Spent),
+                Ok(Err(IssueFault::Memory)) => Err(AllocError),
+                Err(fault) => Ok(LastReply::NotStored(fault)),
             }
         }
         CallKind::Send => {
             let osil = Twin::new(alloc, osil)?;
             let osol = Twin::new(alloc, osol)?;
-            Ok(LastReply::Sent(mover.send(number, osil, osol)))
+            match mover.send(number, osil, osol) {
+                Ok(taken) => Ok(LastReply::Sent(taken)),
+                Err(fault) => Ok(LastReply::NotStored(fault)),
+            }
         }
         CallKind::Retrieve => match mover.retrieve(number) {
             Ok(shown) => Ok(LastReply::Retrieved(shown)),
@@ -75,6 +83,9 @@ pub(crate) fn do_order<V: Verdicts, C: Mover<V>, R: Runner<V>>(
             Ok(told) => Ok(LastReply::Statistics(told)),
             Err(lost) => Err(lost),
         },
-        CallKind::Kill => Ok(LastReply::Killing(mover.kill(number))),
+        CallKind::Kill => match mover.kill(number) {
+            Ok(told) => Ok(LastReply::Killing(told)),
+            Err(fault) => Ok(LastReply::NotStored(fault)),
+        },
     }
 }

@@ -19,6 +19,8 @@ pub enum FaultCode {
     Full,
     /// No number is left for a job.
     Spent,
+    /// What it changes wasn't stored.
+    Disk,
 }
 
 impl FaultCode {
@@ -33,6 +35,7 @@ impl FaultCode {
             FaultCode::Process => b"Client.Process",
             FaultCode::Full => b"Server.Full",
             FaultCode::Spent => b"Server.Spent",
+            FaultCode::Disk => b"Server.Disk",
         }
     }
 }

@@ -1,12 +1,13 @@
 //! What answers a call.
 ghost use Rattle.std.specs.Prelude.{◌≡◌, Some, IfOk};
 ghost use Rattle.soap_calls.specs.Replies.{bool_text};
-ghost use Rattle.os_server.specs.Answers.{said_by, fault_said, reply_of, returns, shown_text};
+ghost use Rattle.os_server.specs.Answers.{said_by, fault_said, reply_of, why_text, returns, shown_text};
 
 use crate::doing::LastReply;
 use crate::fault::FaultCode;
 use crate::processes::{id_of, text_after_kill, text_of_all};
 use crate::results::reply_of_shown;
+use effects::NotStored;
 use job_table::Retrieved;
 use os_io::{Memory, Text};
 use soap_calls::{CallKind, write_fault, write_reply};
@@ -25,6 +26,17 @@ pub(crate) fn said_fault(alloc: Global, code: FaultCode, text: &[u8]) -> Result<
 {
     let text = write_fault(alloc, code.text(), text)?;
     Ok(Said { fault: true, text })
+}
+
+/// Why a change wasn't stored.
+fn why(fault: NotStored) -> &'static [u8]
+    ensures { result.now ≡ why_text fault }
+{
+    match fault {
+        NotStored::Disk => b"disk",
+        NotStored::Broken => b"broken",
+        NotStored::Long => b"journal full",
+    }
 }
 
 fn word_of(taken: bool) -> &'static [u8]
@@ -65,6 +77,7 @@ pub(crate) fn say(
         }
         LastReply::Full => said_fault(alloc, FaultCode::Full, b"10000 jobs"),
         LastReply::Spent => said_fault(alloc, FaultCode::Spent, b"no ids"),
+        LastReply::NotStored(fault) => said_fault(alloc, FaultCode::Disk, why(*fault)),
         LastReply::Sent(taken) => returned(alloc, kind, word_of(*taken)),
         LastReply::Killing(told) => {
             let text = text_after_kill(alloc, number, told)?;

@@ -2,7 +2,7 @@
 use job_runs::Runner;
 use job_table::Verdicts;
 
-/// Who serves a connection: what runs jobs, and what wakes those who wait for one.
+/// Who runs jobs for a connection and wakes workers; the conversation itself is `serve_one`'s.
 pub trait Server<V: Verdicts>: Runner<V> {
     ghost use Rattle.std.specs.Prelude.{Bool};
 

@@ -18,7 +18,8 @@ use Rattle.desk.specs.Rule.{HasMet, one_if, one_more, newcomer, met_as}
 use Rattle.desk.specs.SeatMoves.{IsSeatOf, Meets}
 use Rattle.server_threads.specs.declared.means.ServeFault.{ServeFault}
 use Rattle.server_threads.specs.declared.promise.Finished.{Finished}
-use Rattle.server_threads.specs.Talks.{DeskSeat, LinkTalk, Shift, talk_met, shift_met, short_of, Came, GivenBack, AllTalked, AllWorked, IsShift, Acts}
+use Rattle.desk.specs.SeatHistory.{AskedBy}
+use Rattle.server_threads.specs.Talks.{DeskSeat, LinkTalk, Shift, talk_met, shift_met, short_of, Came, GivenBack, AllTalked, AllWorked, IsShift, AnyHistory, Acts}
 use Rattle.server_threads.specs.Promises.{Due}
 use Rattle.server_threads.specs.Serving.{Stand, taken, Opens, AtOnce, ServesLinks, EndsServing}
 use Rattle.server_threads.specs.OpenLinks.{IsSplitOff, AreNumberedFrom, KeepsSeats, Visit, visit, AreAmong, Begun, AllBegun, Conversing, promised, seat_out, number_out, visit_out, served_so, Going, Working, shift_promised, workers_out, worked_so, Hired, Staffed, LinksServed, HaveLeft, CameSo, served_result}
@@ -86,8 +87,18 @@ module _ {A : Type 0} where
 
 -- ---- seats
 
-module _ {J : Type 0} (desk : TableId) where
-  pub keeps_new : (v : View) → v.number ≡ 0 → KeepsSeats {J = J} desk v v [] []
+-- a seat made these moves, whichever of its histories are legal
+pub acts_by : {T : Type 0} {legal : List SeatEntry → Type 0} (holds : List Said → Type 0) (was seat : DeskSeat T) (said : List Said) → IsSeatOf was.table_id seat → AskedBy legal was.me.0 seat.me.0 said → holds said
+    → Acts AnyHistory holds was seat
+acts_by holds was seat said is asked held = record {
+  desk_is = is;
+  said = said;
+  asked = record { mine = asked.mine; seen = asked.seen; stand = asked.stand; legal = λ _. tt; made_legal = λ _. tt; known = asked.known; stays = asked.stays };
+  held = held;
+}
+
+module _ {T : Type 0} (desk : TableId) where
+  pub keeps_new : (v : View) → v.number ≡ 0 → KeepsSeats {T = T} desk v v [] []
   keeps_new v first = record {
     first = first;
     number = refl;
@@ -100,7 +111,7 @@ module _ {J : Type 0} (desk : TableId) where
   }
 
   -- the order of the seats that are out doesn't matter
-  pub keeps_so : (v w : View) (met : List Met) (out now : List (DeskSeat J)) → IsPermutation out now → KeepsSeats desk v w met out → KeepsSeats desk v w met now
+  pub keeps_so : (v w : View) (met : List Met) (out now : List (DeskSeat T)) → IsPermutation out now → KeepsSeats desk v w met out → KeepsSeats desk v w met now
   keeps_so v w met out now same k = record {
     first = k.first;
     number = k.number;
@@ -113,7 +124,7 @@ module _ {J : Type 0} (desk : TableId) where
   }
 
   -- a seat was split off
-  pub keeps_split : (v w after : View) (met : List Met) (out : List (DeskSeat J)) (seat : DeskSeat J) → KeepsSeats desk v w met out
+  pub keeps_split : (v w after : View) (met : List Met) (out : List (DeskSeat T)) (seat : DeskSeat T) → KeepsSeats desk v w met out
       → after ≡ one_more w → seat.table_id ≡ desk → seat.me.0 ≡ newcomer w → KeepsSeats desk v after met (seat ∷ out)
   keeps_split v w after met out seat k is fits new = record {
     first = ap (λ (u : View). u.number) is ∙ k.first;
@@ -127,9 +138,9 @@ module _ {J : Type 0} (desk : TableId) where
   }
 
   -- one of the seats that are out was met
-  pub keeps_met : (right : List ℕ → List ℕ → Bool → Option (List ℕ) → Type 0) (holds : List Said → Type 0) (v w after : View) (met : List Met) (s other : DeskSeat J) (out : List (DeskSeat J))
-      → KeepsSeats desk v w met (s ∷ out) → (a : Acts right holds s other) → Meets w other.me.0 after → KeepsSeats desk v after (met ++ record { seat = s.me.0.number; entries = by s.me.0.number a.said } ∷ []) out
-  keeps_met right holds v w after met s other out k a m =
+  pub keeps_met : (legal : List SeatEntry → Type 0) (holds : List Said → Type 0) (v w after : View) (met : List Met) (s other : DeskSeat T) (out : List (DeskSeat T))
+      → KeepsSeats desk v w met (s ∷ out) → (a : Acts legal holds s other) → Meets w other.me.0 after → KeepsSeats desk v after (met ++ record { seat = s.me.0.number; entries = by s.me.0.number a.said } ∷ []) out
+  keeps_met legal holds v w after met s other out k a m =
       let n : ℕ = s.me.0.number in
       let new : Met = record { seat = n; entries = by n a.said } in
       let was : IsSplitOff desk s = All-head (IsSplitOff desk) s out k.waits in
@@ -148,7 +159,7 @@ module _ {J : Type 0} (desk : TableId) where
         known = met_suffix after.seen v.met (met ++ new ∷ []) (subst (λ (l : List Met). HasMet after.seen l) all m.known);
       }
 
-  numbered_push : (n : ℕ) (ss : List (DeskSeat J)) (s : DeskSeat J) → AreNumberedFrom n ss → s.me.0.number ≡ n + length ss → AreNumberedFrom n (ss ++ s ∷ [])
+  numbered_push : (n : ℕ) (ss : List (DeskSeat T)) (s : DeskSeat T) → AreNumberedFrom n ss → s.me.0.number ≡ n + length ss → AreNumberedFrom n (ss ++ s ∷ [])
   numbered_push n [] s all is = (omega arith, tt)
   numbered_push n (x ∷ xs) s all is = (all.0, numbered_push (n + 1) xs s all.1 (omega arith))
 
@@ -360,16 +371,16 @@ module _ (servers : ℕ) where
 
 -- ---- links that are being served
 
-module _ {J L S B : Type 0} (right : List ℕ → List ℕ → Bool → Option (List ℕ) → Type 0) (talked : Tells → List Said → Tells → Bool → Type 0) (tells : L → Tells) (servers : ℕ) (desk : TableId) (old : Stand) where
-  abbrev Lasting : Stand → ℕ → List (Conversing J L S B) → Type 0
-  Lasting now short places = Going right talked tells servers desk old now short places
+module _ {J T L S B : Type 0} (legal : List SeatEntry → Type 0) (talked : Tells → List Said → Tells → Bool → Type 0) (tells : L → Tells) (servers : ℕ) (desk : TableId) (old : Stand) where
+  abbrev Lasting : Stand → ℕ → List (Conversing J T L S B) → Type 0
+  Lasting now short places = Going legal talked tells servers desk old now short places
 
-  pub going_begins : (now : Stand) (short : ℕ) (items : List (Conversing J L S B)) → old ≡ now → now.view.number ≡ 0 → short ≡ 0 → items ≡ [] → Lasting now short items
-  going_begins now short items same first none empty = subst (λ (z : Stand × List (Conversing J L S B)). Lasting z.0 short z.1) (λ i. (same i, sym empty i)) record {
+  pub going_begins : (now : Stand) (short : ℕ) (items : List (Conversing J T L S B)) → old ≡ now → now.view.number ≡ 0 → short ≡ 0 → items ≡ [] → Lasting now short items
+  going_begins now short items same first none empty = subst (λ (z : Stand × List (Conversing J T L S B)). Lasting z.0 short z.1) (λ i. (same i, sym empty i)) record {
     links = [];
     talks = [];
     keeps = keeps_new desk old.view (ap (λ (s : Stand). s.view.number) same ∙ first);
-    due = All-nil (Due (served_so right talked tells));
+    due = All-nil (Due (served_so legal talked tells));
     begun = All-nil (λ n. (n < old.view.given) × ((seen : List SeatEntry) × Begun servers old.view.seen [] [] n seen));
     all_talked = All-nil (λ t. talked t.came t.said t.back t.short);
     counted = refl;
@@ -380,24 +391,24 @@ module _ {J L S B : Type 0} (right : List ℕ → List ℕ → Bool → Option (
     shorts = none;
   }
 
-  pub going_as : (now : Stand) (short : ℕ) (places items : List (Conversing J L S B)) → items ≡ places → Lasting now short places → Lasting now short items
-  going_as now short places items same g = subst (λ (l : List (Conversing J L S B)). Lasting now short l) (sym same) g
+  pub going_as : (now : Stand) (short : ℕ) (places items : List (Conversing J T L S B)) → items ≡ places → Lasting now short places → Lasting now short items
+  going_as now short places items same g = subst (λ (l : List (Conversing J T L S B)). Lasting now short l) (sym same) g
 
   -- the order of the places doesn't matter
-  pub going_so : (now : Stand) (short : ℕ) (places items : List (Conversing J L S B)) → IsPermutation places items → Lasting now short places → Lasting now short items
+  pub going_so : (now : Stand) (short : ℕ) (places items : List (Conversing J T L S B)) → IsPermutation places items → Lasting now short places → Lasting now short items
   going_so now short places items same g =
-      let visits = map (λ (p : Conversing J L S B). visit_out right talked tells p) places in
-      let visits' = map (λ (p : Conversing J L S B). visit_out right talked tells p) items in
+      let visits = map (λ (p : Conversing J T L S B). visit_out legal talked tells p) places in
+      let visits' = map (λ (p : Conversing J T L S B). visit_out legal talked tells p) items in
       let before = map visit g.talks in record {
         links = g.links;
         talks = g.talks;
         keeps = keeps_so desk old.view now.view (map talk_met g.talks) (map seat_out places) (map seat_out items) (IsPermutation-map seat_out places items same) g.keeps;
-        due = All-permutation (Due (served_so right talked tells)) places items same g.due;
+        due = All-permutation (Due (served_so legal talked tells)) places items same g.due;
         begun = begun_so servers now.view.given now.view.seen g.talks (map number_out places) (map number_out items) (IsPermutation-map number_out places items same) g.begun;
         all_talked = g.all_talked;
         counted = let many = length_permutation places items same in let all = g.counted in omega arith;
         numbered = among_more old.view.given g.links (before ++ visits) (before ++ visits')
-            (λ v. Contains-permutation (before ++ visits) (before ++ visits') v (IsPermutation-append_right before visits visits' (IsPermutation-map (λ (p : Conversing J L S B). visit_out right talked tells p) places items same))) g.numbered;
+            (λ v. Contains-permutation (before ++ visits) (before ++ visits') v (IsPermutation-append_right before visits visits' (IsPermutation-map (λ (p : Conversing J T L S B). visit_out legal talked tells p) places items same))) g.numbered;
         came = g.came;
         back = g.back;
         reached = g.reached;
@@ -405,29 +416,29 @@ module _ {J L S B : Type 0} (right : List ℕ → List ℕ → Bool → Option (
       }
 
   -- a link came, a seat was split off for it, and it is being served
-  pub going_more : (now after : Stand) (short : ℕ) (places : List (Conversing J L S B)) (place : Conversing J L S B) (link : L) (seat : DeskSeat J) → Lasting now short places → length places < servers
+  pub going_more : (now after : Stand) (short : ℕ) (places : List (Conversing J T L S B)) (place : Conversing J T L S B) (link : L) (seat : DeskSeat T) → Lasting now short places → length places < servers
       → Comes now.coming after.coming (tells link) → after.given_back ≡ now.given_back → after.reached ≡ now.reached → after.view ≡ one_more now.view → IsSeatOf desk seat → seat.me.0 ≡ newcomer now.view
-      → (promised place).seat.value ≡ seat → (promised place).link.value ≡ link → Due (served_so right talked tells) place → Lasting after short (place ∷ places)
+      → (promised place).seat.value ≡ seat → (promised place).link.value ≡ link → Due (served_so legal talked tells) place → Lasting after short (place ∷ places)
   going_more now after short places place link seat g room comes back reached is fits new seat_is link_is due =
       let seen : after.view.seen ≡ now.view.seen = ap (λ (v : View). v.seen) is in
       let given : after.view.given ≡ now.view.given + 1 = ap (λ (v : View). v.given) is in
-      let it : (seat_out place).me.0 ≡ newcomer now.view = ap (λ (s : DeskSeat J). s.me.0) seat_is ∙ new in
+      let it : (seat_out place).me.0 ≡ newcomer now.view = ap (λ (s : DeskSeat T). s.me.0) seat_is ∙ new in
       let number : number_out place ≡ now.view.given = ap (λ (v : View). v.number) it in
       let none : entries_by now.view.given now.view.seen ≡ [] = subst (λ (v : View). entries_by v.number v.seen ≡ v.mine) new fits.ready.stand in
       let its : Tells = tells (promised place).link.value in
-      let visits = map (λ (p : Conversing J L S B). visit_out right talked tells p) places in
+      let visits = map (λ (p : Conversing J T L S B). visit_out legal talked tells p) places in
       let before = map visit g.talks in
-      let many = length-map places (λ (p : Conversing J L S B). number_out p) in
+      let many = length-map places (λ (p : Conversing J T L S B). number_out p) in
       let begun = begun_more servers now.view.given now.view.seen g.talks (map number_out places) g.begun (omega arith) none (met_all now.view.seen g.talks g.keeps.known) in record {
         links = g.links ++ its ∷ [];
         talks = g.talks;
-        keeps = keeps_split desk old.view now.view after.view (map talk_met g.talks) (map seat_out places) (seat_out place) g.keeps is (ap (λ (s : DeskSeat J). s.table_id) seat_is ∙ fits.desk_is) it;
-        due = All-cons (Due (served_so right talked tells)) place places due g.due;
+        keeps = keeps_split desk old.view now.view after.view (map talk_met g.talks) (map seat_out places) (seat_out place) g.keeps is (ap (λ (s : DeskSeat T). s.table_id) seat_is ∙ fits.desk_is) it;
+        due = All-cons (Due (served_so legal talked tells)) place places due g.due;
         begun = subst (λ (z : ℕ × List SeatEntry × ℕ). AllBegun servers z.0 z.1 g.talks (z.2 ∷ map number_out places)) (λ i. (sym given i, sym seen i, sym number i)) begun;
         all_talked = g.all_talked;
         counted = let all = g.counted in let longer = length-append g.links (its ∷ []) in omega arith;
         numbered = among_push old.view.given (number_out place) g.links its (before ++ (number_out place, its) ∷ visits)
-            (let all = g.counted in let seats = g.keeps.given in let mets = length-map g.talks talk_met in let outs = length-map places (λ (p : Conversing J L S B). seat_out p) in omega arith)
+            (let all = g.counted in let seats = g.keeps.given in let mets = length-map g.talks talk_met in let outs = length-map places (λ (p : Conversing J T L S B). seat_out p) in omega arith)
             (among_more old.view.given g.links (before ++ visits) (before ++ (number_out place, its) ∷ visits)
             (λ v c. Contains-permutation ((number_out place, its) ∷ (before ++ visits)) (before ++ (number_out place, its) ∷ visits) v
             (IsPermutation-sym (before ++ (number_out place, its) ∷ visits) ((number_out place, its) ∷ (before ++ visits)) (IsPermutation-middle before (number_out place, its) visits))
@@ -440,28 +451,28 @@ module _ {J L S B : Type 0} (right : List ℕ → List ℕ → Bool → Option (
       }
 
   -- how many links ended for want of memory is below the number of those that came
-  pub going_few : (now : Stand) (short : ℕ) (items : List (Conversing J L S B)) → Lasting now short items → now.view.given ≤ old.view.given + 4294967296 → short ≤ 4294967296
+  pub going_few : (now : Stand) (short : ℕ) (items : List (Conversing J T L S B)) → Lasting now short items → now.view.given ≤ old.view.given + 4294967296 → short ≤ 4294967296
   going_few now short items g few =
       let all = g.keeps.given in let same = length-map g.talks talk_met in let least = short_fits g.talks in let is = g.shorts in omega arith
 
   -- the seat that was promised back is the desk's
-  pub seat_of_desk : (now : Stand) (short : ℕ) (places : List (Conversing J L S B)) (place : Conversing J L S B) (holds : List Said → Type 0) (seat : DeskSeat J) → Lasting now short (place ∷ places)
-      → Acts right holds (promised place).seat.value seat → IsSeatOf desk seat
+  pub seat_of_desk : (now : Stand) (short : ℕ) (places : List (Conversing J T L S B)) (place : Conversing J T L S B) (holds : List Said → Type 0) (seat : DeskSeat T) → Lasting now short (place ∷ places)
+      → Acts legal holds (promised place).seat.value seat → IsSeatOf desk seat
   seat_of_desk now short places place holds seat g a =
       let out : IsSplitOff desk (seat_out place) = All-head (IsSplitOff desk) (seat_out place) (map seat_out places) g.keeps.waits in
       subst (λ (d : TableId). IsSeatOf d seat) out.0 a.desk_is
 
-  pub place_due : (now : Stand) (short : ℕ) (places : List (Conversing J L S B)) (place : Conversing J L S B) → Lasting now short (place ∷ places) → Due (served_so right talked tells) place
-  place_due now short places place g = All-head (Due (served_so right talked tells)) place places g.due
+  pub place_due : (now : Stand) (short : ℕ) (places : List (Conversing J T L S B)) (place : Conversing J T L S B) → Lasting now short (place ∷ places) → Due (served_so legal talked tells) place
+  place_due now short places place g = All-head (Due (served_so legal talked tells)) place places g.due
 
   -- a link was served as was promised, its seat was met, and it was given back
-  pub going_met : (now after : Stand) (short short' : ℕ) (places : List (Conversing J L S B)) (place : Conversing J L S B) (done : Finished (DeskSeat J) L) → Lasting now short (place ∷ places)
-      → served_so {S = S} {B = B} right talked tells (promised place) done → Meets now.view done.seat.me.0 after.view → IsGivenBack now.given_back after.given_back (tells done.link)
+  pub going_met : (now after : Stand) (short short' : ℕ) (places : List (Conversing J T L S B)) (place : Conversing J T L S B) (done : Finished (DeskSeat T) L) → Lasting now short (place ∷ places)
+      → served_so {S = S} {B = B} legal talked tells (promised place) done → Meets now.view done.seat.me.0 after.view → IsGivenBack now.given_back after.given_back (tells done.link)
       → after.coming ≡ now.coming → after.reached ≡ now.reached → short' ≡ short + one_if done.short → Lasting after short' places
   going_met now after short short' places place done g a met back coming reached counted =
       let t : LinkTalk = record { came = tells (promised place).link.value; back = tells done.link; seat = number_out place; said = a.said; short = done.short } in
-      let k = keeps_met desk right (λ said. talked (tells (promised place).link.value) said (tells done.link) done.short) old.view now.view after.view (map talk_met g.talks) (seat_out place) done.seat (map seat_out places) g.keeps a met in
-      let visits = map (λ (p : Conversing J L S B). visit_out right talked tells p) places in
+      let k = keeps_met desk legal (λ said. talked (tells (promised place).link.value) said (tells done.link) done.short) old.view now.view after.view (map talk_met g.talks) (seat_out place) done.seat (map seat_out places) g.keeps a met in
+      let visits = map (λ (p : Conversing J T L S B). visit_out legal talked tells p) places in
       let before = map visit g.talks in
       let same : before ++ visit t ∷ visits ≡ map visit (g.talks ++ t ∷ []) ++ visits =
       sym (append_assoc before (visit t ∷ []) visits) ∙ ap (λ (l : List Visit). l ++ visits) (sym (map-append visit g.talks (t ∷ []))) in
@@ -469,7 +480,7 @@ module _ {J L S B : Type 0} (right : List ℕ → List ℕ → Bool → Option (
         links = g.links;
         talks = g.talks ++ t ∷ [];
         keeps = subst (λ (l : List Met). KeepsSeats desk old.view after.view l (map seat_out places)) (sym (map-append talk_met g.talks (t ∷ []))) k;
-        due = All-tail (Due (served_so right talked tells)) place places g.due;
+        due = All-tail (Due (served_so legal talked tells)) place places g.due;
         begun = subst (λ (n : ℕ). AllBegun servers n after.view.seen (g.talks ++ t ∷ []) (map number_out places)) (sym met.given)
             (begun_met servers now.view.given now.view.seen after.view.seen g.talks t (map number_out places) met.begins.0 g.begun);
         all_talked = All-push (λ u. talked u.came u.said u.back u.short) g.talks t g.all_talked a.held;
@@ -483,9 +494,9 @@ module _ {J L S B : Type 0} (right : List ℕ → List ℕ → Bool → Option (
       }
 
   -- none is being served any more
-  pub going_over : (now : Stand) (short : ℕ) (items : List (Conversing J L S B)) → Lasting now short items → items ≡ [] → (o : LinksServed talked servers old now) × (short ≡ short_of o.links)
+  pub going_over : (now : Stand) (short : ℕ) (items : List (Conversing J T L S B)) → Lasting now short items → items ≡ [] → (o : LinksServed talked servers old now) × (short ≡ short_of o.links)
   going_over now short items all none =
-      let g = subst (λ (l : List (Conversing J L S B)). Lasting now short l) none all in
+      let g = subst (λ (l : List (Conversing J T L S B)). Lasting now short l) none all in
       let o = in_order talked old.view.given g.links g.talks (let many = g.counted in omega arith) (subst (λ (l : List Visit). AreAmong old.view.given g.links l) (append-nil (map visit g.talks)) g.numbered) g.all_talked in
       let same = IsPermutation-sym o.0 g.talks o.1 in (
         record {
@@ -514,36 +525,36 @@ module _ (made : List ℕ → List ℕ → List Bool → Option (List ℕ) → T
   all_worked_snoc n [] s all is one = (omega arith, one, tt)
   all_worked_snoc n (x ∷ xs) s all is one = (all.0, all.1, all_worked_snoc (n + 1) xs s all.2 (omega arith) one)
 
-module _ {J S : Type 0} (right : List ℕ → List ℕ → Bool → Option (List ℕ) → Type 0) (made : List ℕ → List ℕ → List Bool → Option (List ℕ) → Type 0) (desk : TableId) (v : View) where
-  pub hired_begins : (items : List (Working J S)) → v.number ≡ 0 → items ≡ [] → Hired right made desk v v 0 items
-  hired_begins items first empty = subst (λ (l : List (Working J S)). Hired right made desk v v 0 l) (sym empty) record {
+module _ {J T S : Type 0} (legal : List SeatEntry → Type 0) (made : List ℕ → List ℕ → List Bool → Option (List ℕ) → Type 0) (desk : TableId) (v : View) where
+  pub hired_begins : (items : List (Working J T S)) → v.number ≡ 0 → items ≡ [] → Hired legal made desk v v 0 items
+  hired_begins items first empty = subst (λ (l : List (Working J T S)). Hired legal made desk v v 0 l) (sym empty) record {
     keeps = keeps_new desk v first;
     numbered = tt;
-    due = All-nil (Due (worked_so right made));
+    due = All-nil (Due (worked_so legal made));
     counted = refl;
   }
 
   -- one worker more
-  pub hired_more : (w after : View) (count : ℕ) (places items : List (Working J S)) (place : Working J S) → Hired right made desk v w count places → after ≡ one_more w
-      → (shift_promised place).seat.value.table_id ≡ desk → (shift_promised place).seat.value.me.0 ≡ newcomer w → Due (worked_so right made) place → items ≡ places ++ place ∷ [] → Hired right made desk v after (count + 1) items
+  pub hired_more : (w after : View) (count : ℕ) (places items : List (Working J T S)) (place : Working J T S) → Hired legal made desk v w count places → after ≡ one_more w
+      → (shift_promised place).seat.value.table_id ≡ desk → (shift_promised place).seat.value.me.0 ≡ newcomer w → Due (worked_so legal made) place → items ≡ places ++ place ∷ [] → Hired legal made desk v after (count + 1) items
   hired_more w after count places items place h is fits new due are =
-      let it : DeskSeat J = (shift_promised place).seat.value in
-      let seats : workers_out (places ++ place ∷ []) ≡ workers_out places ++ it ∷ [] = map-append (λ (p : Working J S). (shift_promised p).seat.value) places (place ∷ []) in
-      subst (λ (l : List (Working J S)). Hired right made desk v after (count + 1) l) (sym are) record {
-        keeps = subst (λ (out : List (DeskSeat J)). KeepsSeats desk v after [] out) (sym seats)
+      let it : DeskSeat T = (shift_promised place).seat.value in
+      let seats : workers_out (places ++ place ∷ []) ≡ workers_out places ++ it ∷ [] = map-append (λ (p : Working J T S). (shift_promised p).seat.value) places (place ∷ []) in
+      subst (λ (l : List (Working J T S)). Hired legal made desk v after (count + 1) l) (sym are) record {
+        keeps = subst (λ (out : List (DeskSeat T)). KeepsSeats desk v after [] out) (sym seats)
             (keeps_so desk v after [] (it ∷ workers_out places) (workers_out places ++ it ∷ []) (IsPermutation-sym (workers_out places ++ it ∷ []) (it ∷ workers_out places) (IsPermutation-to_front (workers_out places) it))
             (keeps_split desk v w after [] (workers_out places) it h.keeps is fits new));
-        numbered = subst (λ (out : List (DeskSeat J)). AreNumberedFrom v.given out) (sym seats)
+        numbered = subst (λ (out : List (DeskSeat T)). AreNumberedFrom v.given out) (sym seats)
             (numbered_push desk v.given (workers_out places) it h.numbered (let number : it.me.0.number ≡ w.given = ap (λ (u : View). u.number) new in let all = h.keeps.given in omega arith));
-        due = All-push (Due (worked_so right made)) places place h.due due;
+        due = All-push (Due (worked_so legal made)) places place h.due due;
         counted = let before = h.counted in let longer = length-append places (place ∷ []) in omega arith;
       }
 
   -- while they worked, other seats were split off and met
-  pub staffed_begins : {talked : Tells → List Said → Tells → Bool → Type 0} (u : View) (servers : ℕ) (old new : Stand) (count : ℕ) (places : List (Working J S)) → (o : LinksServed talked servers old new) → v ≡ u → Hired right made desk u old.view count places
-      → Staffed right made desk v new.view count (map talk_met o.returned) places
+  pub staffed_begins : {talked : Tells → List Said → Tells → Bool → Type 0} (u : View) (servers : ℕ) (old new : Stand) (count : ℕ) (places : List (Working J T S)) → (o : LinksServed talked servers old new) → v ≡ u → Hired legal made desk u old.view count places
+      → Staffed legal made desk v new.view count (map talk_met o.returned) places
   staffed_begins u servers old new count places o is hired =
-      let h = subst (λ (z : View). Hired right made desk z old.view count places) (sym is) hired in
+      let h = subst (λ (z : View). Hired legal made desk z old.view count places) (sym is) hired in
       let met : List Met = map talk_met o.returned in record {
         shifts = [];
         keeps = record {
@@ -562,23 +573,23 @@ module _ {J S : Type 0} (right : List ℕ → List ℕ → Bool → Option (List
         counted = let all = h.counted in omega arith;
       }
 
-  pub worker_of_desk : (w : View) (count : ℕ) (met : List Met) (items rest : List (Working J S)) (place : Working J S) (holds : List Said → Type 0) (seat : DeskSeat J) → Staffed right made desk v w count met items
-      → items ≡ place ∷ rest → Acts right holds (shift_promised place).seat.value seat → IsSeatOf desk seat
+  pub worker_of_desk : (w : View) (count : ℕ) (met : List Met) (items rest : List (Working J T S)) (place : Working J T S) (holds : List Said → Type 0) (seat : DeskSeat T) → Staffed legal made desk v w count met items
+      → items ≡ place ∷ rest → Acts legal holds (shift_promised place).seat.value seat → IsSeatOf desk seat
   worker_of_desk w count met items rest place holds seat s is a =
-      let went = subst (λ (l : List (Working J S)). Staffed right made desk v w count met l) is s in
+      let went = subst (λ (l : List (Working J T S)). Staffed legal made desk v w count met l) is s in
       let out : IsSplitOff desk (shift_promised place).seat.value = All-head (IsSplitOff desk) (shift_promised place).seat.value (workers_out rest) went.keeps.waits in
       subst (λ (d : TableId). IsSeatOf d seat) out.0 a.desk_is
 
   -- a worker left, and was met
-  pub staffed_met : (w after : View) (count : ℕ) (met : List Met) (items places : List (Working J S)) (place : Working J S) (seat : DeskSeat J) → Staffed right made desk v w count met items
-      → items ≡ place ∷ places → worked_so right made (shift_promised place) seat → Meets w seat.me.0 after → Staffed right made desk v after count met places
+  pub staffed_met : (w after : View) (count : ℕ) (met : List Met) (items places : List (Working J T S)) (place : Working J T S) (seat : DeskSeat T) → Staffed legal made desk v w count met items
+      → items ≡ place ∷ places → worked_so legal made (shift_promised place) seat → Meets w seat.me.0 after → Staffed legal made desk v after count met places
   staffed_met w after count met items places place seat all is a meets =
-      let s = subst (λ (l : List (Working J S)). Staffed right made desk v w count met l) is all in
+      let s = subst (λ (l : List (Working J T S)). Staffed legal made desk v w count met l) is all in
       let n : ℕ = v.given + length s.shifts in
       let t : Shift = record { seat = n; said = a.said } in
-      let it : DeskSeat J = (shift_promised place).seat.value in
+      let it : DeskSeat T = (shift_promised place).seat.value in
       let number : it.me.0.number ≡ n = s.numbered.0 in
-      let k = keeps_met desk right (IsShift made) v w after (met ++ map shift_met s.shifts) it seat (workers_out places) s.keeps a meets in
+      let k = keeps_met desk legal (IsShift made) v w after (met ++ map shift_met s.shifts) it seat (workers_out places) s.keeps a meets in
       let one : (met ++ map shift_met s.shifts) ++ record { seat = it.me.0.number; entries = by it.me.0.number a.said } ∷ [] ≡ (met ++ map shift_met s.shifts) ++ shift_met t ∷ [] =
       ap (λ (j : ℕ). (met ++ map shift_met s.shifts) ++ record { seat = j; entries = by j a.said } ∷ []) number in
       let mets : (met ++ map shift_met s.shifts) ++ shift_met t ∷ [] ≡ met ++ map shift_met (s.shifts ++ t ∷ []) =
@@ -587,15 +598,15 @@ module _ {J S : Type 0} (right : List ℕ → List ℕ → Bool → Option (List
         shifts = s.shifts ++ t ∷ [];
         keeps = subst (λ (l : List Met). KeepsSeats desk v after l (workers_out places)) (one ∙ mets) k;
         numbered = subst (λ (j : ℕ). AreNumberedFrom j (workers_out places)) (omega arith) s.numbered.1;
-        due = All-tail (Due (worked_so right made)) place places s.due;
+        due = All-tail (Due (worked_so legal made)) place places s.due;
         worked = all_worked_snoc made v.given s.shifts t s.worked refl a.held;
         counted = let before = s.counted in omega arith;
       }
 
   -- all workers have left
-  pub staffed_over : (w : View) (count : ℕ) (met : List Met) (items : List (Working J S)) → Staffed right made desk v w count met items → length items ≡ 0 → HaveLeft made v w count met
+  pub staffed_over : (w : View) (count : ℕ) (met : List Met) (items : List (Working J T S)) → Staffed legal made desk v w count met items → length items ≡ 0 → HaveLeft made v w count met
   staffed_over w count met items all none =
-      let s = subst (λ (l : List (Working J S)). Staffed right made desk v w count met l) (empty_list items none) all in record {
+      let s = subst (λ (l : List (Working J T S)). Staffed legal made desk v w count met l) (empty_list items none) all in record {
         shifts = s.shifts;
         worked = s.worked;
         counted = let many = s.counted in omega arith;
@@ -611,10 +622,10 @@ module _ {J S : Type 0} (right : List ℕ → List ℕ → Bool → Option (List
       }
 
 -- workers came, links were served, and the workers left
-pub serves : {J S : Type 0} (right : List ℕ → List ℕ → Bool → Option (List ℕ) → Type 0) (made : List ℕ → List ℕ → List Bool → Option (List ℕ) → Type 0) (talked : Tells → List Said → Tells → Bool → Type 0) (desk : TableId) (v : View) (servers : ℕ) (old staffed served new : Stand) (count : ℕ) (places : List (Working J S))
-    → v ≡ old.view → Hired right made desk old.view staffed.view count places → staffed.coming ≡ old.coming → staffed.given_back ≡ old.given_back → staffed.reached ≡ old.reached → (o : LinksServed talked servers staffed served)
+pub serves : {J T S : Type 0} (legal : List SeatEntry → Type 0) (made : List ℕ → List ℕ → List Bool → Option (List ℕ) → Type 0) (talked : Tells → List Said → Tells → Bool → Type 0) (desk : TableId) (v : View) (servers : ℕ) (old staffed served new : Stand) (count : ℕ) (places : List (Working J T S))
+    → v ≡ old.view → Hired legal made desk old.view staffed.view count places → staffed.coming ≡ old.coming → staffed.given_back ≡ old.given_back → staffed.reached ≡ old.reached → (o : LinksServed talked servers staffed served)
     → HaveLeft made v new.view count (map talk_met o.returned) → StartsWith new.view.seen served.view.seen → new.coming ≡ served.coming → new.given_back ≡ served.given_back → new.reached ≡ served.reached → ServesLinks made talked servers count old new o.links
-serves {J} {S} right made talked desk v servers old staffed served new count places is h coming back reached o left later coming' back' reached' =
+serves {J} {T} {S} legal made talked desk v servers old staffed served new count places is h coming back reached o left later coming' back' reached' =
     let l = subst (λ (u : View). HaveLeft made u new.view count (map talk_met o.returned)) is left in record {
       shifts = l.shifts;
       returned = o.returned;
@@ -622,7 +633,7 @@ serves {J} {S} right made talked desk v servers old staffed served new count pla
       staff = let all = l.counted in omega arith;
       worked = l.worked;
       all_talked = subst (λ (n : ℕ). AllTalked talked n o.links)
-          (let given = h.keeps.given in let many = h.counted in let all = l.counted in let same = length-map places (λ (p : Working J S). (shift_promised p).seat.value) in omega arith) o.all_talked;
+          (let given = h.keeps.given in let many = h.counted in let all = l.counted in let same = length-map places (λ (p : Working J T S). (shift_promised p).seat.value) in omega arith) o.all_talked;
       at_once = All-weaker (λ t. (seen : List SeatEntry) × Opens servers served.view.seen o.links t.seat seen) (λ t. (seen : List SeatEntry) × Opens servers new.view.seen o.links t.seat seen)
           (λ t is. (is.0, record { out = is.1.out; few = is.1.few; begins = starts_through is.0 served.view.seen new.view.seen is.1.begins later; none = is.1.none; earlier = is.1.earlier })) o.links o.at_once;
       came = subst (λ (z : Option (List Tells) × Option (List Tells)). Came z.0 z.1 (map (λ (t : LinkTalk). t.came) o.links)) (λ i. (coming i, sym coming' i)) o.came;

@@ -18,7 +18,7 @@ use Rattle.server_threads.specs.declared.means.ServeFault.{ServeFault}
 use Rattle.server_threads.specs.declared.means.ServeFault.TheVariants.{Failed}
 use Rattle.server_threads.specs.declared.links.Before.{Before}
 use Rattle.server_threads.specs.declared.links.Running.{Running}
-use Rattle.server_threads.specs.declared.places.Place.{Place}
+use Rattle.server_threads.specs.declared.places.Started.{Started}
 use Rattle.server_threads.specs.declared.promise.Finished.{Finished}
 use Rattle.server_threads.specs.declared.promise.ToServe.{ToServe}
 use Rattle.server_threads.specs.declared.promise.ToWork.{ToWork}
@@ -27,16 +27,16 @@ use Rattle.server_threads.specs.Promises.{promise_of, Due}
 use Rattle.server_threads.specs.Serving.{Stand, stand, taken, MayTake, Opens, AtOnce, EndsServing}
 
 -- a seat is one of the desk's, and had made no move when it was split off
-abbrev pub IsSplitOff : {J : Type 0} → TableId → DeskSeat J → Type 0
+abbrev pub IsSplitOff : {T : Type 0} → TableId → DeskSeat T → Type 0
 IsSplitOff desk s = (s.table_id ≡ desk) × (s.me.0.mine ≡ [])
 
 -- the seats have the numbers from this one on
-abbrev pub AreNumberedFrom : {J : Type 0} → ℕ → List (DeskSeat J) → Type 0
+abbrev pub AreNumberedFrom : {T : Type 0} → ℕ → List (DeskSeat T) → Type 0
 AreNumberedFrom n [] = Unit {0}
 AreNumberedFrom n (s ∷ ss) = (s.me.0.number ≡ n) × AreNumberedFrom (n + 1) ss
 
 -- the first seat met these seats, and split off as many and those that are out
-pub record KeepsSeats {J : Type 0} (desk : TableId) (v w : View) (met : List Met) (out : List (DeskSeat J)) : Type 0 where
+pub record KeepsSeats {T : Type 0} (desk : TableId) (v w : View) (met : List Met) (out : List (DeskSeat T)) : Type 0 where
   pub first : w.number ≡ 0
   pub number : w.number ≡ v.number
   pub met_is : w.met ≡ v.met ++ met
@@ -70,29 +70,29 @@ AllBegun servers given log talks running =
     All (λ n. (n < given) × ((seen : List SeatEntry) × Begun servers log talks running n seen)) (map (λ t. t.seat) talks ++ running)
 
 -- what is done for a link
-abbrev pub Conversing : Type 0 → Type 0 → Type 0 → Type 0 → Type 0
-Conversing J L S B = Place (Finished (DeskSeat J) L) (ToServe J L S B)
+abbrev pub Conversing : Type 0 → Type 0 → Type 0 → Type 0 → Type 0 → Type 0
+Conversing J T L S B = Started (Finished (DeskSeat T) L) (ToServe J T L S B)
 
-module _ {J L S B : Type 0} where
-  abbrev pub promised : Conversing J L S B → ToServe J L S B
-  promised place = promise_of {P = ToServe J L S B} place
+module _ {J T L S B : Type 0} where
+  abbrev pub promised : Conversing J T L S B → ToServe J T L S B
+  promised place = promise_of {P = ToServe J T L S B} place
 
-  abbrev pub seat_out : Conversing J L S B → DeskSeat J
+  abbrev pub seat_out : Conversing J T L S B → DeskSeat T
   seat_out place = (promised place).seat.value
 
-  abbrev pub number_out : Conversing J L S B → ℕ
+  abbrev pub number_out : Conversing J T L S B → ℕ
   number_out place = (seat_out place).me.0.number
 
-  module _ (right : List ℕ → List ℕ → Bool → Option (List ℕ) → Type 0) (talked : Tells → List Said → Tells → Bool → Type 0) (tells : L → Tells) where
-    abbrev pub visit_out : Conversing J L S B → Visit
+  module _ (legal : List SeatEntry → Type 0) (talked : Tells → List Said → Tells → Bool → Type 0) (tells : L → Tells) where
+    abbrev pub visit_out : Conversing J T L S B → Visit
     visit_out place = (number_out place, tells (promised place).link.value)
 
     -- a link was served as was promised
-    abbrev pub served_so : ToServe J L S B → Finished (DeskSeat J) L → Type 0
-    served_so p r = Acts right (λ said. talked (tells p.link.value) said (tells r.link) r.short) p.seat.value r.seat
+    abbrev pub served_so : ToServe J T L S B → Finished (DeskSeat T) L → Type 0
+    served_so p r = Acts legal (λ said. talked (tells p.link.value) said (tells r.link) r.short) p.seat.value r.seat
 
     -- so much was told of links that came; those that were served were met and given back in one order, and the others are being served
-    pub record Going (servers : ℕ) (desk : TableId) (old new : Stand) (short : ℕ) (places : List (Conversing J L S B)) : Type 0 where
+    pub record Going (servers : ℕ) (desk : TableId) (old new : Stand) (short : ℕ) (places : List (Conversing J T L S B)) : Type 0 where
       pub links : List Tells
       pub talks : List LinkTalk
       pub keeps : KeepsSeats desk old.view new.view (map talk_met talks) (map seat_out places)
@@ -107,13 +107,13 @@ module _ {J L S B : Type 0} where
       pub shorts : short ≡ short_of talks
 
     -- what holds of the first seat and of the listener while links are being served by these means, in these places
-    pub record GoesOn {N R : Type 0} (net_tells : N → NetTells) (means : Means J R S) (before : Before J N) (seat : DeskSeat J) (net : N) (short : ℕ) (places : List (Conversing J L S B)) : Type 0 where
+    pub record GoesOn {N R : Type 0} (net_tells : N → NetTells) (means : Means J T R S) (before : Before T N) (seat : DeskSeat T) (net : N) (short : ℕ) (places : List (Conversing J T L S B)) : Type 0 where
       pub seat_is : IsSeatOf (desk_id means.desk.now) seat
       pub few : seat.me.0.given ≤ before.seat.value.me.0.given + 2 ^ 32
       pub going : Going means.limits.servers (desk_id means.desk.now) (stand net_tells before.seat.value before.net.value) (stand net_tells seat net) short places
 
     -- and by those that run
-    abbrev pub Goes : {N R : Type 0} → (N → NetTells) → Means J R S → Before J N → DeskSeat J → N → Running J L S B → Type 0
+    abbrev pub Goes : {N R : Type 0} → (N → NetTells) → Means J T R S → Before T N → DeskSeat T → N → Running J T L S B → Type 0
     Goes net_tells means before seat net running = GoesOn net_tells means before seat net running.short (taken running.places.items)
 
 -- links came in this order, were served, each by a seat of its own, and were given back, perhaps in another order, so that none is being served any more
@@ -134,12 +134,12 @@ pub record LinksServed (talked : Tells → List Said → Tells → Bool → Type
   pub known : HasMet new.view.seen (map talk_met returned)
 
 -- links were served beside the workers: from this seat and listener to those, with this answer
-abbrev pub HasServedLinks : {J N : Type 0} → (talked : Tells → List Said → Tells → Bool → Type 0) → (N → NetTells) → ServeLimits → (seat seat' : DeskSeat J) → (net net' : N) → Result ℕ ServeFault → Type 0
+abbrev pub HasServedLinks : {T N : Type 0} → (talked : Tells → List Said → Tells → Bool → Type 0) → (N → NetTells) → ServeLimits → (seat seat' : DeskSeat T) → (net net' : N) → Result ℕ ServeFault → Type 0
 HasServedLinks talked tells limits seat seat' net net' answer =
     (o : LinksServed talked limits.servers (stand tells seat net) (stand tells seat' net')) × EndsServing answer limits.connections o.links (tells net).faults (tells net').faults
 
 -- there is room for as many links and workers as these limits say
-pub record MayServe {J L S : Type 0} (limits : ServeLimits) (room : Room J L S) : Type 0 where
+pub record MayServe {J T L S : Type 0} (limits : ServeLimits) (room : Room J T L S) : Type 0 where
   pub may : MayTake limits room.running
   pub none : room.shifts.items ≡ []
   pub empty : deque_len room.shifts ≡ 0
@@ -156,30 +156,30 @@ served_result (Ok x) short = Ok short
 served_result (Err e) short = Err Failed
 
 -- what is done by a worker
-abbrev pub Working : Type 0 → Type 0 → Type 0
-Working J S = Place (DeskSeat J) (ToWork J S)
+abbrev pub Working : Type 0 → Type 0 → Type 0 → Type 0
+Working J T S = Started (DeskSeat T) (ToWork J T S)
 
-module _ {J S : Type 0} where
-  abbrev pub shift_promised : Working J S → ToWork J S
-  shift_promised place = promise_of {P = ToWork J S} place
+module _ {J T S : Type 0} where
+  abbrev pub shift_promised : Working J T S → ToWork J T S
+  shift_promised place = promise_of {P = ToWork J T S} place
 
-  abbrev pub workers_out : List (Working J S) → List (DeskSeat J)
+  abbrev pub workers_out : List (Working J T S) → List (DeskSeat T)
   workers_out places = map (λ place. (shift_promised place).seat.value) places
 
-  module _ (right : List ℕ → List ℕ → Bool → Option (List ℕ) → Type 0) (made : List ℕ → List ℕ → List Bool → Option (List ℕ) → Type 0) where
+  module _ (legal : List SeatEntry → Type 0) (made : List ℕ → List ℕ → List Bool → Option (List ℕ) → Type 0) where
     -- a worker worked as was promised
-    abbrev pub worked_so : ToWork J S → DeskSeat J → Type 0
-    worked_so p seat = Acts right (IsShift made) p.seat.value seat
+    abbrev pub worked_so : ToWork J T S → DeskSeat T → Type 0
+    worked_so p seat = Acts legal (IsShift made) p.seat.value seat
 
     -- so many workers came, and are at work
-    pub record Hired (desk : TableId) (v w : View) (count : ℕ) (places : List (Working J S)) : Type 0 where
+    pub record Hired (desk : TableId) (v w : View) (count : ℕ) (places : List (Working J T S)) : Type 0 where
       pub keeps : KeepsSeats desk v w [] (workers_out places)
       pub numbered : AreNumberedFrom v.given (workers_out places)
       pub due : All (Due worked_so) places
       pub counted : length places ≡ count
 
     -- so many workers came, of whom some have left and were met behind other seats, and the others are at work
-    pub record Staffed (desk : TableId) (v w : View) (count : ℕ) (met : List Met) (places : List (Working J S)) : Type 0 where
+    pub record Staffed (desk : TableId) (v w : View) (count : ℕ) (met : List Met) (places : List (Working J T S)) : Type 0 where
       pub shifts : List Shift
       pub keeps : KeepsSeats desk v w (met ++ map shift_met shifts) (workers_out places)
       pub numbered : AreNumberedFrom (v.given + length shifts) (workers_out places)

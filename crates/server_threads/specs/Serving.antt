@@ -20,7 +20,7 @@ pub record Stand : Type 0 where
   pub given_back : Option (List Tells)
   pub reached : Option (List Reached)
 
-abbrev pub stand : {J N : Type 0} → (tells : N → NetTells) → DeskSeat J → N → Stand
+abbrev pub stand : {T N : Type 0} → (tells : N → NetTells) → DeskSeat T → N → Stand
 stand tells seat net =
     record { view = seat.me.0; coming = (tells net).coming; given_back = (tells net).given_back; reached = (tells net).reached }
 
@@ -31,7 +31,7 @@ taken (None ∷ xs) = taken xs
 taken (Some x ∷ xs) = x ∷ taken xs
 
 -- links may be taken: at least one at a time, none is being served, and there are as many places as links may be served at once
-pub record MayTake {J L S B : Type 0} (limits : ServeLimits) (running : Running J L S B) : Type 0 where
+pub record MayTake {J T L S B : Type 0} (limits : ServeLimits) (running : Running J T L S B) : Type 0 where
   pub some : 0 < limits.servers
   pub fresh : running.short ≡ 0
   pub none : taken running.places.items ≡ []
@@ -84,7 +84,7 @@ EndsServing (Err Failed) connections links faults faults' = (length links < conn
 EndsServing (Err Memory) connections links faults faults' = (links ≡ []) × (faults' ≡ faults)
 
 -- links and workers served: from this seat and listener to those, within these limits, with this answer
-abbrev pub HasServed : {J N : Type 0} → (made : List ℕ → List ℕ → List Bool → Option (List ℕ) → Type 0) → (talked : Tells → List Said → Tells → Bool → Type 0) → (N → NetTells) → ServeLimits → (seat seat' : DeskSeat J) → (net net' : N)
+abbrev pub HasServed : {T N : Type 0} → (made : List ℕ → List ℕ → List Bool → Option (List ℕ) → Type 0) → (talked : Tells → List Said → Tells → Bool → Type 0) → (N → NetTells) → ServeLimits → (seat seat' : DeskSeat T) → (net net' : N)
     → Result ℕ ServeFault → Type 0
 HasServed made talked tells limits seat seat' net net' answer =
     (links : List LinkTalk) × ServesLinks made talked limits.servers limits.workers (stand tells seat net) (stand tells seat' net') links × EndsServing answer limits.connections links (tells net).faults (tells net').faults

@@ -3,17 +3,17 @@ use Rattle.std.specs.Prelude.{◌≡◌, ℕ, ◌+◌, Bool, List, [], ◌∷◌
 use Rattle.atomic_table.specs.declared.shared.Seat.{Seat}
 use Rattle.job_table.specs.History.{MoveEntry as Said}
 use Rattle.os_io.specs.Streams.{Tells, BothTold}
-use Rattle.desk.specs.declared.held.Held.{Held}
+use Rattle.desk.specs.declared.view.SeatEntry.{SeatEntry}
 use Rattle.desk.specs.declared.view.Met.{Met}
 use Rattle.desk.specs.declared.view.View.{View}
 use Rattle.desk.specs.History.{by}
 use Rattle.desk.specs.Rule.{one_if}
 use Rattle.desk.specs.SeatMoves.{IsSeatOf}
-use Rattle.desk.specs.SeatHistory.{Asked}
+use Rattle.desk.specs.SeatHistory.{AskedBy}
 use Rattle.workers.specs.Shifts.{WorksThrough}
 
 abbrev pub DeskSeat : Type 0 → Type 0
-DeskSeat J = Seat (Option (Held J)) View
+DeskSeat T = Seat (Option T) View
 
 -- one link that was served: what it told when it came and when it was given back, the number of the seat that served it, the moves of that
 -- seat, and whether the conversation ended for want of memory
@@ -67,10 +67,14 @@ module _ (made : List ℕ → List ℕ → List Bool → Option (List ℕ) → T
   AllWorked n [] = Unit {0}
   AllWorked n (s ∷ ss) = (s.seat ≡ n) × IsShift s.said × AllWorked (n + 1) ss
 
-module _ (right : List ℕ → List ℕ → Bool → Option (List ℕ) → Type 0) where
+-- any history: serving doesn't say which histories are legal, since a desk that is closed says so of the whole one
+abbrev pub AnyHistory : List SeatEntry → Type 0
+AnyHistory log = Unit {0}
+
+module _ (legal : List SeatEntry → Type 0) where
   -- moves were made on this seat, and of these moves this holds
-  pub record Acts {J : Type 0} (holds : List Said → Type 0) (was seat : DeskSeat J) : Type 0 where
+  pub record Acts {T : Type 0} (holds : List Said → Type 0) (was seat : DeskSeat T) : Type 0 where
     pub desk_is : IsSeatOf was.table_id seat
     pub said : List Said
-    pub asked : Asked right was.me.0 seat.me.0 said
+    pub asked : AskedBy legal was.me.0 seat.me.0 said
     pub held : holds said

@@ -3,18 +3,18 @@
 ghost use Rattle.std.specs.Prelude.{◌≡◌, ◌+◌, ◌<◌, ◌≤◌, ◌^◌, ◌∷◌, None, slice_index_or, vec_len};
 ghost use Rattle.desk.specs.Rule.{one_if};
 ghost use Rattle.desk.specs.SeatMoves.{desk_id, IsSeatOf};
-ghost use Rattle.server_threads.specs.Talks.{Acts, short_of};
+ghost use Rattle.server_threads.specs.Talks.{Acts, AnyHistory, short_of};
 ghost use Rattle.server_threads.specs.Promises.{promise_of, Due};
 ghost use Rattle.server_threads.specs.Serving.{stand, taken, MayTake};
 ghost use Rattle.server_threads.specs.OpenLinks.{GoesOn, Goes, LinksServed, CameSo, served_result, served_so};
 
 use crate::means::{Means, ServeFault};
 use crate::open::OpenLink;
-use crate::places::{Place, put_in, take_out};
+use crate::places::{Started, put_in, take_out};
 use crate::promise::{Finished, ToServe};
 use crate::service::Service;
-use crossbeam_channel::Receiver;
-use desk::{Desk, LentSeat, Seat};
+use crossbeam_channel::{Receiver, Sender};
+use desk::{DeskOf, LentSeatOf, SeatOf, Slotted};
 use job_table::Verdicts;
 use os_io::{Close, Failed, Link, Listener};
 use std::alloc::Global;
@@ -25,17 +25,17 @@ use std::thread::{Scope, Threads};
 use workers::Bell;
 
 /// A link that is being served.
-type Serving<J, L, S, B> = Place<Finished<Seat<J>, L>, ToServe<J, L, S, B>>;
+type StartedLink<J, T, L, S, B> = Started<Finished<SeatOf<T>, L>, ToServe<J, T, L, S, B>>;
 
 /// As many places as links may be served at once.
-pub(crate) type Places<J, L, S, B> = Vec<Option<Serving<J, L, S, B>>>;
+pub(crate) type Places<J, T, L, S, B> = Vec<Option<StartedLink<J, T, L, S, B>>>;
 
 /// The links that are being served, and how many of those before them ended for want of memory.
 ///
 /// A number that says which place is free, or becomes so, is a hint: whoever takes a place joins the thread that is still in it.
 #[derive(Drop)]
-pub(crate) struct Running<J: Verdicts, L: Link, S: Service<J>, B: Bell> {
-    pub(crate) places: Places<J, L, S, B>,
+pub(crate) struct Running<J: Verdicts, T: Slotted<J>, L: Link, S: Service<J>, B: Bell> {
+    pub(crate) places: Places<J, T, L, S, B>,
     /// The numbers of the places that are free.
     pub(crate) free: Vec<usize>,
     /// The numbers of those whose threads have done all they had to do. There are as many places in the channel, so nobody waits to send.
@@ -45,14 +45,14 @@ pub(crate) struct Running<J: Verdicts, L: Link, S: Service<J>, B: Bell> {
 
 /// The first seat and the listener as they were before the first link came.
 #[derive(Drop)]
-pub(crate) struct Before<J: Verdicts, N> {
-    seat: Snapshot<Seat<J>>,
+pub(crate) struct Before<T, N> {
+    seat: Snapshot<SeatOf<T>>,
     net: Snapshot<N>,
 }
 
-impl<J: Verdicts, N> Before<J, N> {
+impl<T, N> Before<T, N> {
     /// As they are now.
-    pub(crate) fn of(seat: &Seat<J>, net: &N) -> Before<J, N>
+    pub(crate) fn of(seat: &SeatOf<T>, net: &N) -> Before<T, N>
         ensures seat { result.seat.value ≡ seat.now }
         ensures net { result.net.value ≡ net.now }
     {
@@ -63,29 +63,64 @@ impl<J: Verdicts, N> Before<J, N> {
     }
 }
 
-/// Serves a link in a thread of its own, by moves of this seat, and closes it when the conversation is over, so that its peer reads the
-/// end. As its last act the thread says that this place becomes free. Where no thread can be started, the link is served here.
+/// Serves a link by moves of this seat, and closes it when the conversation is over, so that its peer reads the end. Its last act is to
+/// say that this place becomes free.
+fn serve_by<J: Verdicts, T: Slotted<J>, L: Close, R: Wait, S: Service<J>, B: Bell>(
+    rt: &R,
+    alloc: Global,
+    desk: &DeskOf<J, T>,
+    service: &S,
+    bell: &B,
+    leaving: &Sender<usize>,
+    mut seat: SeatOf<T>,
+    link: L,
+    at: usize,
+) -> Finished<SeatOf<T>, L>
+    requires { IsSeatOf (desk_id desk.now) seat × L.is_open link }
+    ensures { Acts AnyHistory (λ said. S.talked B.rang (L.tells link) said (L.tells result.link) result.short) seat result.seat }
+{
+    let mut mover = LentSeatOf {
+        rt,
+        desk,
+        seat: &mut seat,
+    };
+    let open = OpenLink::new(link);
+    let (short, open) = service.serve(rt, alloc, bell, open, &mut mover);
+    let mut link = open.into_link();
+    link.close();
+    let LentSeatOf {
+        rt: _,
+        desk: _,
+        seat: _seat,
+    } = mover;
+    let done = Finished { seat, link, short };
+    let _ = leaving.send(rt, at);
+    done
+}
+
+/// Serves a link in a thread of its own. Where no thread can be started, it is served here.
 fn serve_link<
     's,
     E,
     J: Verdicts + Send + Sync,
+    T: Slotted<J> + Send + Sync,
     L: Close + Send + Drop + 's,
     R: Threads + Wait + Sync,
     S: Service<J> + Sync,
     B: Bell + Sync,
 >(
-    means: &Means<'s, J, R, S>,
+    means: &Means<'s, J, T, R, S>,
     bell: &'s B,
     scope: &'s Scope<'s, E>,
-    seat: Seat<J>,
+    seat: SeatOf<T>,
     link: L,
     at: usize,
-) -> Serving<J, L, S, B>
+) -> StartedLink<J, T, L, S, B>
     requires seat { IsSeatOf (desk_id means.now.desk.now) seat }
     requires open { L.is_open link }
     ensures seat { (promise_of result).seat.value ≡ seat }
     ensures link { (promise_of result).link.value ≡ link }
-    ensures due { Due (served_so J.right (S.talked B.rang) L.tells) result }
+    ensures due { Due (served_so AnyHistory (S.talked B.rang) L.tells) result }
 {
     let Means {
         rt,
@@ -97,32 +132,13 @@ fn serve_link<
     } = *means;
     let promise = ToServe::of(&seat, &link);
     let again = ToServe::of(&seat, &link);
-    let work = move || -> Finished<Seat<J>, L>
+    let work = move || -> Finished<SeatOf<T>, L>
         requires { IsSeatOf (desk_id desk.now) seat × L.is_open link }
-        ensures { Acts J.right (λ said. S.talked B.rang (L.tells link) said (L.tells result.link) result.short) seat result.seat }
-    {
-        let mut seat = seat;
-        let mut mover = LentSeat {
-            rt,
-            desk,
-            seat: &mut seat,
-        };
-        let open = OpenLink::new(link);
-        let (short, open) = service.serve(rt, alloc, bell, open, &mut mover);
-        let mut link = open.into_link();
-        link.close();
-        let LentSeat {
-            rt: _,
-            desk: _,
-            seat: _seat,
-        } = mover;
-        let done = Finished { seat, link, short };
-        let _ = leaving.send(rt, at);
-        done
-    };
+        ensures { Acts AnyHistory (λ said. S.talked B.rang (L.tells link) said (L.tells result.link) result.short) seat result.seat }
+    { serve_by(rt, alloc, desk, service, bell, leaving, seat, link, at) };
     match scope.spawn_with(promise, work) {
-        Ok(child) => Place::Thread(child),
-        Err(refused) => Place::Here((refused.value)(), again),
+        Ok(child) => Started::Thread(child),
+        Err(refused) => Started::Here((refused.value)(), again),
     }
 }
 
@@ -135,16 +151,23 @@ fn number_of(so: bool) -> u64
 }
 
 /// Joins a thread, takes its seat in, and gives its link back.
-fn join_one<J: Verdicts + Send + Sync, N: Listener, R: Threads, S: Service<J>, B: Bell>(
-    means: &Means<'_, J, R, S>,
-    before: &Before<J, N>,
-    seat: &mut Seat<J>,
+fn join_one<
+    J: Verdicts + Send + Sync,
+    T: Slotted<J> + Send + Sync,
+    N: Listener,
+    R: Threads,
+    S: Service<J>,
+    B: Bell,
+>(
+    means: &Means<'_, J, T, R, S>,
+    before: &Before<T, N>,
+    seat: &mut SeatOf<T>,
     net: &mut N,
-    running: &mut Running<J, N::Conn, S, B>,
-    place: Serving<J, N::Conn, S, B>,
+    running: &mut Running<J, T, N::Conn, S, B>,
+    place: StartedLink<J, T, N::Conn, S, B>,
 )
-    requires goes { GoesOn J.right (S.talked B.rang) N.Conn.tells N.tells means.now before.now seat.old net.old running.old.short (place ∷ taken running.old.places.items) }
-    ensures goes { Goes J.right (S.talked B.rang) N.Conn.tells N.tells means.now before.now seat.new net.new running.new }
+    requires goes { GoesOn AnyHistory (S.talked B.rang) N.Conn.tells N.tells means.now before.now seat.old net.old running.old.short (place ∷ taken running.old.places.items) }
+    ensures goes { Goes AnyHistory (S.talked B.rang) N.Conn.tells N.tells means.now before.now seat.new net.new running.new }
     ensures given { seat.new.me.0.given ≡ seat.old.me.0.given }
     ensures faults { (N.tells net.new).faults ≡ (N.tells net.old).faults }
     ensures places { running.new.places ≡ running.old.places }
@@ -156,17 +179,24 @@ fn join_one<J: Verdicts + Send + Sync, N: Listener, R: Threads, S: Service<J>, B
 }
 
 /// Joins the thread that is in this place, if any is, so that the place is free.
-fn clear<J: Verdicts + Send + Sync, N: Listener, R: Threads, S: Service<J>, B: Bell>(
-    means: &Means<'_, J, R, S>,
-    before: &Before<J, N>,
-    seat: &mut Seat<J>,
+fn clear<
+    J: Verdicts + Send + Sync,
+    T: Slotted<J> + Send + Sync,
+    N: Listener,
+    R: Threads,
+    S: Service<J>,
+    B: Bell,
+>(
+    means: &Means<'_, J, T, R, S>,
+    before: &Before<T, N>,
+    seat: &mut SeatOf<T>,
     net: &mut N,
-    running: &mut Running<J, N::Conn, S, B>,
+    running: &mut Running<J, T, N::Conn, S, B>,
     at: usize,
 )
-    requires goes { Goes J.right (S.talked B.rang) N.Conn.tells N.tells means.now before.now seat.old net.old running.old }
+    requires goes { Goes AnyHistory (S.talked B.rang) N.Conn.tells N.tells means.now before.now seat.old net.old running.old }
     requires within { at < vec_len running.old.places }
-    ensures goes { Goes J.right (S.talked B.rang) N.Conn.tells N.tells means.now before.now seat.new net.new running.new }
+    ensures goes { Goes AnyHistory (S.talked B.rang) N.Conn.tells N.tells means.now before.now seat.new net.new running.new }
     ensures given { seat.new.me.0.given ≡ seat.old.me.0.given }
     ensures faults { (N.tells net.new).faults ≡ (N.tells net.old).faults }
     ensures free { slice_index_or running.new.places.items at None ≡ None }
@@ -178,15 +208,22 @@ fn clear<J: Verdicts + Send + Sync, N: Listener, R: Threads, S: Service<J>, B: B
 }
 
 /// Joins the threads that have said that their places become free.
-fn join_left<J: Verdicts + Send + Sync, N: Listener, R: Threads + Wait, S: Service<J>, B: Bell>(
-    means: &Means<'_, J, R, S>,
-    before: &Before<J, N>,
-    seat: &mut Seat<J>,
+fn join_left<
+    J: Verdicts + Send + Sync,
+    T: Slotted<J> + Send + Sync,
+    N: Listener,
+    R: Threads + Wait,
+    S: Service<J>,
+    B: Bell,
+>(
+    means: &Means<'_, J, T, R, S>,
+    before: &Before<T, N>,
+    seat: &mut SeatOf<T>,
     net: &mut N,
-    running: &mut Running<J, N::Conn, S, B>,
+    running: &mut Running<J, T, N::Conn, S, B>,
 )
-    requires goes { Goes J.right (S.talked B.rang) N.Conn.tells N.tells means.now before.now seat.old net.old running.old }
-    ensures goes { Goes J.right (S.talked B.rang) N.Conn.tells N.tells means.now before.now seat.new net.new running.new }
+    requires goes { Goes AnyHistory (S.talked B.rang) N.Conn.tells N.tells means.now before.now seat.old net.old running.old }
+    ensures goes { Goes AnyHistory (S.talked B.rang) N.Conn.tells N.tells means.now before.now seat.new net.new running.new }
     ensures given { seat.new.me.0.given ≡ seat.old.me.0.given }
     ensures faults { (N.tells net.new).faults ≡ (N.tells net.old).faults }
     ensures len { vec_len running.new.places ≡ vec_len running.old.places }
@@ -203,16 +240,23 @@ fn join_left<J: Verdicts + Send + Sync, N: Listener, R: Threads + Wait, S: Servi
 }
 
 /// A place that is free; where none is, the next that becomes so is waited for.
-fn free_place<J: Verdicts + Send + Sync, N: Listener, R: Threads + Wait, S: Service<J>, B: Bell>(
-    means: &Means<'_, J, R, S>,
-    before: &Before<J, N>,
-    seat: &mut Seat<J>,
+fn free_place<
+    J: Verdicts + Send + Sync,
+    T: Slotted<J> + Send + Sync,
+    N: Listener,
+    R: Threads + Wait,
+    S: Service<J>,
+    B: Bell,
+>(
+    means: &Means<'_, J, T, R, S>,
+    before: &Before<T, N>,
+    seat: &mut SeatOf<T>,
     net: &mut N,
-    running: &mut Running<J, N::Conn, S, B>,
+    running: &mut Running<J, T, N::Conn, S, B>,
 ) -> usize
-    requires goes { Goes J.right (S.talked B.rang) N.Conn.tells N.tells means.now before.now seat.old net.old running.old }
+    requires goes { Goes AnyHistory (S.talked B.rang) N.Conn.tells N.tells means.now before.now seat.old net.old running.old }
     requires some { 0 < vec_len running.old.places }
-    ensures goes { Goes J.right (S.talked B.rang) N.Conn.tells N.tells means.now before.now seat.new net.new running.new }
+    ensures goes { Goes AnyHistory (S.talked B.rang) N.Conn.tells N.tells means.now before.now seat.new net.new running.new }
     ensures given { seat.new.me.0.given ≡ seat.old.me.0.given }
     ensures faults { (N.tells net.new).faults ≡ (N.tells net.old).faults }
     ensures within { result < vec_len running.new.places }
@@ -234,25 +278,26 @@ pub(crate) fn take_links<
     's,
     E,
     J: Verdicts + Send + Sync,
+    T: Slotted<J> + Send + Sync,
     N: Listener,
     R: Threads + Wait + Sync,
     S: Service<J> + Sync,
     B: Bell + Sync,
 >(
-    means: &Means<'s, J, R, S>,
+    means: &Means<'s, J, T, R, S>,
     bell: &'s B,
     scope: &'s Scope<'s, E>,
-    before: &Before<J, N>,
-    seat: &mut Seat<J>,
+    before: &Before<T, N>,
+    seat: &mut SeatOf<T>,
     net: &mut N,
-    running: &mut Running<J, N::Conn, S, B>,
+    running: &mut Running<J, T, N::Conn, S, B>,
 ) -> Result<(), Failed>
 where
     N::Conn: Send + Drop + 's,
-    requires goes { Goes J.right (S.talked B.rang) N.Conn.tells N.tells means.now before.now seat.old net.old running.old }
+    requires goes { Goes AnyHistory (S.talked B.rang) N.Conn.tells N.tells means.now before.now seat.old net.old running.old }
     requires given { seat.old.me.0.given ≡ before.now.seat.value.me.0.given }
     requires may { MayTake means.now.limits running.old }
-    ensures goes { Goes J.right (S.talked B.rang) N.Conn.tells N.tells means.now before.now seat.new net.new running.new }
+    ensures goes { Goes AnyHistory (S.talked B.rang) N.Conn.tells N.tells means.now before.now seat.new net.new running.new }
     ensures came { CameSo result means.now.limits.connections seat.old.me.0.given seat.new.me.0.given (N.tells net.old).faults (N.tells net.new).faults }
 {
     for number in 0..means.limits.connections {
@@ -266,16 +311,23 @@ where
 }
 
 /// Joins all threads, and says how many links ended for want of memory.
-pub(crate) fn join_all<J: Verdicts + Send + Sync, N: Listener, R: Threads, S: Service<J>, B: Bell>(
-    means: &Means<'_, J, R, S>,
-    before: &Before<J, N>,
-    seat: &mut Seat<J>,
+pub(crate) fn join_all<
+    J: Verdicts + Send + Sync,
+    T: Slotted<J> + Send + Sync,
+    N: Listener,
+    R: Threads,
+    S: Service<J>,
+    B: Bell,
+>(
+    means: &Means<'_, J, T, R, S>,
+    before: &Before<T, N>,
+    seat: &mut SeatOf<T>,
     net: &mut N,
-    mut running: Running<J, N::Conn, S, B>,
+    mut running: Running<J, T, N::Conn, S, B>,
 ) -> u64
 where
     N::Conn: Drop,
-    requires goes { Goes J.right (S.talked B.rang) N.Conn.tells N.tells means.now before.now seat.old net.old running }
+    requires goes { Goes AnyHistory (S.talked B.rang) N.Conn.tells N.tells means.now before.now seat.old net.old running }
     ensures seat { IsSeatOf (desk_id means.now.desk.now) seat.new }
     ensures over { (o : LinksServed (S.talked B.rang) means.now.limits.servers (stand N.tells before.now.seat.value before.now.net.value) (stand N.tells seat.new net.new)) × (result ≡ short_of o.links) }
     ensures given { seat.new.me.0.given ≡ seat.old.me.0.given }

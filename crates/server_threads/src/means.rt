@@ -8,7 +8,7 @@ use crate::links::{Places, Running};
 use crate::service::Service;
 use crate::staff::Shifts;
 use crossbeam_channel::{Sender, bounded};
-use desk::Desk;
+use desk::{DeskOf, Slotted};
 use job_table::Verdicts;
 use os_io::{Link, Memory};
 use std::alloc::Global;
@@ -38,10 +38,10 @@ pub struct ServeLimits {
 
 /// What all threads use.
 #[derive(Drop)]
-pub(crate) struct Means<'s, J: Verdicts, R, S> {
+pub(crate) struct Means<'s, J: Verdicts, T: Slotted<J>, R, S> {
     pub(crate) rt: &'s R,
     pub(crate) alloc: Global,
-    pub(crate) desk: &'s Desk<J>,
+    pub(crate) desk: &'s DeskOf<J, T>,
     pub(crate) service: &'s S,
     pub(crate) naps: &'s Naps,
     /// Where a thread that served a link says, as its last act, which place becomes free.
@@ -53,17 +53,17 @@ pub(crate) struct Means<'s, J: Verdicts, R, S> {
 
 /// Room for the links that are served at once, and for the workers, with what wakes these.
 #[derive(Drop)]
-pub(crate) struct Room<J: Verdicts, L: Link, S: Service<J>> {
-    pub(crate) running: Running<J, L, S, Wake>,
-    pub(crate) shifts: Shifts<J, S>,
+pub(crate) struct Room<J: Verdicts, T: Slotted<J>, L: Link, S: Service<J>> {
+    pub(crate) running: Running<J, T, L, S, Wake>,
+    pub(crate) shifts: Shifts<J, T, S>,
     pub(crate) wake: Wake,
 }
 
 /// So many places, all of them free, with their numbers.
-fn free_places<J: Verdicts, L: Link + Drop, S: Service<J>>(
+fn free_places<J: Verdicts, T: Slotted<J>, L: Link + Drop, S: Service<J>>(
     alloc: Global,
     servers: usize,
-) -> Result<(Places<J, L, S, Wake>, Vec<usize>), Memory>
+) -> Result<(Places<J, T, L, S, Wake>, Vec<usize>), Memory>
     ensures { IfOk result (λ r. (taken r.0.items ≡ []) × (vec_len r.0 ≡ servers)) }
 {
     let mut places = Vec::with_capacity(alloc, servers)?;
@@ -75,12 +75,12 @@ fn free_places<J: Verdicts, L: Link + Drop, S: Service<J>>(
     Ok((places, free))
 }
 
-impl<J: Verdicts, L: Link + Drop, S: Service<J>> Room<J, L, S> {
+impl<J: Verdicts, T: Slotted<J>, L: Link + Drop, S: Service<J>> Room<J, T, L, S> {
     /// Takes as much room as is needed. What workers sleep on comes with it, and where threads of links say that they are over.
     pub(crate) fn new(
         alloc: Global,
         limits: &ServeLimits,
-    ) -> Result<(Room<J, L, S>, Naps, Sender<usize>), Memory>
+    ) -> Result<(Room<J, T, L, S>, Naps, Sender<usize>), Memory>
         requires { 0 < limits.now.servers }
         ensures { IfOk result (λ r. MayServe limits.now r.0) }
     {

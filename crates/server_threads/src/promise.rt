@@ -3,7 +3,7 @@
 ghost use Rattle.std.specs.Prelude.{◌≡◌};
 
 use crate::service::Service;
-use desk::Seat;
+use desk::{SeatOf, Slotted};
 use job_table::Verdicts;
 use os_io::Link;
 use std::marker::PhantomData;
@@ -22,16 +22,17 @@ pub(crate) struct Finished<S, L> {
 
 /// The promise to serve this link by moves of this seat.
 #[derive(Drop)]
-pub(crate) struct ToServe<J: Verdicts, L, S, B> {
-    pub(crate) seat: Snapshot<Seat<J>>,
+pub(crate) struct ToServe<J: Verdicts, T: Slotted<J>, L, S, B> {
+    pub(crate) seat: Snapshot<SeatOf<T>>,
     pub(crate) link: Snapshot<L>,
     pub(crate) service: PhantomData<S>,
     pub(crate) bell: PhantomData<B>,
+    pub(crate) verdicts: PhantomData<J>,
 }
 
-impl<J: Verdicts, L, S, B> ToServe<J, L, S, B> {
+impl<J: Verdicts, T: Slotted<J>, L, S, B> ToServe<J, T, L, S, B> {
     /// The promise of this seat and this link.
-    pub(crate) fn of(seat: &Seat<J>, link: &L) -> ToServe<J, L, S, B>
+    pub(crate) fn of(seat: &SeatOf<T>, link: &L) -> ToServe<J, T, L, S, B>
         ensures seat { result.seat.value ≡ seat.now }
         ensures link { result.link.value ≡ link.now }
     {
@@ -40,26 +41,28 @@ impl<J: Verdicts, L, S, B> ToServe<J, L, S, B> {
             link: Snapshot::of(link),
             service: PhantomData,
             bell: PhantomData,
+            verdicts: PhantomData,
         }
     }
 }
 
-impl<J: Verdicts, L: Link, S: Service<J>, B: Bell> Promise<Finished<Seat<J>, L>>
-    for ToServe<J, L, S, B> {
-    ghost use Rattle.server_threads.specs.Talks.{Acts};
+impl<J: Verdicts, T: Slotted<J>, L: Link, S: Service<J>, B: Bell> Promise<Finished<SeatOf<T>, L>>
+    for ToServe<J, T, L, S, B> {
+    ghost use Rattle.server_threads.specs.Talks.{Acts, AnyHistory};
 
-    ghost kept_by = { λ p r. Acts J.right (λ said. S.talked B.rang (L.tells p.link.value) said (L.tells r.link) r.short) p.seat.value r.seat };
+    ghost kept_by = { λ p r. Acts AnyHistory (λ said. S.talked B.rang (L.tells p.link.value) said (L.tells r.link) r.short) p.seat.value r.seat };
 }
 
 /// The promise to work on this seat.
 #[derive(Drop)]
-pub(crate) struct ToWork<J: Verdicts, S> {
-    pub(crate) seat: Snapshot<Seat<J>>,
+pub(crate) struct ToWork<J: Verdicts, T: Slotted<J>, S> {
+    pub(crate) seat: Snapshot<SeatOf<T>>,
     pub(crate) service: PhantomData<S>,
+    pub(crate) verdicts: PhantomData<J>,
 }
 
-impl<J: Verdicts, S: Service<J>> Promise<Seat<J>> for ToWork<J, S> {
-    ghost use Rattle.server_threads.specs.Talks.{Acts, IsShift};
+impl<J: Verdicts, T: Slotted<J>, S: Service<J>> Promise<SeatOf<T>> for ToWork<J, T, S> {
+    ghost use Rattle.server_threads.specs.Talks.{Acts, AnyHistory, IsShift};
 
-    ghost kept_by = { λ p r. Acts J.right (IsShift S.ran) p.seat.value r };
+    ghost kept_by = { λ p r. Acts AnyHistory (IsShift S.ran) p.seat.value r };
 }

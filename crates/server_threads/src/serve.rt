@@ -10,7 +10,7 @@ use crate::links::{Before, ending, join_all, take_links};
 use crate::means::{Means, Room, ServeFault, ServeLimits};
 use crate::service::Service;
 use crate::staff::{relieve, staff};
-use desk::{Desk, Seat};
+use desk::{DeskOf, SeatOf, Slotted};
 use job_table::Verdicts;
 use os_io::{Link, Listener};
 use std::alloc::Global;
@@ -25,16 +25,17 @@ fn serve_beside<
     's,
     E,
     J: Verdicts + Send + Sync,
+    T: Slotted<J> + Send + Sync,
     N: Listener,
     R: Threads + Wait + Sync,
     S: Service<J> + Sync,
 >(
-    means: &Means<'s, J, R, S>,
+    means: &Means<'s, J, T, R, S>,
     scope: &'s Scope<'s, E>,
-    mut seat: Seat<J>,
+    mut seat: SeatOf<T>,
     net: &mut N,
-    room: Room<J, N::Conn, S>,
-) -> (Seat<J>, Result<u64, ServeFault>)
+    room: Room<J, T, N::Conn, S>,
+) -> (SeatOf<T>, Result<u64, ServeFault>)
 where
     N::Conn: Send + Drop,
     requires seat { IsSeatOf (desk_id means.now.desk.now) seat }
@@ -54,7 +55,7 @@ where
     let (mut seat, net, served) = thread::scope(
         thread::scope_env(),
         means.rt,
-        move |scope| -> (Seat<J>, &mut N, Result<u64, ServeFault>)
+        move |scope| -> (SeatOf<T>, &mut N, Result<u64, ServeFault>)
             requires { IsSeatOf (desk_id means.now.desk.now) seat × (seat.me.0.number ≡ 0) × MayTake means.now.limits running }
             ensures { (result.1.ghost_name ≡ net.entry.ghost_name) × IsSeatOf (desk_id means.entry.now.desk.now) result.0 × HasServedLinks (S.talked Untold) N.tells means.entry.now.limits seat result.0 net.entry.now result.1.now result.2 }
         {
@@ -80,18 +81,19 @@ where
 pub fn serve_loop<
     's,
     J: Verdicts + Send + Sync,
+    T: Slotted<J> + Send + Sync,
     N: Listener,
     R: Threads + Wait + Sync,
     S: Service<J> + Sync,
 >(
     rt: &'s R,
     alloc: Global,
-    desk: &'s Desk<J>,
-    seat: Seat<J>,
+    desk: &'s DeskOf<J, T>,
+    seat: SeatOf<T>,
     net: &mut N,
     service: &'s S,
     limits: ServeLimits,
-) -> (Seat<J>, Result<u64, ServeFault>)
+) -> (SeatOf<T>, Result<u64, ServeFault>)
 where
     N::Conn: Send + Drop,
     requires seat { IsSeatOf (desk_id desk.now) seat }
@@ -118,7 +120,7 @@ where
     let (seat, lent, served) = thread::scope(
         thread::scope_env(),
         rt,
-        move |scope| -> (Seat<J>, &mut N, Result<u64, ServeFault>)
+        move |scope| -> (SeatOf<T>, &mut N, Result<u64, ServeFault>)
             requires { IsSeatOf (desk_id means.now.desk.now) seat × (seat.me.0.number ≡ 0) × MayServe means.now.limits room }
             ensures { (result.1.ghost_name ≡ lent.entry.ghost_name) × IsSeatOf (desk_id means.entry.now.desk.now) result.0 × HasServed S.ran (S.talked Untold) N.tells means.entry.now.limits seat result.0 lent.entry.now result.1.now result.2 }
         {

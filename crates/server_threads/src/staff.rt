@@ -5,15 +5,15 @@ ghost use Rattle.std.specs.VecDeque.{deque_len, deque_capacity};
 ghost use Rattle.desk.specs.declared.view.Met.{Met};
 ghost use Rattle.desk.specs.History.{StartsWith};
 ghost use Rattle.desk.specs.SeatMoves.{desk_id, IsSeatOf};
-ghost use Rattle.server_threads.specs.Talks.{Acts, IsShift};
+ghost use Rattle.server_threads.specs.Talks.{Acts, AnyHistory, IsShift};
 ghost use Rattle.server_threads.specs.Promises.{promise_of, Due};
 ghost use Rattle.server_threads.specs.OpenLinks.{Hired, Staffed, HaveLeft, worked_so};
 
 use crate::means::Means;
-use crate::places::Place;
+use crate::places::Started;
 use crate::promise::ToWork;
 use crate::service::Service;
-use desk::{Desk, Seat};
+use desk::{DeskOf, SeatOf, Slotted};
 use job_table::Verdicts;
 use std::alloc::Global;
 use std::collections::VecDeque;
@@ -26,21 +26,21 @@ use std::thread::{Scope, Threads};
 use workers::{Naps, OpenGate, work_loop};
 
 /// The workers that are at work, in the order in which they came.
-pub(crate) type Shifts<J, S> = VecDeque<Place<Seat<J>, ToWork<J, S>>>;
+pub(crate) type Shifts<J, T, S> = VecDeque<Started<SeatOf<T>, ToWork<J, T, S>>>;
 
 /// Works on this seat until the channel is closed and nothing waits. The worker that is missing does nothing.
-fn work_by<J: Verdicts, R: Wait, S: Service<J>>(
+fn work_by<J: Verdicts, T: Slotted<J>, R: Wait, S: Service<J>>(
     rt: &R,
     alloc: Global,
-    desk: &Desk<J>,
+    desk: &DeskOf<J, T>,
     naps: &Naps,
     missing: &AtomicU64,
     service: &S,
-    mut seat: Seat<J>,
+    mut seat: SeatOf<T>,
     number: u64,
-) -> Seat<J>
+) -> SeatOf<T>
     requires { IsSeatOf (desk_id desk.now) seat }
-    ensures { Acts J.right (IsShift S.ran) seat result }
+    ensures { Acts AnyHistory (IsShift S.ran) seat result }
 {
     if missing.load(SeqCst) == number {
         return seat;
@@ -50,15 +50,22 @@ fn work_by<J: Verdicts, R: Wait, S: Service<J>>(
 }
 
 /// Starts a worker. Where that can't be, it is missing, and its seat is here.
-fn hire<'s, E, J: Verdicts + Send + Sync, R: Threads + Wait + Sync, S: Service<J> + Sync>(
-    means: &Means<'s, J, R, S>,
+fn hire<
+    's,
+    E,
+    J: Verdicts + Send + Sync,
+    T: Slotted<J> + Send + Sync,
+    R: Threads + Wait + Sync,
+    S: Service<J> + Sync,
+>(
+    means: &Means<'s, J, T, R, S>,
     scope: &'s Scope<'s, E>,
-    seat: Seat<J>,
+    seat: SeatOf<T>,
     number: u64,
-) -> Place<Seat<J>, ToWork<J, S>>
+) -> Started<SeatOf<T>, ToWork<J, T, S>>
     requires { IsSeatOf (desk_id means.now.desk.now) seat }
     ensures seat { (promise_of result).seat.value ≡ seat }
-    ensures due { Due (worked_so J.right S.ran) result }
+    ensures due { Due (worked_so AnyHistory S.ran) result }
 {
     let Means {
         rt,
@@ -72,20 +79,22 @@ fn hire<'s, E, J: Verdicts + Send + Sync, R: Threads + Wait + Sync, S: Service<J
     let promise = ToWork {
         seat: Snapshot::of(&seat),
         service: PhantomData,
+        verdicts: PhantomData,
     };
     let again = ToWork {
         seat: Snapshot::of(&seat),
         service: PhantomData,
+        verdicts: PhantomData,
     };
-    let work = move || -> Seat<J>
+    let work = move || -> SeatOf<T>
         requires { IsSeatOf (desk_id desk.now) seat }
-        ensures { Acts J.right (IsShift S.ran) seat result }
+        ensures { Acts AnyHistory (IsShift S.ran) seat result }
     { work_by(rt, alloc, desk, naps, missing, service, seat, number) };
     match scope.spawn_with(promise, work) {
-        Ok(child) => Place::Thread(child),
+        Ok(child) => Started::Thread(child),
         Err(refused) => {
             missing.store(number, SeqCst);
-            Place::Here((refused.value)(), again)
+            Started::Here((refused.value)(), again)
         }
     }
 }
@@ -95,13 +104,14 @@ pub(crate) fn staff<
     's,
     E,
     J: Verdicts + Send + Sync,
+    T: Slotted<J> + Send + Sync,
     R: Threads + Wait + Sync,
     S: Service<J> + Sync,
 >(
-    means: &Means<'s, J, R, S>,
+    means: &Means<'s, J, T, R, S>,
     scope: &'s Scope<'s, E>,
-    first: &mut Seat<J>,
-    shifts: &mut Shifts<J, S>,
+    first: &mut SeatOf<T>,
+    shifts: &mut Shifts<J, T, S>,
 )
     requires seat { IsSeatOf (desk_id means.now.desk.now) first.old }
     requires first { first.old.me.0.number ≡ 0 }
@@ -109,7 +119,7 @@ pub(crate) fn staff<
     requires empty { deque_len shifts.old ≡ 0 }
     requires room { means.now.limits.workers ≤ deque_capacity shifts.old }
     ensures seat { IsSeatOf (desk_id means.now.desk.now) first.new }
-    ensures hired { Hired J.right S.ran (desk_id means.now.desk.now) first.old.me.0 first.new.me.0 means.now.limits.workers shifts.new.items }
+    ensures hired { Hired AnyHistory S.ran (desk_id means.now.desk.now) first.old.me.0 first.new.me.0 means.now.limits.workers shifts.new.items }
 {
     for number in 0..means.limits.workers {
         let seat = means.desk.split(first);
@@ -119,17 +129,17 @@ pub(crate) fn staff<
 }
 
 /// Joins the worker that came first, and takes its seat in.
-fn relieve_one<J: Verdicts + Send + Sync, R: Threads, S: Service<J>>(
-    means: &Means<'_, J, R, S>,
-    was: &Snapshot<Seat<J>>,
-    first: &mut Seat<J>,
-    shifts: &mut Shifts<J, S>,
+fn relieve_one<J: Verdicts + Send + Sync, T: Slotted<J> + Send + Sync, R: Threads, S: Service<J>>(
+    means: &Means<'_, J, T, R, S>,
+    was: &Snapshot<SeatOf<T>>,
+    first: &mut SeatOf<T>,
+    shifts: &mut Shifts<J, T, S>,
 )
     requires seat { IsSeatOf (desk_id means.now.desk.now) first.old }
     requires some { 0 < deque_len shifts.old }
-    requires staffed { (met : List Met) × Staffed J.right S.ran (desk_id means.now.desk.now) was.now.value.me.0 first.old.me.0 means.now.limits.workers met shifts.old.items }
+    requires staffed { (met : List Met) × Staffed AnyHistory S.ran (desk_id means.now.desk.now) was.now.value.me.0 first.old.me.0 means.now.limits.workers met shifts.old.items }
     ensures seat { IsSeatOf (desk_id means.now.desk.now) first.new }
-    ensures staffed { (met : List Met) → Staffed J.right S.ran (desk_id means.now.desk.now) was.now.value.me.0 first.old.me.0 means.now.limits.workers met shifts.old.items → Staffed J.right S.ran (desk_id means.now.desk.now) was.now.value.me.0 first.new.me.0 means.now.limits.workers met shifts.new.items }
+    ensures staffed { (met : List Met) → Staffed AnyHistory S.ran (desk_id means.now.desk.now) was.now.value.me.0 first.old.me.0 means.now.limits.workers met shifts.old.items → Staffed AnyHistory S.ran (desk_id means.now.desk.now) was.now.value.me.0 first.new.me.0 means.now.limits.workers met shifts.new.items }
     ensures seen { StartsWith first.new.me.0.seen first.old.me.0.seen }
     ensures one_fewer { deque_len shifts.new + 1 ≡ deque_len shifts.old }
 {
@@ -141,16 +151,21 @@ fn relieve_one<J: Verdicts + Send + Sync, R: Threads, S: Service<J>>(
 }
 
 /// Joins all workers, the one that came first before the others.
-pub(crate) fn relieve<J: Verdicts + Send + Sync, R: Threads, S: Service<J>>(
-    means: &Means<'_, J, R, S>,
-    was: &Snapshot<Seat<J>>,
-    first: &mut Seat<J>,
-    mut shifts: Shifts<J, S>,
+pub(crate) fn relieve<
+    J: Verdicts + Send + Sync,
+    T: Slotted<J> + Send + Sync,
+    R: Threads,
+    S: Service<J>,
+>(
+    means: &Means<'_, J, T, R, S>,
+    was: &Snapshot<SeatOf<T>>,
+    first: &mut SeatOf<T>,
+    mut shifts: Shifts<J, T, S>,
 )
     requires seat { IsSeatOf (desk_id means.now.desk.now) first.old }
-    requires staffed { (met : List Met) × Staffed J.right S.ran (desk_id means.now.desk.now) was.now.value.me.0 first.old.me.0 means.now.limits.workers met shifts.items }
+    requires staffed { (met : List Met) × Staffed AnyHistory S.ran (desk_id means.now.desk.now) was.now.value.me.0 first.old.me.0 means.now.limits.workers met shifts.items }
     ensures seat { IsSeatOf (desk_id means.now.desk.now) first.new }
-    ensures left { (met : List Met) → Staffed J.right S.ran (desk_id means.now.desk.now) was.now.value.me.0 first.old.me.0 means.now.limits.workers met shifts.items → HaveLeft S.ran was.now.value.me.0 first.new.me.0 means.now.limits.workers met }
+    ensures left { (met : List Met) → Staffed AnyHistory S.ran (desk_id means.now.desk.now) was.now.value.me.0 first.old.me.0 means.now.limits.workers met shifts.items → HaveLeft S.ran was.now.value.me.0 first.new.me.0 means.now.limits.workers met }
     ensures seen { StartsWith first.new.me.0.seen first.old.me.0.seen }
 {
     while shifts.len() > 0 {

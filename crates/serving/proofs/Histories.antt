@@ -166,7 +166,7 @@ module _ (kept : FirstFinishIsKept Right) (numbers : NumbersAreGivenOnce Right) 
       let given : v.given ≡ 1 = ap (λ (x : View). x.given) fresh in
       let before : w.mine ≡ [] = s.mine ∙ ap (λ (x : View). x.mine) fresh in
       let mine : entries_by 0 c.log ≡ by 0 own = c.mine ∙ asked.mine ∙ ap (λ (es : List SeatEntry). es ++ by w.number own) before ∙ ap (λ (n : ℕ). by n own) number in
-      let whole : c.log ≡ w.seen ++ by 0 own = whole_history Right w last own asked number stand known table c in
+      let whole : c.log ≡ w.seen ++ by 0 own = whole_history w last own asked number stand known c in
       let all : moves_in c.log ≡ moves_in w.seen ++ own = ap moves_in whole ∙ moves_then w.seen 0 own in
       let (mid, earlier, shift) = leads_split Right (moves_in w.seen) own table (subst (λ (es : List Said). Leads Right es table) all c.leads) in
       record {

@@ -1,5 +1,6 @@
 -- The moves of a conversation and those of a shift are orderly, and leave nothing in hand.
 use Rattle.std.proofs.Common.{◌≡◌, Bool, true, false, List, [], ◌∷◌, ◌++◌, Option, Some, None, refl, sym, ◌∙◌, ap, subst}
+use Rattle.effects.specs.declared.store.NotStored.{NotStored}
 use Rattle.job_table.specs.declared.job.Job.{Job}
 use Rattle.job_table.specs.declared.entries.TableMove.{TableMove}
 use Rattle.job_table.specs.declared.entries.TableMove.TheVariants.{Enter, Claim, Look, Finish, Enlist, Leave}
@@ -7,7 +8,7 @@ use Rattle.job_table.specs.declared.entries.Reply as replies
 use Rattle.job_table.specs.declared.entries.Reply.TheVariants as reply
 use Rattle.job_table.specs.History.{MoveEntry, entry_of_move, IsGiving}
 use Rattle.job_table.specs.Looks.{looks}
-use Rattle.job_runs.specs.Runs.{stop_if, IsJobRun}
+use Rattle.job_runs.specs.Runs.{stop_if, IsJobRun, end_reply}
 use Rattle.workers.specs.Shifts.{WorkOff, WorksThrough}
 use Rattle.job_runs.proofs.Judgements.{Made}
 use Rattle.os_server.proofs.Pieces.{is_plain, Builds, works_so}
@@ -74,9 +75,9 @@ looks_leave j told (false ∷ answers) = looks_leave j told answers
 
 module _ (made : Made) where
   -- the run of the job in hand
-  run_orderly : (j : Job) (run : List MoveEntry) → IsJobRun made j run → IsOrderly (Some (hand j false)) run × (in_hand_after (Some (hand j false)) run ≡ None)
-  run_orderly j run r =
-      let finish : MoveEntry = entry_of_move (Finish j r.asked r.document) (reply.Finish r.end) in
+  run_orderly : (j : Job) (fault : Option NotStored) (run : List MoveEntry) → IsJobRun made j fault run → IsOrderly (Some (hand j false)) run × (in_hand_after (Some (hand j false)) run ≡ None)
+  run_orderly j fault run r =
+      let finish : MoveEntry = entry_of_move (Finish j r.asked r.document) (end_reply fault r.end) in
       let told : r.asked ≡ true → told_after false r.answers ≡ true =
       λ asked. ap (λ (l : List Bool). told_after false l) r.looked.are ∙ told_if r.asked r.looked.before asked in
       let left = looks_leave j false r.answers in
@@ -85,10 +86,10 @@ module _ (made : Made) where
       subst (λ (es : List MoveEntry). IsOrderly (Some (hand j false)) es × (in_hand_after (Some (hand j false)) es ≡ None)) (sym r.are)
       (orderly_then (Some (hand j false)) (looks j.number r.answers) (finish ∷ []) (looks_orderly j false r.answers) ends, in_hand_then (Some (hand j false)) (looks j.number r.answers) (finish ∷ []))
 
-  given_neat : (j : Job) (move : TableMove) (run : List MoveEntry) → IsGiving move → IsJobRun made j run → IsNeat (entry_of_move move (reply.Gave (Some j)) ∷ run)
-  given_neat j (Enter o p) run giving is = let r = run_orderly j run is in ((tt, r.0), r.1)
-  given_neat j (Claim worker) run giving is = let r = run_orderly j run is in ((tt, r.0), r.1)
-  given_neat j move run giving is = absurd giving
+  given_neat : (j : Job) (move : TableMove) (fault : Option NotStored) (run : List MoveEntry) → IsGiving move → IsJobRun made j fault run → IsNeat (entry_of_move move (reply.Gave (Some j)) ∷ run)
+  given_neat j (Enter o p) fault run giving is = let r = run_orderly j fault run is in ((tt, r.0), r.1)
+  given_neat j (Claim worker) fault run giving is = let r = run_orderly j fault run is in ((tt, r.0), r.1)
+  given_neat j move fault run giving is = absurd giving
 
   pub neat : Builds made IsNeat
   neat = record { none = (tt, refl); both = neat_then; plain = plain_neat; given = given_neat }

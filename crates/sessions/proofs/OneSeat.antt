@@ -5,13 +5,13 @@ use Rattle.os_io.specs.Streams.{Tells}
 use Rattle.job_table.specs.Jobs.{Register, beginning}
 use Rattle.job_table.specs.History.{MoveEntry, LeadsStepwise, LeadsTo}
 use Rattle.job_table.proofs.Histories.{first_led}
-use Rattle.desk.specs.declared.view.Met.{Met}
 use Rattle.desk.specs.declared.view.View.{View}
-use Rattle.desk.specs.History.{moves_in, entries_by}
+use Rattle.desk.specs.declared.view.SeatEntry.{SeatEntry}
+use Rattle.desk.specs.History.{entries_by, by}
 use Rattle.desk.specs.Rule.{first_view, HasMet}
-use Rattle.desk.specs.SeatMoves.{Closes}
-use Rattle.desk.specs.SeatHistory.{Asked}
-use Rattle.desk.proofs.WholeHistory.{moves_then, whole_history}
+use Rattle.desk.specs.SeatMoves.{Closes, ClosesBy}
+use Rattle.desk.specs.SeatHistory.{Asked, AskedBy}
+use Rattle.desk.proofs.WholeHistory.{moves_by_one, whole_history}
 use Rattle.os_server.specs.declared.serve.Served.{Served}
 use Rattle.os_server.specs.Laws.{ConversationsAreKept}
 use Rattle.os_server.specs.Talk.{ServesWhole}
@@ -23,15 +23,18 @@ use Rattle.sessions.specs.Sessions.{ServesAlone, IsSession}
 
 -- ---- a new desk
 
-module _ (first v : View) (fresh : first ≡ first_view) (said : List MoveEntry) (asked : Asked Right first v said) where
-  -- its history is these moves
-  pub closed_runs : (table : Register) → Closes Right v table → table.first ≡ 1 → LeadsStepwise Right (beginning 1) said table
-  closed_runs table c begins =
-      let stand : entries_by first.number first.seen ≡ first.mine = subst (λ (f : View). entries_by f.number f.seen ≡ f.mine) (sym fresh) refl in
-      let known : HasMet first.seen first.met = subst (λ (f : View). HasMet f.seen f.met) (sym fresh) (λ i m there. absurd (some-ne-none m (sym there))) in
-      let log : c.log ≡ _ = whole_history Right first v said asked (ap (λ (f : View). f.number) fresh) stand known table c in
-      let are : moves_in c.log ≡ said = ap moves_in log ∙ moves_then first.seen 0 said ∙ ap (λ (f : View). moves_in f.seen ++ said) fresh in
-      subst (λ (z : ℕ × List MoveEntry). LeadsStepwise Right (beginning z.0) z.1 table) (λ i. (begins i, are i)) c.leads
+-- the history of one that a single seat made moves of is these moves, whatever lies in its slot
+pub closed_with_all : {is_legal makes : List SeatEntry → Type 0} (first v : View) → first ≡ first_view → (said : List MoveEntry) → AskedBy is_legal first v said → ClosesBy makes v → makes (by 0 said)
+closed_with_all {is_legal} {makes} first v fresh said asked c =
+    let stand : entries_by first.number first.seen ≡ first.mine = subst (λ (f : View). entries_by f.number f.seen ≡ f.mine) (sym fresh) refl in
+    let known : HasMet first.seen first.met = subst (λ (f : View). HasMet f.seen f.met) (sym fresh) (λ i m there. absurd (some-ne-none m (sym there))) in
+    subst makes (whole_history first v said asked (ap (λ (f : View). f.number) fresh) stand known c ∙ ap (λ (f : View). f.seen ++ by 0 said) fresh) c.leads
+
+-- so its table is the one after these moves, where a table alone lies there
+pub closed_runs : (first v : View) → first ≡ first_view → (said : List MoveEntry) → Asked Right first v said → (table : Register) → Closes Right v table → table.first ≡ 1
+    → LeadsStepwise Right (beginning 1) said table
+closed_runs first v fresh said asked table c begins =
+    subst (λ (z : ℕ × List MoveEntry). LeadsStepwise Right (beginning z.0) z.1 table) (λ i. (begins i, moves_by_one 0 said i)) (closed_with_all first v fresh said asked c)
 
 -- a conversation by moves of a new desk, which was closed
 pub served_alone : (did : List MoveEntry → Type 0) (end : Served) (old new : Tells) (table : Register) → (s : ServesWhole Makes WakesNobody did end old new)

@@ -1,7 +1,6 @@
 -- One move, with the gate before it.
 use Rattle.std.proofs.Common.{◌≡◌, ℕ, true, false, List, Option, Some, None, sym, ◌∙◌, ap, subst, append-nil, IsSome}
 use Rattle.job_table.specs.declared.entries.TableMove.{TableMove}
-use Rattle.job_table.specs.declared.entries.TableMove.TheVariants as asks
 use Rattle.job_table.specs.declared.entries.Reply.{Reply}
 use Rattle.job_table.specs.declared.moves.MoveKind.{MoveKind}
 use Rattle.job_table.specs.Steps.{move_kind}

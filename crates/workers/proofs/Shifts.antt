@@ -7,7 +7,7 @@ use Rattle.job_table.specs.declared.job.Phase.TheVariants.{Issued, Waiting, Runn
 use Rattle.job_table.specs.declared.entries.TableMove.TheVariants.{Claim, Leave}
 use Rattle.job_table.specs.declared.entries.Reply.TheVariants as reply
 use Rattle.job_table.specs.Jobs.{HeldJobs, Register, job, is_waiting, or_waiting, first_waiting, waiting_jobs}
-use Rattle.job_table.specs.Steps.{Step, MoveOutcome, outcome, claims}
+use Rattle.job_table.specs.Steps.{MoveOutcome, outcome, claims}
 use Rattle.job_table.specs.History.{MoveEntry, entry_of_move, LeadsStepwise}
 use Rattle.job_table.proofs.Histories.{runs_split}
 use Rattle.workers.specs.Shifts.{WorksUntilNone, WorksThrough}

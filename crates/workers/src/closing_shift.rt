@@ -2,12 +2,12 @@
 
 ghost use Rattle.std.specs.Prelude.{List};
 ghost use Rattle.job_table.specs.History.{MoveEntry};
-ghost use Rattle.desk.specs.SeatMoves.{desk_id, IsSeatOf};
-ghost use Rattle.desk.specs.SeatHistory.{Asked};
+ghost use Rattle.desk.specs.SeatMoves.{desk_id, told_of, IsSeatOf};
+ghost use Rattle.desk.specs.SeatHistory.{AskedBy};
 ghost use Rattle.workers.specs.Shifts.{WorksThrough};
 
 use crate::work::work_off;
-use desk::{Desk, LentSeat, Seat};
+use desk::{DeskOf, LentSeatOf, SeatOf, Slotted};
 use job_runs::Runner;
 use job_table::{Mover, Verdicts};
 use std::alloc::Global;
@@ -15,20 +15,20 @@ use std::sync::Wait;
 
 /// Works one shift without sleeping, by moves of this seat: it enlists, claims and runs until a claim gives none, and leaves. Where
 /// nobody else makes moves any more, no job waits behind it.
-pub fn work_closing_shift<J: Verdicts, R: Wait, U: Runner<J>>(
+pub fn work_closing_shift<J: Verdicts, T: Slotted<J>, R: Wait, U: Runner<J>>(
     rt: &R,
     alloc: Global,
-    desk: &Desk<J>,
-    seat: &mut Seat<J>,
+    desk: &DeskOf<J, T>,
+    seat: &mut SeatOf<T>,
     runner: &U,
 )
     requires { IsSeatOf (desk_id desk.now) seat.old }
     ensures seat { IsSeatOf (desk_id desk.now) seat.new }
-    ensures worked { (own : List MoveEntry) × Asked J.right seat.old.me.0 seat.new.me.0 own × WorksThrough U.ran own }
+    ensures worked { (own : List MoveEntry) × AskedBy (T.legal (told_of desk.now)) seat.old.me.0 seat.new.me.0 own × WorksThrough U.ran own }
 {
-    let mut mover = LentSeat { rt, desk, seat };
+    let mut mover = LentSeatOf { rt, desk, seat };
     work_shift(rt, alloc, &mut mover, runner);
-    let LentSeat {
+    let LentSeatOf {
         rt: _,
         desk: _,
         seat: _seat,

@@ -4,7 +4,8 @@ ghost use Rattle.std.specs.Prelude.{◌≡◌};
 ghost use Rattle.workers.specs.Gates.{looks_with, look_number};
 
 use desk::LentSeat;
-use job_table::moves::{Move, MoveKind};
+use effects::NotStored;
+use job_table::moves::{Move, MoveKind, is_answered};
 use job_table::{Mover, MoverWatch, Verdicts};
 use std::marker::PhantomData;
 
@@ -82,12 +83,12 @@ impl<'a, V: Verdicts, C: Mover<V>, G: Gate> Mover<V> for Gated<'a, V, C, G> {
 
     ghost left = { λ x r. C.left x.mover r };
 
-    fn make<M: Move<V>>(&mut self, step: M) -> M::Answer {
+    fn make<M: Move<V>>(&mut self, step: M) -> Result<M::Answer, NotStored> {
         let kind = step.kind();
         let looks = count_with(self.looks, kind);
         pass_before(&mut *self.gate, looks, kind);
         let answer = self.mover.make(step);
-        if M::is_made(&answer) {
+        if is_answered::<V, M>(&answer) {
             self.looks = looks;
         }
         answer

@@ -4,14 +4,14 @@ ghost use Rattle.std.specs.Prelude.{◌≡◌, List, IsTrue, ◌↔◌, IsSome, 
 ghost use Rattle.job_table.specs.declared.job.Job.{Job};
 ghost use Rattle.job_table.specs.History.{MoveEntry};
 ghost use Rattle.job_runs.specs.Runs.{Works};
-ghost use Rattle.desk.specs.SeatMoves.{desk_id, IsSeatOf};
-ghost use Rattle.desk.specs.SeatHistory.{Asked};
+ghost use Rattle.desk.specs.SeatMoves.{desk_id, told_of, IsSeatOf};
+ghost use Rattle.desk.specs.SeatHistory.{AskedBy};
 ghost use Rattle.workers.specs.Shifts.{WorksUntilNone, WorksThrough};
 ghost use Rattle.workers.specs.Gates.{look_numbers};
 
 use crate::gate::{Gate, Gated};
 use crate::wake::Naps;
-use desk::{Desk, LentSeat, Seat};
+use desk::{DeskOf, LentSeatOf, SeatOf, Slotted};
 use job_runs::Runner;
 use job_table::{Mover, Verdicts};
 use std::alloc::Global;
@@ -19,20 +19,20 @@ use std::marker::PhantomData;
 use std::sync::Wait;
 
 /// Claims one job that waits, runs it and finishes it, by moves of this seat. False exactly where the claim gave none.
-pub fn work_one_by_seat<J: Verdicts, R: Wait, U: Runner<J>, G: Gate>(
+pub fn work_one_by_seat<J: Verdicts, T: Slotted<J>, R: Wait, U: Runner<J>, G: Gate>(
     rt: &R,
     alloc: Global,
-    desk: &Desk<J>,
-    seat: &mut Seat<J>,
+    desk: &DeskOf<J, T>,
+    seat: &mut SeatOf<T>,
     runner: &U,
     as_worker: bool,
     gate: &mut G,
 ) -> bool
     requires { IsSeatOf (desk_id desk.now) seat.old }
     ensures seat { IsSeatOf (desk_id desk.now) seat.new }
-    ensures worked { (given : Option Job) × (own : List MoveEntry) × Asked J.right seat.old.me.0 seat.new.me.0 own × Works U.ran as_worker given own × (IsTrue result ↔ IsSome given) × G.passed gate.old gate.new (look_numbers 0 own) }
+    ensures worked { (given : Option Job) × (own : List MoveEntry) × AskedBy (T.legal (told_of desk.now)) seat.old.me.0 seat.new.me.0 own × Works U.ran as_worker given own × (IsTrue result ↔ IsSome given) × G.passed gate.old gate.new (look_numbers 0 own) }
 {
-    let mover = LentSeat { rt, desk, seat };
+    let mover = LentSeatOf { rt, desk, seat };
     let mut gated = Gated {
         mover,
         gate,
@@ -46,7 +46,7 @@ pub fn work_one_by_seat<J: Verdicts, R: Wait, U: Runner<J>, G: Gate>(
         looks: _,
         verdicts: _,
     } = gated;
-    let LentSeat {
+    let LentSeatOf {
         rt: _,
         desk: _,
         seat: _seat,
@@ -56,20 +56,20 @@ pub fn work_one_by_seat<J: Verdicts, R: Wait, U: Runner<J>, G: Gate>(
 
 /// Works as one of the desk's workers: it enlists, works until nothing waits, sleeps until a token comes, and leaves when the
 /// channel is closed and nothing waits.
-pub fn work_loop<J: Verdicts, R: Wait, U: Runner<J>, G: Gate>(
+pub fn work_loop<J: Verdicts, T: Slotted<J>, R: Wait, U: Runner<J>, G: Gate>(
     rt: &R,
     alloc: Global,
-    desk: &Desk<J>,
-    seat: &mut Seat<J>,
+    desk: &DeskOf<J, T>,
+    seat: &mut SeatOf<T>,
     naps: &Naps,
     runner: &U,
     gate: &mut G,
 )
     requires { IsSeatOf (desk_id desk.now) seat.old }
     ensures seat { IsSeatOf (desk_id desk.now) seat.new }
-    ensures worked { (own : List MoveEntry) × Asked J.right seat.old.me.0 seat.new.me.0 own × WorksThrough U.ran own × G.passed gate.old gate.new (look_numbers 0 own) }
+    ensures worked { (own : List MoveEntry) × AskedBy (T.legal (told_of desk.now)) seat.old.me.0 seat.new.me.0 own × WorksThrough U.ran own × G.passed gate.old gate.new (look_numbers 0 own) }
 {
-    let mover = LentSeat { rt, desk, seat };
+    let mover = LentSeatOf { rt, desk, seat };
     let mut gated = Gated {
         mover,
         gate,
@@ -83,7 +83,7 @@ pub fn work_loop<J: Verdicts, R: Wait, U: Runner<J>, G: Gate>(
         looks: _,
         verdicts: _,
     } = gated;
-    let LentSeat {
+    let LentSeatOf {
         rt: _,
         desk: _,
         seat: _seat,

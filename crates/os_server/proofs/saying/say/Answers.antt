@@ -1,5 +1,6 @@
-use Rattle.std.proofs.Common.{◌∙◌, sym, ap}
-use Rattle.os_server.specs.Answers.{said_by, reply_of, returns}
+use Rattle.std.proofs.Common.{◌∙◌, Some, sym, ap}
+use Rattle.os_server.specs.declared.fault.FaultCode.TheVariants as codes_of
+use Rattle.os_server.specs.Answers.{said_by, fault_said, reply_of, returns}
 use Rattle.os_server.proofs.Replies.{said_as, returned_as}
 use Rattle.os_server.proofs.saying.say.Goals as goal
 
@@ -11,6 +12,12 @@ pub returns-in-Spent : goal.returns-in-Spent
 returns-in-Spent c =
     said_as c.args.kind c.args.number (reply_of c.args.last.now) _ c.said_fault-in-Spent.result (ap (λ last. said_by c.args.kind c.args.number (reply_of last)) c.in-Spent.is)
     c.said_fault-in-Spent.ensures
+
+pub returns-in-NotStored : goal.returns-in-NotStored
+returns-in-NotStored c =
+    said_as c.args.kind c.args.number (reply_of c.args.last.now) _ c.said_fault-in-NotStored.result
+    (ap (λ last. said_by c.args.kind c.args.number (reply_of last)) c.in-NotStored.is ∙ ap (λ text. Some (fault_said codes_of.Disk text)) (sym c.why.ensures))
+    c.said_fault-in-NotStored.ensures
 
 pub returns-in_ok-text-in-Killing : goal.returns-in_ok-text-in-Killing
 returns-in_ok-text-in-Killing c =

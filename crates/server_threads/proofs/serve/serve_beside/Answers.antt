@@ -10,14 +10,14 @@ use Rattle.server_threads.proofs.serve.serve_beside.Goals as goal
 pub relieve-requires-clause-staffed : goal.relieve-requires-clause-staffed
 relieve-requires-clause-staffed g c κs within =
     let o = c.scoped-seat.ensures.1.2.0 in
-    let is = ap (λ (seat : DeskSeat g.row.J.Denot). seat.me.0) c.of-was.ensures in
+    let is = ap (λ (seat : DeskSeat g.row.T.Denot). seat.me.0) c.of-was.ensures in
     (map talk_met o.returned, staffed_begins _ _ _ _ _ _ _ _ _ _ o is c.staff.ensures.hired)
 
 pub returns-clause-served : goal.returns-clause-served
 returns-clause-served g c =
     let limits = c.args.means.now.limits in
     let o = c.scoped-seat.ensures.1.2.0 in
-    let is = ap (λ (seat : DeskSeat g.row.J.Denot). seat.me.0) c.of-was.ensures in
+    let is = ap (λ (seat : DeskSeat g.row.T.Denot). seat.me.0) c.of-was.ensures in
     let s = staffed_begins _ _ _ _ _ _ _ _ _ _ o is c.staff.ensures.hired in
     subst (λ (net : g.row.N.Denot). HasServed g.S.Runner.ran (g.S.Service.talked Untold) g.N.Listener.tells limits c.args.seat c.relieve.new.first c.args.net.now net c.scoped-seat.result.2) (search rules) (
       o.links,
@@ -32,8 +32,10 @@ scoped-seat-requires g c =
         (c.staff.ensures.seat, c.staff.ensures.hired.keeps.first, c.requires.room.may),
         (
           param_send _ _ (arg_send _ no _ bounds.send-J),
+          param_send _ _ (arg_send _ no _ bounds.send-T),
           param_send _ _ (arg_send _ no _ bounds.send-N-Conn),
           record { shared = bounds.sync-J.shared },
+          record { shared = bounds.sync-T.shared },
           record { shared = bounds.sync-R.shared },
           record { shared = bounds.sync-S.shared },
         ),

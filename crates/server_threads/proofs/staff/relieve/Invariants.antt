@@ -4,13 +4,14 @@ use Rattle.desk.specs.declared.view.Met.{Met}
 use Rattle.desk.specs.History.{StartsWith}
 use Rattle.desk.specs.SeatMoves.{desk_id, IsSeatOf}
 use Rattle.server_threads.specs.OpenLinks.{Staffed}
+use Rattle.server_threads.specs.Talks.{AnyHistory}
 use Rattle.server_threads.proofs.staff.relieve.Given as goal
 
 abbrev pub invariant-loop-first : goal.invariant-loop-first
 invariant-loop-first g l = record {
   seat : IsSeatOf (desk_id l.means.desk.now) l.first;
-  some : (met : List Met) × Staffed g.J.Verdicts.right g.S.Runner.ran (desk_id l.means.desk.now) l.was.value.me.0 l.first.me.0 l.means.limits.workers met l.shifts.items;
-  all : (met : List Met) → Staffed g.J.Verdicts.right g.S.Runner.ran (desk_id l.means.desk.now) l.was.value.me.0 l.fn.first.me.0 l.means.limits.workers met l.fn.shifts.items → Staffed g.J.Verdicts.right g.S.Runner.ran (desk_id l.means.desk.now) l.was.value.me.0 l.first.me.0 l.means.limits.workers met l.shifts.items;
+  some : (met : List Met) × Staffed AnyHistory g.S.Runner.ran (desk_id l.means.desk.now) l.was.value.me.0 l.first.me.0 l.means.limits.workers met l.shifts.items;
+  all : (met : List Met) → Staffed AnyHistory g.S.Runner.ran (desk_id l.means.desk.now) l.was.value.me.0 l.fn.first.me.0 l.means.limits.workers met l.fn.shifts.items → Staffed AnyHistory g.S.Runner.ran (desk_id l.means.desk.now) l.was.value.me.0 l.first.me.0 l.means.limits.workers met l.shifts.items;
   seen : StartsWith l.first.me.0.seen l.fn.first.me.0.seen;
 }
 

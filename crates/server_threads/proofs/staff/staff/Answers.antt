@@ -20,8 +20,8 @@ loop-number-preserved g c =
     let long = before.long in
     let room = before.room in record {
       seat = s.seat.0;
-      hired = hired_more _ _ _ _ _ _ _ _ _ c.hire-place.result before.hired s.seat.1 (ap (λ (seat : DeskSeat g.row.J.Denot). seat.table_id) p.seat ∙ s.new.0.desk_is)
-          (ap (λ (seat : DeskSeat g.row.J.Denot). seat.me.0) p.seat ∙ s.new.1) p.due q.items;
+      hired = hired_more _ _ _ _ _ _ _ _ _ c.hire-place.result before.hired s.seat.1 (ap (λ (seat : DeskSeat g.row.T.Denot). seat.table_id) p.seat ∙ s.new.0.desk_is)
+          (ap (λ (seat : DeskSeat g.row.T.Denot). seat.me.0) p.seat ∙ s.new.1) p.due q.items;
       long = omega (arith, q.len);
       room = omega (arith, q.capacity);
     }

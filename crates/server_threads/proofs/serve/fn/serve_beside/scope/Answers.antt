@@ -7,7 +7,7 @@ use Rattle.server_threads.proofs.serve.fn.serve_beside.scope.Goals as goal
 pub take_links-came-requires-clause-goes : goal.take_links-came-requires-clause-goes
 take_links-came-requires-clause-goes g c κs within = record {
   seat_is = c.requires.0;
-  few = let same = ap (λ (s : DeskSeat g.row.J.Denot). s.me.0.given) c.of-before.ensures.seat in omega arith;
+  few = let same = ap (λ (s : DeskSeat g.row.T.Denot). s.me.0.given) c.of-before.ensures.seat in omega arith;
   going = going_begins _ _ _ _ _ _ _ _ _ (λ i. stand g.N.Listener.tells (c.of-before.ensures.seat i) (c.of-before.ensures.net i)) c.requires.1 c.requires.2.fresh c.requires.2.none;
 }
 

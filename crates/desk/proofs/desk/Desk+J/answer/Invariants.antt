@@ -1,6 +1,0 @@
-use Rattle.desk.specs.SeatMoves.{reply_in}
-use Rattle.desk.proofs.desk.Desk+J.answer.Given as goal
-
--- the move that was made, with its answer
-abbrev pub ghosts-pass_on : goal.ghosts-pass_on
-ghosts-pass_on g a = record { table_move = g.M.Move.table_move a._asked.value; reply = reply_in (g.M.Move.said a._answer.now) }
