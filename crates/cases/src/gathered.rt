@@ -55,7 +55,7 @@ pub fn gather<F: Files>(alloc: Global, name: &str, files: &mut F) -> io::Result<
     Ok(gathered.rows)
 }
 
-/// Goes through the table in the file of this name with these answers.
+/// Goes through the table in the file of this name with these answers, and prints each that is another.
 pub fn compare<R: fs::Files + Print + AllocGlobal>(
     tables: &mut Tables<'_, R>,
     name: &str,

@@ -27,7 +27,7 @@ pub fn repeated(
     Ok(text)
 }
 
-/// The bytes of the file with this name, or none where it can't be read.
+/// The bytes of the file with this name, or the empty text where it can't be read.
 pub fn bytes_of<F: Files>(alloc: Global, files: &mut F, name: &[u8]) -> Result<Text, Memory> {
     let Ok(name) = str::from_utf8(name) else {
         return Ok(Text::new(alloc));

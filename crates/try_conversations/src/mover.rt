@@ -1,4 +1,5 @@
 //! One who makes moves of a table of jobs, beside whom another connection may be served.
+use effects::NotStored;
 use job_solver::{SolvedJobs, Solver};
 use job_table::moves::Move;
 use job_table::{IssueFault, Job, Mover, Statistics, Table, Twin};
@@ -82,33 +83,23 @@ impl Mover<SolvedJobs> for CountingMover {
 
     ghost left = { λ _ _. Unit {0} };
 
-    fn make<M: Move<SolvedJobs>>(&mut self, step: M) -> M::Answer {
+    fn make<M: Move<SolvedJobs>>(&mut self, step: M) -> Result<M::Answer, NotStored> {
         self.begin_move();
-        step.make(&mut self.table)
+        Ok(step.make(&mut self.table))
     }
 
-    fn issue(&mut self) -> Result<u64, IssueFault> {
+    fn issue(&mut self) -> Result<Result<u64, IssueFault>, NotStored> {
         if self.begin_move() {
-            return Err(IssueFault::Memory);
+            return Ok(Err(IssueFault::Memory));
         }
-        match self.table.issue() {
-            Ok(given) => Ok(given),
-            Err(IssueFault::Full) => Err(IssueFault::Full),
-            Err(IssueFault::Spent) => Err(IssueFault::Spent),
-            Err(IssueFault::Memory) => Err(IssueFault::Memory),
-        }
+        Ok(self.table.issue())
     }
 
-    fn enter(&mut self, osil: Twin, osol: Twin) -> Result<Job, IssueFault> {
+    fn enter(&mut self, osil: Twin, osol: Twin) -> Result<Result<Job, IssueFault>, NotStored> {
         if self.begin_move() {
-            return Err(IssueFault::Memory);
+            return Ok(Err(IssueFault::Memory));
         }
-        match self.table.enter(osil, osol) {
-            Ok(given) => Ok(given),
-            Err(IssueFault::Full) => Err(IssueFault::Full),
-            Err(IssueFault::Spent) => Err(IssueFault::Spent),
-            Err(IssueFault::Memory) => Err(IssueFault::Memory),
-        }
+        Ok(self.table.enter(osil, osol))
     }
 
     fn knock(&mut self) -> Result<Statistics, Memory> {

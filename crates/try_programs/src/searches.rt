@@ -19,7 +19,7 @@ use std::sync::ledger::{Blank, Ledger};
 use tableaus::put_count;
 use telling::put_claim;
 
-/// Given the rows, their ends, the variables, the goal, the costs, and the limits with the looks that stop.
+/// Given the rows, their ends, the variables, the goals, their costs, and the limits with the looks that stop.
 #[derive(Drop)]
 pub(crate) struct Searches;
 
@@ -59,6 +59,7 @@ fn tell<L: Ledger>(alloc: Global, case: Case, blank: Blank) -> Result<Text, Memo
         &case.instance,
         case.nodes,
         case.turns,
+        case.rounds,
         &mut watch,
         &mut steps,
     );

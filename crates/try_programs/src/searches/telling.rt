@@ -1,4 +1,4 @@
-// Claims as texts.
+//! Claims as texts.
 use certificate::{Cause, Cert, Certs, Claim, Mults, Node, Values};
 use decimal_text::write_ratio;
 use fraction::Frac;
@@ -48,7 +48,6 @@ fn put_node(text: &mut Text, node: &Node) -> Result<(), Memory> {
 }
 
 fn put_cert(text: &mut Text, cert: &Cert) -> Result<(), Memory> {
-    text.extend(b" by")?;
     for round in cert.rounds.as_slice() {
         text.extend(b" (")?;
         put_mults(text, b"round", round)?;
@@ -62,9 +61,17 @@ fn put_cert(text: &mut Text, cert: &Cert) -> Result<(), Memory> {
     Ok(())
 }
 
+/// Puts the certificates of levels, with the number of each but the first.
 fn put_certs(text: &mut Text, certs: &Certs) -> Result<(), Memory> {
-    for cert in certs.as_slice() {
-        put_cert(text, cert)?;
+    let certs = certs.as_slice();
+    for k in 0..certs.len() {
+        if k == 0 {
+            text.extend(b" by")?;
+        } else {
+            text.extend(b" level ")?;
+            put_count(text, k as u64 + 1)?;
+        }
+        put_cert(text, &certs[k])?;
     }
     Ok(())
 }
@@ -111,7 +118,7 @@ pub fn put_claim(text: &mut Text, claim: &Claim) -> Result<(), Memory> {
             put_certs(text, certs)
         }
         Claim::Infeasible { cert } => {
-            text.extend(b"infeasible")?;
+            text.extend(b"infeasible by")?;
             put_cert(text, cert)
         }
         Claim::Unbounded {

@@ -1,11 +1,13 @@
-// Cases as texts.
+//! Cases as texts.
+ghost use Rattle.std.specs.Prelude.{◌≡◌, []};
+
 use instance::Instance;
 use os_io::Memory;
 use simplex::{Cuts, Ends, Turns};
 use std::alloc::Global;
 use tableaus::{read_column, read_counts, read_program, read_var};
 
-/// A linear program with cuts, and how it is run.
+/// A linear program with cuts of its variables' ends, and how it is run.
 #[derive(Drop)]
 pub struct Case {
     pub instance: Instance,
@@ -13,6 +15,8 @@ pub struct Case {
     pub zero_goal: bool,
     pub turns: Turns,
     pub stops: Vec<u64>,
+    ghost rows: { cuts.rows ≡ [] },
+    ghost goal: { cuts.goal ≡ 0 },
 }
 
 /// The ends of a variable.
@@ -32,21 +36,32 @@ fn read_cut(text: &[u8]) -> Option<(u32, Ends)> {
     Some((j, read_ends(ends.get(1..)?)?))
 }
 
+/// Puts a cut in place of a variable's ends: whether it is one.
+fn cut_one(cuts: &mut Cuts, text: &[u8]) -> bool
+    ensures rows { cuts.new.rows ≡ cuts.old.rows }
+    ensures goal { cuts.new.goal ≡ cuts.old.goal }
+{
+    let Some((j, ends)) = read_cut(text) else {
+        return false;
+    };
+    if (j as usize) >= cuts.len() {
+        return false;
+    }
+    cuts.set(j, ends);
+    true
+}
+
 /// Puts cuts in place of variables' ends: whether they are some.
-fn cut(cuts: &mut Cuts, text: &[u8]) -> bool {
+fn cut(cuts: &mut Cuts, text: &[u8]) -> bool
+    ensures rows { cuts.new.rows ≡ cuts.old.rows }
+    ensures goal { cuts.new.goal ≡ cuts.old.goal }
+{
     if text.is_empty() {
         return true;
     }
     for piece in text.split(|b| *b == b';') {
-        match read_cut(piece) {
-            Some((j, ends)) => {
-                if (j as usize) < cuts.len() {
-                    cuts.set(j, ends);
-                } else {
-                    return false;
-                }
-            }
-            None => return false,
+        if !cut_one(cuts, piece) {
+            return false;
         }
     }
     true

@@ -1,4 +1,4 @@
-// A case, run.
+//! A case, run.
 ghost use Rattle.std.specs.Prelude.{◌≡◌, ◌<◌, length};
 ghost use Rattle.simplex.specs.Memory.{width_in, height_in};
 

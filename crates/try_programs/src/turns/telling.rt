@@ -1,4 +1,4 @@
-// Ends of runs as texts.
+//! Ends of runs as texts.
 ghost use Rattle.std.specs.Prelude.{◌≡◌};
 ghost use Rattle.simplex.specs.Memory.{width_in, height_in};
 
