@@ -4,10 +4,12 @@ import random
 
 
 class Program:
-    """Variables (lower end, upper end, whole), rows (lower end, upper end, entries by column) and costs; None is no end."""
+    """Variables (lower end, upper end, whole), rows (lower end, upper end, entries by column) and costs; None is no end. The variables
+    among `zeros` may be 0 besides; `later` has the costs of the goals behind the first."""
 
-    def __init__(self, name, maximise, variables, rows, costs):
+    def __init__(self, name, maximise, variables, rows, costs, zeros=(), later=()):
         self.name, self.maximise, self.variables, self.rows, self.costs = name, maximise, variables, rows, costs
+        self.zeros, self.later = zeros, later
 
     def is_whole(self):
         return any(whole for _, _, whole in self.variables)
@@ -24,10 +26,15 @@ def listed(name, numbers):
 def osil(program):
     """An OSiL document, its matrix by rows."""
     variables = "".join(
-        f'<var type="{"I" if whole else "C"}" lb="{bound(low, "-INF")}" ub="{bound(high, "INF")}"/>'
-        for low, high, whole in program.variables
+        f'<var type="{"CIDJ"[whole + 2 * (j in program.zeros)]}" lb="{bound(low, "-INF")}" ub="{bound(high, "INF")}"/>'
+        for j, (low, high, whole) in enumerate(program.variables)
     )
-    costs = "".join(f'<coef idx="{j}">{cost}</coef>' for j, cost in enumerate(program.costs) if cost)
+    goals = "".join(
+        f'<obj maxOrMin="{"max" if program.maximise else "min"}">'
+        + "".join(f'<coef idx="{j}">{cost}</coef>' for j, cost in enumerate(costs) if cost)
+        + "</obj>"
+        for costs in (program.costs, *program.later)
+    )
     rows = "".join(f'<con lb="{bound(low, "-INF")}" ub="{bound(high, "INF")}"/>' for low, high, _ in program.rows)
     starts, columns, values = [0], [], []
     for _, _, entries in program.rows:
@@ -38,7 +45,7 @@ def osil(program):
     return (
         '<osil xmlns="os.optimizationservices.org"><instanceData>'
         f'<variables numberOfVariables="{len(program.variables)}">{variables}</variables>'
-        f'<objectives><obj maxOrMin="{"max" if program.maximise else "min"}">{costs}</obj></objectives>'
+        f"<objectives>{goals}</objectives>"
         f"<constraints>{rows}</constraints>"
         f"<linearConstraintCoefficients>{matrix}</linearConstraintCoefficients></instanceData></osil>"
     )
@@ -68,6 +75,9 @@ def lp(program):
     if program.is_whole():
         lines.append("Generals")
         lines += [f" x{j}" for j, (_, _, whole) in enumerate(program.variables) if whole]
+    if program.zeros:
+        lines.append("Semi-Continuous")
+        lines += [f" x{j}" for j in program.zeros]
     return "\n".join(lines + ["End", ""])
 
 
@@ -181,6 +191,48 @@ def general_assignment(agents, tasks):
     rows += [(None, 21 * sum(times[a]) // (20 * agents), {a * tasks + t: times[a][t] for t in range(tasks)}) for a in range(agents)]
     costs = [rng.randint(10, 50) for _ in range(agents * tasks)]
     return Program(f"general assignment {agents}x{tasks}", False, [(0, 1, True)] * len(costs), rows, costs)
+
+
+def lot_sizing(products, periods):
+    """The least cost of what is made and kept, where a product is made in lots of a least and a greatest size, one a period at most, and a
+    period has time for so much."""
+    rng = random.Random(products * periods)
+    lots = products * periods
+    wants = [[rng.randint(5, 40) for _ in range(periods)] for _ in range(products)]
+    ends = [(rng.randint(30, 50), rng.randint(70, 99), False) for _ in range(products) for _ in range(periods)]
+    rows = []
+    for p in range(products):
+        for t in range(periods):
+            before = {lots + p * periods + t - 1: 1} if t else {}
+            rows.append((wants[p][t], wants[p][t], before | {p * periods + t: 1, lots + p * periods + t: -1}))
+    rows += [(None, 50 * products, {p * periods + t: 1 for p in range(products)}) for t in range(periods)]
+    costs = [rng.randint(1, 20) for _ in range(lots)] + [rng.randint(1, 4) for _ in range(lots)]
+    return Program(f"lot sizing {products}x{periods}", False, ends + [(0, None, False)] * lots, rows, costs, zeros=range(lots))
+
+
+def with_choices(program):
+    """The program with a whole variable of 0 or 1 for each that may be 0 besides (big-M form)."""
+    count = len(program.variables)
+    variables, rows = list(program.variables), list(program.rows)
+    for choice, j in enumerate(program.zeros, count):
+        low, high, whole = variables[j]
+        variables[j] = (0, high, whole)
+        rows += [(0, None, {j: 1, choice: -low}), (None, 0, {j: 1, choice: -high})]
+    costs = program.costs + [0] * len(program.zeros)
+    return Program(program.name, program.maximise, variables + [(0, 1, True)] * len(program.zeros), rows, costs)
+
+
+def with_goals(program, count):
+    """The program with so many goals in place of its own, whose few different costs leave many points for the goals after them."""
+    rng = random.Random(count)
+    goals = [[rng.randint(1, 4) for _ in program.costs] for _ in range(count)]
+    return Program(f"{program.name}, {count} goals", program.maximise, program.variables, program.rows, goals[0], later=goals[1:])
+
+
+def with_row(program, costs, value):
+    """The program with these costs, where its own have this value."""
+    row = (value.numerator, value.numerator, {j: value.denominator * cost for j, cost in enumerate(program.costs) if cost})
+    return Program(program.name, program.maximise, program.variables, [*program.rows, row], costs)
 
 
 def generated(size):

@@ -17,7 +17,7 @@ import programs
 
 RUNS = 5
 LIMIT = 20
-PROGRAM = os.path.abspath("crates/os_main/out/os_main")
+PROGRAM = os.path.abspath(os.environ.get("OS_MAIN", "crates/os_main/out/os_main"))
 
 
 def limited():
@@ -57,16 +57,22 @@ def ours(folder):
     return [PROGRAM, "solve", f"{folder}/osil"]
 
 
-def our_value(text, _):
-    value = first(r'os_cert\.value"><item>([^<]*)<', text)
+def our_values(text):
+    """The value of each goal, or the cause."""
+    values = first(r'os_cert\.value">(.*?)</otherSolutionResult>', text)
     cause = first(r'os_cert\.cause"><item>([^<]*)<', text)
-    return cause or (value and number(value))
+    return cause or (values and [number(value) for value in re.findall(r"<item>([^<]*)<", values)])
+
+
+def our_value(text, _):
+    values = our_values(text)
+    return values[0] if isinstance(values, list) else values
 
 
 def nodes_of(text):
-    """How many cases the tree of a result has; none where it carries none."""
+    """How many cases the trees of a result have; none where it carries none."""
     tree = first(r'os_cert\.tree">(.*?)</otherSolutionResult>', text)
-    return tree.count("<item>") if tree else None
+    return tree.count("<item>") - tree.count("<item>level ") if tree else None
 
 
 def esolver_value(_, folder):
@@ -116,13 +122,17 @@ def timed(words, folder, read):
     return best, peak, value, text
 
 
-OPTIONS = '<osol><optimization><solverOptions><solverOption name="pivotLimit" value="{turns}"/></solverOptions></optimization></osol>'
+OPTIONS = '<osol><optimization><solverOptions><solverOption name="{name}" value="{value}"/></solverOptions></optimization></osol>'
+
+
+def put_option(name, value, folder):
+    with open(f"{folder}/osol", "w", encoding="utf-8") as it:
+        it.write(OPTIONS.format(name=name, value=value))
 
 
 def is_ended_by(turns, folder):
     """Whether so many turns aren't enough."""
-    with open(f"{folder}/osol", "w", encoding="utf-8") as it:
-        it.write(OPTIONS.format(turns=turns))
+    put_option("pivotLimit", turns, folder)
     return "turnLimit" in run([*ours(folder), "--options", f"{folder}/osol"])[2]
 
 
@@ -137,13 +147,17 @@ def turns_of(folder):
     return high
 
 
-def compared(program, folder):
-    """A row of the table; whether exact objectives agree."""
-    for name, text in (("osil", programs.osil(program)), ("lp", programs.lp(program)), ("smt2", programs.smt(program))):
+def put(program, folder):
+    """Writes the program's texts."""
+    lp = programs.lp(program)
+    for name, text in (("osil", programs.osil(program)), ("lp", lp), ("lp.lp", lp), ("smt2", programs.smt(program))):
         with open(f"{folder}/{name}", "w", encoding="utf-8") as it:
             it.write(text)
-    with open(f"{folder}/lp.lp", "w", encoding="utf-8") as it:
-        it.write(programs.lp(program))
+
+
+def compared(program, folder):
+    """A row of the table; whether exact objectives agree."""
+    put(program, folder)
     found, agrees = {}, True
     for name, words, read, exact, takes_whole in SOLVERS:
         if takes_whole or not program.is_whole():
@@ -173,4 +187,5 @@ def main():
         sys.exit("objectives of exact solvers differ")
 
 
-main()
+if __name__ == "__main__":
+    main()
