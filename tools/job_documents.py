@@ -12,6 +12,7 @@ from linear_program import MOST_COLUMNS, MOST_DOCUMENT, MOST_VALUES, NUMBER, Com
 RATIO = re.compile(r"-?\d+(?:/\d+)?")
 CERTIFICATE = "os_cert."
 DEEPEST = 32
+MOST_GOALS = 8
 
 
 class Element:
@@ -83,24 +84,43 @@ def count(text, what):
 
 
 class Column:
-    """A variable, or the activity of a row: its name, its ends (none where there is none), and whether it is whole."""
+    """A variable, or the activity of a row: its name, its ends (none where there is none), whether it is whole, and whether it may be 0
+    besides."""
 
-    def __init__(self, name, low, high, whole=False):
-        self.name, self.low, self.high, self.whole = printable(name), low, high, whole
+    def __init__(self, name, low, high, whole=False, zero=False):
+        self.name, self.low, self.high, self.whole, self.zero = printable(name), low, high, whole, zero
+
+
+class Goal:
+    """An objective: its name, whether more is better, its constant, and its costs by the variables' numbers."""
+
+    def __init__(self, name="", maximise=False, constant=fractions.Fraction(0)):
+        self.name, self.maximise, self.constant, self.costs = printable(name), maximise, constant, {}
+
+    def change(self, step):
+        return sum((cost * step[j] for j, cost in self.costs.items()), fractions.Fraction(0))
+
+    def turned(self, value):
+        """The value as one of which less is better, without the constant."""
+        return self.constant - value if self.maximise else value - self.constant
 
 
 class Instance:
-    """An instance. Its columns are the variables and then the rows; a row's factors are by the variables' numbers."""
+    """An instance. Its columns are the variables and then the rows; a row's factors are by the variables' numbers. Without an objective it
+    has one that is 0."""
 
     def __init__(self):
-        self.name, self.description, self.goal, self.maximise, self.constant = "", "", "", False, fractions.Fraction(0)
-        self.variables, self.rows, self.costs, self.factors = [], [], {}, []
+        self.name, self.description = "", ""
+        self.variables, self.rows, self.goals, self.factors = [], [], [], []
+
+    # of the first objective
+    goal = property(lambda self: self.goals[0].name)
+    maximise = property(lambda self: self.goals[0].maximise)
+    constant = property(lambda self: self.goals[0].constant)
+    costs = property(lambda self: self.goals[0].costs)
 
     def columns(self):
         return self.variables + self.rows
-
-    def value(self, point):
-        return self.constant + sum((cost * point[j] for j, cost in self.costs.items()), fractions.Fraction(0))
 
     def activity(self, row, point):
         return sum((factor * point[j] for j, factor in self.factors[row].items()), fractions.Fraction(0))
@@ -123,20 +143,20 @@ def read_variables(instance, parts):
             high = fractions.Fraction(1) if high is None else min(high, 1)
         for k in range(repeated(element, len(instance.variables), MOST_COLUMNS, "variables")):
             own = name and (f"{name}.{k}" if element.attributes.get("mult", "1").strip() != "1" else name)
-            instance.variables.append(Column(own or f"variable {len(instance.variables)}", low, high, kind in "BI"))
+            instance.variables.append(Column(own or f"variable {len(instance.variables)}", low, high, kind in "BIJ", kind in "DJ"))
 
 
-def read_goal(instance, parts):
-    element = parts.find("obj") if parts else None
-    if element is None:
-        return
-    instance.goal, instance.maximise = printable(element.attributes.get("name", "")), element.attributes.get("maxOrMin", "min") == "max"
-    instance.constant = decimal(element.attributes.get("constant", "0"), "the constant of the goal")
-    for coef in element.all("coef"):
-        column = count(coef.attributes.get("idx", ""), "an idx")
-        if column >= len(instance.variables):
-            raise Complaint(f"a cost is of variable {column}, and there are {len(instance.variables)}")
-        instance.costs[column] = instance.costs.get(column, 0) + decimal(coef.text, "a cost")
+def read_goals(instance, parts):
+    for element in parts.all("obj") if parts else []:
+        constant = decimal(element.attributes.get("constant", "0"), "the constant of the goal")
+        goal = Goal(element.attributes.get("name", ""), element.attributes.get("maxOrMin", "min") == "max", constant)
+        for coef in element.all("coef"):
+            column = count(coef.attributes.get("idx", ""), "an idx")
+            if column >= len(instance.variables):
+                raise Complaint(f"a cost is of variable {column}, and there are {len(instance.variables)}")
+            goal.costs[column] = goal.costs.get(column, 0) + decimal(coef.text, "a cost")
+        instance.goals += [goal] * repeated(element, len(instance.goals), MOST_GOALS, "objectives")
+    instance.goals = instance.goals or [Goal()]
 
 
 def read_rows(instance, parts):
@@ -189,7 +209,7 @@ def instance_of(path):
         element = header.find(name) if header else None
         setattr(instance, name, printable(" ".join(element.text.split())) if element else "")
     read_variables(instance, data.find("variables"))
-    read_goal(instance, data.find("objectives"))
+    read_goals(instance, data.find("objectives"))
     read_rows(instance, data.find("constraints"))
     read_matrix(instance, data.find("linearConstraintCoefficients"))
     return instance
@@ -202,39 +222,58 @@ def ratio(text):
 
 
 class Node:
-    """A node of a tree of cases: a split (its variable, the value, the two cases), a clash (its column), a farkas or a bound (their
-    multipliers by columns). The number is its place in the document, from 1."""
+    """A node of a tree of cases: a split (its variable, the value, the two cases), a zero (its variable), a clash (its column), a farkas or
+    a bound (their multipliers by columns). The number is its place in its tree, from 1."""
 
     def __init__(self, number, kind, column=None, value=None, multipliers=()):
         self.number, self.kind, self.column, self.value, self.multipliers = number, kind, column, value, list(multipliers)
 
 
-def column_of(text, instance, number, splits=False):
-    most = len(instance.variables) if splits else len(instance.columns())
+def column_of(text, most, where):
     if not re.fullmatch(r"\d{1,9}", text) or int(text) >= most:
-        raise Complaint(f"node {number} of its tree names the column {text[:20]!r}, and the instance has {most}")
+        raise Complaint(f"{where} names the column {text[:20]!r}, and the instance has {most}")
     return int(text)
 
 
-def node_of(text, number, instance):
+def pairs_of(pieces, most, where):
+    pairs = [piece.partition(":") for piece in pieces]
+    return [(column_of(c, most, where), ratio(m)) for c, _, m in pairs]
+
+
+def node_of(text, number, variables, columns):
+    """A node, of so many variables and so many columns."""
     kind, *pieces = text.split(" ")
+    where = f"node {number} of its tree"
     if kind == "split" and len(pieces) == 2:
-        return Node(number, kind, column_of(pieces[0], instance, number, True), ratio(pieces[1]))
+        return Node(number, kind, column_of(pieces[0], variables, where), ratio(pieces[1]))
+    if kind == "zero" and len(pieces) == 1:
+        return Node(number, kind, column_of(pieces[0], variables, where))
     if kind == "clash" and len(pieces) == 1:
-        return Node(number, kind, column_of(pieces[0], instance, number))
+        return Node(number, kind, column_of(pieces[0], columns, where))
     if kind in ("farkas", "bound"):
-        pairs = [piece.partition(":") for piece in pieces]
-        return Node(number, kind, multipliers=[(column_of(c, instance, number), ratio(m)) for c, _, m in pairs])
-    raise Complaint(f"node {number} of its tree is {text[:40]!r}, which is none")
+        return Node(number, kind, multipliers=pairs_of(pieces, columns, where))
+    raise Complaint(f"{where} is {text[:40]!r}, which is none")
+
+
+def round_of(text, number, most):
+    """The multipliers of a round, over the columns before its row."""
+    kind, *pieces = text.split(" ")
+    if kind != "round":
+        raise Complaint(f"round {number} of it is {text[:40]!r}, which is none")
+    return pairs_of(pieces, most, f"round {number} of it")
 
 
 class Result:
-    """What a result document says: whether it reports an error, its job, message and status, and the claim with its certificate."""
+    """What a result document says: whether it reports an error, its job, message and status, and the claim with its certificate: the rounds
+    of the first tree, and the nodes of each tree, one for each objective that is asked."""
 
     def __init__(self):
         self.is_error, self.job, self.message, self.status, self.claim, self.parts = False, "", "", "", None, {}
-        self.point = self.value = self.ray = self.cause = None
-        self.nodes = []
+        self.point = self.ray = self.cause = None
+        self.values, self.rounds, self.trees = [], [], []
+
+    value = property(lambda self: self.values[0] if self.values else None)
+    nodes = property(lambda self: [node for nodes in self.trees for node in nodes])
 
 
 def path_text(root, *names):
@@ -246,11 +285,30 @@ def find_whole_tree(nodes):
     """Whether the nodes are one tree in preorder."""
     wanted = 1
     for at, node in enumerate(nodes):
-        wanted += 1 if node.kind == "split" else -1
+        wanted += 1 if node.kind in ("split", "zero") else -1
         if wanted == 0 and at + 1 < len(nodes):
             raise Complaint(f"its tree has ended before node {nodes[at + 1].number}")
     if nodes and wanted:
         raise Complaint(f"its tree lacks {wanted} cases")
+
+
+def read_trees(result, instance):
+    """The rounds, and the trees, whose columns are the instance's and then one for each round, or for each objective before."""
+    variables, columns = len(instance.variables), len(instance.columns())
+    result.rounds = [round_of(text, k + 1, columns + k) for k, text in enumerate(result.parts.get("rounds", []))]
+    for text in result.parts.get("tree", []):
+        level = re.fullmatch(r"level (\d{1,9})", text)
+        if level:
+            result.trees += [[]] * (not result.trees)
+            if int(level[1]) != len(result.trees) + 1 or int(level[1]) > len(instance.goals):
+                raise Complaint(f"it has {text} behind {len(result.trees)} trees, and the instance has {len(instance.goals)} objectives")
+            result.trees.append([])
+            continue
+        result.trees = result.trees or [[]]
+        added = len(result.rounds) if len(result.trees) == 1 else len(result.trees) - 1
+        result.trees[-1].append(node_of(text, len(result.trees[-1]) + 1, variables, columns + added))
+    for nodes in result.trees:
+        find_whole_tree(nodes)
 
 
 def read_claim(result, solution, instance):
@@ -267,10 +325,11 @@ def read_claim(result, solution, instance):
             if len(numbers) != len(instance.variables):
                 raise Complaint(f"it isn't a result of this instance: its {name} has {len(numbers)} numbers, and there are {len(instance.variables)} variables")
             setattr(result, name, numbers)
-    result.value = ratio(result.parts["value"][0]) if result.parts.get("value") else None
+    result.values = [ratio(text) for text in result.parts.get("value", [])]
+    if result.values and len(result.values) != len(instance.goals):
+        raise Complaint(f"it isn't a result of this instance: it has {len(result.values)} values, and there are {len(instance.goals)} objectives")
     result.cause = printable(result.parts["cause"][0]) if result.parts.get("cause") else None
-    result.nodes = [node_of(text, number, instance) for number, text in enumerate(result.parts.get("tree", []), 1)]
-    find_whole_tree(result.nodes)
+    read_trees(result, instance)
 
 
 def result_of(path, instance):

@@ -1,6 +1,9 @@
 """What a result says of its instance, as people look at it: lines and tables, which text and HTML show alike, and the tree of cases."""
 
 import fractions
+import math
+
+import job_documents
 
 CUT = 12  # decimals shown, as the server's own result has them
 CAUSES = {
@@ -37,7 +40,7 @@ def exact(value):
 
 def ends(column):
     """What a column is restricted to."""
-    kind = " whole" if column.whole else ""
+    kind = (" whole" if column.whole else "") + (", or 0" if column.zero else "")
     if column.low is None and column.high is None:
         return f"free{kind}"
     if column.low is not None and column.low == column.high:
@@ -54,13 +57,25 @@ def at_end(column, value):
     return "lower" if value == column.low else "upper" if value == column.high else ""
 
 
-def only_leaf(result):
-    """The multipliers of a certificate that is one leaf, or none."""
-    return dict(result.nodes[0].multipliers) if len(result.nodes) == 1 else None
+def only_leaf(instance, result):
+    """The multipliers of a certificate that is one leaf, or none; they are of one objective, and of the instance's own rows."""
+    return dict(result.nodes[0].multipliers) if len(instance.goals) == 1 and len(result.nodes) == 1 and not result.rounds else None
 
 
-def goal_name(instance):
-    return f"{'greatest' if instance.maximise else 'least'} {instance.goal or 'value'}"
+def goal_word(instance, k):
+    """What an objective is called."""
+    return instance.goals[k].name or ("value" if len(instance.goals) == 1 else f"value of objective {k + 1}")
+
+
+def worth(instance, result):
+    """A sentence for each objective."""
+    lines = []
+    for k, (goal, value) in enumerate(zip(instance.goals, result.values)):
+        name = goal_word(instance, k)
+        words = {"optimal": f"{'greatest' if goal.maximise else 'least'} {name}", "unbounded": f"{name} of the point"}
+        front = "The" if k == 0 or result.claim != "optimal" else "Among the points that reach this, the" if k == 1 else "Among those, the"
+        lines.append(f"{front} {words.get(result.claim, f'best {name} so far')} is {shown(value)}" + (f", exactly {exact(value)}" if exact(value) else "") + ".")
+    return lines
 
 
 def headline(instance, result):
@@ -77,16 +92,12 @@ def sentences(instance, result):
         return [f"The server refused it: {result.message}.", "docs/rules/instances.md (osil) or options.md (osol) says what that is and where."]
     if result.claim is None:
         return [f"The job is {result.status}; there is no claim in the document."]
-    lines = []
-    if result.value is not None:
-        goal = instance.goal or "value"
-        words = {"optimal": goal_name(instance), "unbounded": f"{goal} of the point"}
-        word = words.get(result.claim, f"best {goal} so far")
-        lines.append(f"The {word} is {shown(result.value)}" + (f", exactly {exact(result.value)}" if exact(result.value) else "") + ".")
+    lines = worth(instance, result)
     if result.claim == "unbounded":
         lines.append("There is no best value: from the point on, each step in the direction changes every variable as the table says.")
         if result.ray:
-            lines.append(f"One step changes {instance.goal or 'the value'} by {shown(instance.value(result.ray) - instance.constant)}.")
+            k = min(len(result.trees), len(instance.goals) - 1)
+            lines.append(f"One step changes {instance.goals[k].name or 'the ' + goal_word(instance, k)} by {shown(instance.goals[k].change(result.ray))}.")
     if result.claim == "infeasible":
         lines.append("No values of the variables meet all rows and ends.")
     if result.claim in ("bestSoFar", "unsure"):
@@ -98,7 +109,7 @@ def sentences(instance, result):
 
 def variables_table(instance, result):
     """The variables with their values, their ends, and of one leaf their multipliers."""
-    leaf, rows = only_leaf(result) or {}, []
+    leaf, rows = only_leaf(instance, result) or {}, []
     for j, (column, value) in enumerate(zip(instance.variables, result.point)):
         row = [column.name, shown(value), exact(value)]
         row += [shown(result.ray[j])] if result.ray else []
@@ -111,7 +122,7 @@ def variables_table(instance, result):
 
 def binding_table(instance, result):
     """The rows that stand at one of their ends, with their multipliers where the certificate is one leaf."""
-    leaf, rows, count = only_leaf(result) or {}, [], len(instance.variables)
+    leaf, rows, count = only_leaf(instance, result) or {}, [], len(instance.variables)
     for i, column in enumerate(instance.rows):
         value = instance.activity(i, result.point)
         if at_end(column, value):
@@ -123,7 +134,7 @@ def binding_table(instance, result):
 
 def conflict_table(instance, result):
     """Of an infeasible instance with one leaf: what can't hold together."""
-    columns, rows = instance.columns(), []
+    columns, rows = columns_at(instance, result, 0), []
     for c, multiplier in result.nodes[0].multipliers:
         end = f">= {shown(columns[c].low)}" if multiplier > 0 else f"<= {shown(columns[c].high)}"
         rows.append([columns[c].name, end, shown(multiplier), exact(multiplier)])
@@ -136,16 +147,39 @@ def low_sum(columns, multipliers):
     return None if any(end is None for _, end in pieces) else sum((m * end for m, end in pieces), fractions.Fraction(0))
 
 
+class Held:
+    """The ends of a column in a case, and its name."""
+
+    def __init__(self, column):
+        self.name, self.low, self.high = column.name, column.low, column.high
+        if column.zero:
+            self.low, self.high = None if self.low is None else min(self.low, 0), None if self.high is None else max(self.high, 0)
+
+
+def columns_at(instance, result, level):
+    """The columns of a tree: the instance's, and behind them a row for each round, or for each objective that was asked before."""
+    held = [Held(column) for column in instance.columns()]
+    for k, multipliers in enumerate(result.rounds if level == 0 else []):
+        total = low_sum(held, multipliers)
+        held.append(Held(job_documents.Column(f"round {k + 1}", None if total is None else fractions.Fraction(math.ceil(total)), None)))
+    for k, goal in enumerate(instance.goals[:level]):
+        value = goal.turned(result.values[k]) if result.values else None
+        held.append(Held(job_documents.Column(f"{goal_word(instance, k)} as it is", value, value)))
+    return held
+
+
 def notes(instance, result):
     """How to read the tables."""
     lines = []
-    if result.claim == "optimal" and only_leaf(result):
+    if result.claim == "optimal" and only_leaf(instance, result):
         change = "its multiplier" if not instance.maximise else "its multiplier with the other sign"
         lines.append(f"While the same ends bind, an end that is raised by one changes {instance.goal or 'the value'} by {change}.")
+    if result.rounds:
+        lines.append(f"Rows that were rounded: {len(result.rounds)}; each holds at every feasible point.")
     if result.claim == "optimal" and len(result.nodes) > 1:
         lines.append("The proof has cases, and each its own multipliers, so none stand in the tables.")
     if result.claim == "infeasible" and len(result.nodes) == 1 and result.nodes[0].kind == "farkas":
-        total = low_sum(instance.columns(), result.nodes[0].multipliers)
+        total = low_sum(columns_at(instance, result, 0), result.nodes[0].multipliers)
         if total is not None:
             lines.append(f"Their sum, each times its multiplier, has no variable left and says 0 >= {shown(total)}.")
     if result.claim:
@@ -170,52 +204,64 @@ class Case:
         self.node, self.depth, self.added, self.said, self.parent = node, depth, added, said, parent
 
 
-class Ends:
-    """The ends of a column in a case."""
-
-    def __init__(self, low, high):
-        self.low, self.high = low, high
-
-
-def said_of(node, columns, instance, held):
-    """What a leaf says, within the ends of its case; a split says which variable."""
-    if node.kind == "split":
-        return f"split by {columns[node.column].name}"
+def said_of(node, goal, held):
+    """What a leaf says, within the ends of its case; a split or a zero says which variable."""
+    if node.kind in ("split", "zero"):
+        return f"split by {held[node.column].name}" + (" into 0 and its own ends" if node.kind == "zero" else "")
     if node.kind == "clash":
-        return f"no point: {columns[node.column].name} has a lower end above its upper one"
+        return f"no point: {held[node.column].name} has a lower end above its upper one"
     if node.kind == "farkas":
-        names = [columns[c].name for c, _ in node.multipliers[:3]]
+        names = [held[c].name for c, _ in node.multipliers[:3]]
         return f"no point: {', '.join(names)}{' ..' if len(node.multipliers) > 3 else ''} can't hold together"
     total = low_sum(held, node.multipliers)
     if total is None:
         return "bound"
-    best = -(total - instance.constant) if instance.maximise else instance.constant + total
+    best = goal.constant - total if goal.maximise else goal.constant + total
     return f"no better than {shown(best)}"
 
 
-def cases(instance, result):
-    """The tree's nodes in their order, each with what it says; no call within another, as a tree may be deep."""
-    columns, found = instance.columns(), []
-    held = [Ends(column.low, column.high) for column in columns]
-    # What is still to do: a case to begin (what it adds: the column, the side, the end), or ends to give back.
-    todo, nodes = [("begin", 0, None, None)], iter(result.nodes)
+def inner(held, low, high):
+    """The ends of a column, as far as they lie within these."""
+    lows, highs = [end for end in (held.low, low) if end is not None], [end for end in (held.high, high) if end is not None]
+    return max(lows, default=None), min(highs, default=None)
+
+
+def halves(instance, node):
+    """The two cases of a split or a zero, the first one last: the column, the ends that it adds, and the words for them."""
+    column = instance.variables[node.column]
+    if node.kind == "zero":
+        return [(node.column, column.low, column.high, f"{column.name} within its own ends"), (node.column, 0, 0, f"{column.name} = 0")]
+    above = node.value + 1
+    return [(node.column, above, None, f"{column.name} >= {above}"), (node.column, None, node.value, f"{column.name} <= {node.value}")]
+
+
+def cases(instance, result, level):
+    """A tree's nodes in their order, each with what it says; no call within another, as a tree may be deep."""
+    held, found, goal = columns_at(instance, result, level), [], instance.goals[level]
+    # What is still to do: a case to begin (what it adds: the column, its ends, the words), or ends to give back.
+    todo, nodes = [("begin", 0, None, None)], iter(result.trees[level])
     while todo:
         what, depth, added, parent = todo.pop()
         if what == "restore":
-            column, side, before = added
-            setattr(held[column], side, before)
+            column, held[column].low, held[column].high = added
             continue
         text = ""
         if added:
-            column, side, end = added
-            before = getattr(held[column], side)
-            todo.append(("restore", depth, (column, side, before), parent))
-            if before is None or (side == "low" and end > before) or (side == "high" and end < before):
-                setattr(held[column], side, end)
-            text = f"{columns[column].name} {'<=' if side == 'high' else '>='} {end}"
+            column, low, high, text = added
+            todo.append(("restore", depth, (column, held[column].low, held[column].high), parent))
+            held[column].low, held[column].high = inner(held[column], low, high)
         node = next(nodes)
-        found.append(Case(node, depth, text, said_of(node, columns, instance, held), parent))
-        if node.kind == "split":
-            todo.append(("begin", depth + 1, (node.column, "low", node.value + 1), node.number))
-            todo.append(("begin", depth + 1, (node.column, "high", node.value), node.number))
+        found.append(Case(node, depth, text, said_of(node, goal, held), parent))
+        if node.kind in ("split", "zero"):
+            todo += [("begin", depth + 1, half, node.number) for half in halves(instance, node)]
     return found
+
+
+def trees(instance, result):
+    """The cases of each tree that has some, with what it is called."""
+    several = len(result.trees) > 1
+    return [
+        (f"Tree of cases{f' of the {goal_word(instance, k)}' if several else ''}: {len(nodes)} nodes", cases(instance, result, k))
+        for k, nodes in enumerate(result.trees)
+        if nodes and (len(nodes) > 1 or several)
+    ]

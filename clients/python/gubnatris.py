@@ -132,7 +132,9 @@ class Result:
     `status`: `optimal`, `infeasible`, `unbounded`, `bestSoFar` or `unsure`. `values`: one number for each variable, and `objective`,
     what they are worth, where there is a point: with `optimal`, `unbounded` and `bestSoFar`. `ray`: with `unbounded`, the direction
     in which the objective gets better without end. `cause`: with `bestSoFar` and `unsure`, what ended the search, as
-    `nodeLimit 10000`. `tree`: with `optimal` and `infeasible`, the nodes of the tree of cases, in preorder. `document`: the text.
+    `nodeLimit 10000`. `tree`: with `optimal` and `infeasible`, the nodes of the tree of cases, in preorder; where there are several
+    objectives, `level L` and the nodes of the next tree. `document`: the text. `objectives`: where there is a point, what it is worth by
+    each objective, in order; `objective` is the first of them.
     """
 
     status: str
@@ -142,6 +144,7 @@ class Result:
     cause: Optional[str]
     tree: Optional[tuple[str, ...]]
     document: str
+    objectives: Optional[tuple[Fraction, ...]] = None
 
 
 class Jobs(NamedTuple):
@@ -548,10 +551,11 @@ def _result(document: str, job: str) -> Result:
     if status not in _PARTS:
         raise NoReply(f"no status of a solution: {status[:20]!r}", came)
     items = {name: _items(solutions[0], name, came) for name in _PARTS[status]}
-    point, ray = (_ratios(items[name], came) if name in items else None for name in ("point", "ray"))
-    value, cause = (_one(items[name], came) if name in items else None for name in ("value", "cause"))
-    objective = None if value is None else _ratios((value,), came)[0]
-    return Result(status, objective, point, ray, cause, items.get("tree"), document)
+    point, ray, values = (_ratios(items[name], came) if name in items else None for name in ("point", "ray", "value"))
+    if values == ():
+        raise NoReply("no item where there is one for each objective", came)
+    cause = _one(items["cause"], came) if "cause" in items else None
+    return Result(status, values[0] if values else None, point, ray, cause, items.get("tree"), document, values)
 
 
 def _items(solution: ElementTree.Element, name: str, came: bytes) -> tuple[str, ...]:

@@ -220,7 +220,8 @@ DOCUMENTS = [
     (solved("optimal", **{**POINT, "value": "<item>6/4</item>"}), "no exact number: '6/4'"),
     (solved("optimal", **{**POINT, "value": "<item>0.5</item>"}), "no exact number"),
     (solved("optimal", **{**POINT, "value": f"<item>{'9' * 5000}</item>"}), "no exact number"),
-    (solved("optimal", **{**POINT, "value": ""}), "0 items where there is one"),
+    (solved("optimal", **{**POINT, "value": ""}), "no item where there is one for each objective"),
+    (solved("unsure", cause="<item>killed</item><item>killed</item>"), "2 items where there is one"),
     (solved("optimal", **{**POINT, "point": "<item><a/></item>"}), "an element in item"),
 ]
 
@@ -260,6 +261,13 @@ class Peers(unittest.TestCase):
             with self.subTest(answer=answer[:60]), Peer(answer) as server:
                 result = server.result("os-7")
                 self.assertEqual((result.status, result.objective, result.values), ("optimal", Fraction(-3), (Fraction(1, 2),)))
+
+    def test_several_objectives_are_taken(self):
+        several = {**POINT, "value": "<item>-3</item><item>1/2</item>", "tree": "<item>bound</item><item>level 2</item><item>bound</item>"}
+        with Peer(response(returns("retrieve", solved("optimal", **several)))) as server:
+            result = server.result("os-7")
+            self.assertEqual((result.objective, result.objectives), (Fraction(-3), (Fraction(-3), Fraction(1, 2))))
+            self.assertEqual(result.tree, ("bound", "level 2", "bound"))
 
     def test_a_refusal_has_its_name_and_place(self):
         for message, wanted in (
