@@ -345,6 +345,7 @@ def try_views(folder):
         instance = job_documents.instance_of(files[0])
         check(all(v.name in parser.text for v in instance.variables) or name == "infeasible_schedule", f"page of {name}", "a variable is wanting")
     try_tree(folder)
+    try_levels(folder)
     few = written(folder, "few.osol", '<osol><optimization><solverOptions><solverOption name="nodeLimit" value="2"/></solverOptions></optimization></osol>')
     osil = f"{TOOLS}/../examples/capital_budget.osil"
     osrl = written(folder, "osrl", ran([PROGRAM, "solve", osil, "--options", few]).stdout)
@@ -358,6 +359,34 @@ def try_views(folder):
     check("\n  a?31m?b " in tool("show_result", name, osrl).stdout, "a name that would move the cursor")
     job = "<osrl><general><generalStatus type='normal'/></general><job><status>running</status></job></osrl>"
     check("The job is running; there is no claim" in tool("show_result", osil, written(folder, "osrl", job)).stdout, "a document without a claim")
+
+
+def try_levels(folder):
+    """Several objectives with a variable that may be 0 besides, and a row that is rounded: each tree is shown by its own objective."""
+    rows = "<start><el>0</el><el>1</el></start><colIdx><el>0</el></colIdx><value><el>{}</el></value>"
+    form = (
+        "<osil><instanceData><variables>{}</variables><objectives>{}</objectives><constraints>{}</constraints>"
+        "<linearConstraintCoefficients>{}</linearConstraintCoefficients></instanceData></osil>"
+    )
+    cost, worth = '<obj name="cost"><coef idx="0">1</coef></obj>', '<obj maxOrMin="max" name="worth"><coef idx="0">1</coef><coef idx="1">1</coef></obj>'
+    lots = '<var type="D" lb="2" ub="5" name="lot"/><var ub="3" name="rest"/>'
+    osil = written(folder, "levels.osil", form.format(lots, cost + worth, '<con lb="1"/>', rows.format(1)))
+    text = tool("show_result", osil, written(folder, "osrl", ran([PROGRAM, "solve", osil]).stdout)).stdout
+    for piece in (
+        "The least cost is 2.\nAmong the points that reach this, the greatest worth is 5.",
+        "2 to 5, or 0",
+        "Tree of cases of the cost: 3 nodes\n  1  split by lot into 0 and its own ends",
+        "  lot = 0: no point: lot, row 0 can't hold together",
+        "  lot within its own ends: no better than 2",
+        "Tree of cases of the worth: 1 nodes\n  1  no better than 5",
+    ):
+        check(piece in text, "several objectives", text)
+    best = '<obj maxOrMin="max"><coef idx="0">1</coef></obj>'
+    osil = written(folder, "rounds.osil", form.format('<var type="I"/>', best, '<con ub="5"/>', rows.format(2)))
+    few = '<osol><optimization><solverOptions><solverOption name="rounds" value="1"/></solverOptions></optimization></osol>'
+    made = ran([PROGRAM, "solve", osil, "--options", written(folder, "rounds.osol", few)]).stdout
+    text = tool("show_result", osil, written(folder, "osrl", made)).stdout
+    check("The greatest value is 2." in text and "Rows that were rounded: 1; each holds at every feasible point." in text, "a row that is rounded", text)
 
 
 def try_tree(folder):

@@ -74,7 +74,8 @@ def worth(instance, result):
         name = goal_word(instance, k)
         words = {"optimal": f"{'greatest' if goal.maximise else 'least'} {name}", "unbounded": f"{name} of the point"}
         front = "The" if k == 0 or result.claim != "optimal" else "Among the points that reach this, the" if k == 1 else "Among those, the"
-        lines.append(f"{front} {words.get(result.claim, f'best {name} so far')} is {shown(value)}" + (f", exactly {exact(value)}" if exact(value) else "") + ".")
+        word = words.get(result.claim, f"best {name} so far")
+        lines.append(f"{front} {word} is {shown(value)}" + (f", exactly {exact(value)}" if exact(value) else "") + ".")
     return lines
 
 
