@@ -1,5 +1,5 @@
 //! Disks: a file's bytes that are read, written, cut and brought to rest, with what a crash may leave of them. They are for
-//! journals, of which the program keeps none yet.
+//! journals.
 //!
 //! What a crash leaves is part of each contract of [`Disk`]: what one may leave now, and what one at some moment since an earlier
 //! moment might have left, within a call too. So who makes calls can say of each of his own what a crash in it leaves. Between two
@@ -9,15 +9,22 @@
 //!
 //! [`MemDisk`] tells what it holds, and fails where it is told to. [`FileDisk`] is a file of the system, of which nothing is told:
 //! that the system keeps what the model says is trusted, as POSIX has it (IEEE Std 1003.1, `pread`, `pwrite`, `ftruncate` and
-//! `fdatasync`).
+//! `fdatasync`). [`Stores`] opens disks by name and takes them back: [`FileStores`] the system's files, [`MemStores`] one disk in
+//! memory.
 #![tactic(auto)]
 
 mod disk;
 mod file_disk;
+mod file_stores;
 mod mem_disk;
+mod mem_stores;
+mod stores;
 #[cfg(test)]
 mod tests;
 
 pub use disk::Disk;
 pub use file_disk::FileDisk;
+pub use file_stores::FileStores;
 pub use mem_disk::MemDisk;
+pub use mem_stores::{MemStore, MemStores};
+pub use stores::Stores;

@@ -1,4 +1,4 @@
-use crate::{Disk, FileDisk};
+use crate::{Disk, FileDisk, FileStores, MemDisk, MemStores, Stores};
 use os_io::Failed;
 use std::test::Fail;
 use std::{env, fs};
@@ -28,5 +28,45 @@ fn a_file_of_the_system_is_written_cut_and_read(rt: HostRuntime) -> Result<(), F
     );
     fs::remove_file(&rt, name.as_str())?;
     assert_eq!(rt; FileDisk::open(&rt, "").err().is_some(), true);
+    Ok(())
+}
+
+#[test]
+fn a_disk_in_memory_is_opened_once_and_given_back(rt: HostRuntime) -> Result<(), Fail> {
+    let alloc = rt.alloc();
+    let disk = MemDisk::new(alloc, b"seven bytes", &[], u64::MAX)?;
+    let mut stores = MemStores::new(alloc, "journal", disk)?;
+    assert!(rt; stores.open_store("other").is_err());
+    assert!(rt; stores.last_back().is_none());
+    match stores.open_store("journal") {
+        Ok(mut store) => {
+            assert!(rt; stores.open_store("journal").is_err());
+            assert_eq!(rt; store.write_at(0, b"SE"), Ok(()));
+            stores.done_store(store);
+        }
+        Err(_) => assert!(rt; false),
+    }
+    assert_eq!(rt; stores.last_back(), Some(b"SEven bytes".as_slice()));
+    Ok(())
+}
+
+#[test]
+fn a_file_of_the_system_is_opened_by_its_name(rt: HostRuntime) -> Result<(), Fail> {
+    let mut name = env::temp_dir(&rt)?;
+    name.push("disks_a_store_of_the_system")?;
+    let _ = fs::remove_file(&rt, name.as_str());
+    let mut stores = FileStores::new(&rt);
+    for _ in 0..2 {
+        match stores.open_store(name.as_str()) {
+            Ok(mut disk) => {
+                assert_eq!(rt; disk.write_at(0, b"a"), Ok(()));
+                assert!(rt; stores.open_store(name.as_str()).is_err());
+                stores.done_store(disk);
+            }
+            Err(_) => assert!(rt; false),
+        }
+    }
+    assert_eq!(rt; fs::read(&rt, name.as_str())?.as_slice(), b"a".as_slice());
+    fs::remove_file(&rt, name.as_str())?;
     Ok(())
 }
