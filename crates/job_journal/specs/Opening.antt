@@ -1,7 +1,8 @@
 -- What a file that is opened stands for, and where it is damaged.
-use Rattle.std.specs.Prelude.{◌≡◌, ℕ, ◌<◌, Bool, List, ◌∷◌, ◌++◌, length, Option, Some, None, Result, Ok, Err}
-use Rattle.effects.specs.Records.{Deed, body, records, Fits, AllFit, EndsBehindGate}
-use Rattle.effects.specs.Fold.{Ledger, nothing, Folds, step}
+use Rattle.std.specs.Prelude.{◌≡◌, ℕ, ◌<◌, Bool, List, [], ◌∷◌, ◌++◌, length, Option, Some, None, Result, Ok, Err}
+use Rattle.effects.specs.Records.{Deed, Finish, body, records, Fits, AllFit, EndsBehindGate}
+use Rattle.effects.specs.Fold.{Ledger, nothing, osil_in, stage_of}
+use Rattle.effects.specs.Fold as fold
 use Rattle.disks.specs.Disks.{LeavesOnly}
 use Rattle.job_journal.specs.Journal.{FileRests, FileStandsFor}
 use Rattle.job_journal.specs.declared.scanning.OpenFault.{OpenFault}
@@ -15,12 +16,37 @@ pub record Calm {D : Type 0} (told : D → Bool) (seen : D → List ℕ) (may_le
   pub crash : (c : List ℕ) → may_leave new c → may_leave old c
   pub moments : LeavesOnly moment left_since old new (may_leave old)
 
-module _ (accepts : List ℕ → List ℕ → Bool) where
+-- by what says of an instance's text and a document whether the document is accepted
+module _ (accepted : List ℕ → List ℕ → Type 0) where
+  -- the document is accepted for a text that is there
+  abbrev pub IsAcceptedFor : Option (List ℕ) → List ℕ → Type 0
+  IsAcceptedFor (Some osil) document = accepted osil document
+  IsAcceptedFor None document = ⊥
+
+  -- a document that the effect brings is accepted for the text of the job's instance
+  abbrev pub IsAdmitted : Ledger → Deed → Type 0
+  IsAdmitted l (Finish n (Some document)) = IsAcceptedFor (osil_in (stage_of n l)) document
+  IsAdmitted l _ = Unit {0}
+
+  -- what the effect leaves, or none where it isn't possible there or its document isn't accepted
+  abbrev pub StepsTo : Deed → Ledger → Option Ledger → Type 0
+  StepsTo d old (Some new) = IsAdmitted old d × (fold.after d old ≡ Some new)
+  StepsTo d old None = IsAdmitted old d → fold.after d old ≡ None
+
+  -- effects lead from one ledger to another, each possible and accepted after those before
+  abbrev pub FoldsTo : Ledger → List Deed → Ledger → Type 0
+  FoldsTo old [] new = new ≡ old
+  FoldsTo old (d ∷ deeds) new = (mid : Ledger) × StepsTo d old (Some mid) × FoldsTo mid deeds new
+
+  -- some effects made this of an empty table
+  abbrev pub WasMade : Ledger → Type 0
+  WasMade ledger = (deeds : List Deed) × FoldsTo nothing deeds ledger
+
   -- the bytes are records of effects, each possible and accepted after those before, and a rest that isn't empty
   pub record IsReadUpTo (bytes rest : List ℕ) (ledger : Ledger) : Type 0 where
     pub deeds : List Deed
     pub fit : AllFit deeds
-    pub folds : Folds accepts nothing deeds ledger
+    pub folds : FoldsTo nothing deeds ledger
     pub is : bytes ≡ records deeds ++ rest
     pub some : 0 < length rest
 
@@ -28,7 +54,7 @@ module _ (accepts : List ℕ → List ℕ → Bool) where
   pub record ReadsRecords (bytes : List ℕ) (place : ℕ) (ledger : Ledger) : Type 0 where
     pub deeds : List Deed
     pub fit : AllFit deeds
-    pub folds : Folds accepts nothing deeds ledger
+    pub folds : FoldsTo nothing deeds ledger
     pub ends : EndsBehindGate deeds bytes
     pub at : place ≡ length (records deeds)
 
@@ -38,24 +64,24 @@ module _ (accepts : List ℕ → List ℕ → Bool) where
     pub deeds : List Deed
     pub fit : AllFit deeds
     pub ledger : Ledger
-    pub folds : Folds accepts nothing deeds ledger
+    pub folds : FoldsTo nothing deeds ledger
     pub behind : List ℕ
     pub is : bytes ≡ records deeds ++ 1 ∷ behind
     pub at : place ≡ length (records deeds)
-    pub none : (d : Deed) (gate : ℕ) (after : List ℕ) → Fits d → behind ≡ body d ++ gate ∷ after → step accepts d ledger ≡ None
+    pub none : (d : Deed) (gate : ℕ) (after : List ℕ) → Fits d → behind ≡ body d ++ gate ∷ after → StepsTo d ledger None
 
   -- the bytes begin with the record of an effect that leads from one ledger to the other, and this follows it, which isn't empty
   pub record CutsRecord (bytes : List ℕ) (old : Ledger) (after : List ℕ) (new : Ledger) : Type 0 where
     pub deed : Deed
     pub fits : Fits deed
     pub is : bytes ≡ body deed ++ after
-    pub steps : step accepts deed old ≡ Some new
+    pub steps : StepsTo deed old (Some new)
     pub some : 0 < length after
 
   -- the same, or no record stands there with a gate behind it that is possible and accepted
   abbrev pub TakesRecord : List ℕ → Ledger → Option (List ℕ) → Ledger → Type 0
   TakesRecord bytes old (Some after) new = CutsRecord bytes old after new
-  TakesRecord bytes old None new = (d : Deed) (gate : ℕ) (after : List ℕ) → Fits d → bytes ≡ body d ++ gate ∷ after → step accepts d old ≡ None
+  TakesRecord bytes old None new = (d : Deed) (gate : ℕ) (after : List ℕ) → Fits d → bytes ≡ body d ++ gate ∷ after → StepsTo d old None
 
   -- what a scan answers where it gives no place
   abbrev pub ScanFits : List ℕ → OpenFault → Type 0
@@ -72,7 +98,7 @@ module _ (accepts : List ℕ → List ℕ → Bool) where
   pub record IsOpened {D : Type 0} (seen : D → List ℕ) (may_leave : D → List ℕ → Type 0) (file : List ℕ) (disk : D) (end : ℕ) (ledger : Ledger) : Type 0 where
     pub deeds : List Deed
     pub fit : AllFit deeds
-    pub folds : Folds accepts nothing deeds ledger
+    pub folds : FoldsTo nothing deeds ledger
     pub stands : FileStandsFor deeds file
     pub rests : FileRests seen may_leave disk end deeds
 

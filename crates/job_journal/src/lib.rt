@@ -1,5 +1,4 @@
-//! A journal of what moves of a table of jobs change: each effect is on the disk before it is acknowledged. The program keeps none
-//! yet: nothing that it calls stands on this crate.
+//! A journal of what moves of a table of jobs change: each effect is on the disk before it is acknowledged.
 //!
 //! The file is records, each behind an open gate 1, and then a gate that isn't 1. [`Journal::put`] writes a record with a closed
 //! gate behind it, syncs, opens the gate before it, and syncs. [`open_journal`] reads the records of a file that a crash may have left,

@@ -3,9 +3,9 @@
 ghost use Rattle.std.specs.Prelude.{◌≡◌, ◌⊎◌, ◌<◌, ◌≤◌, List, ℕ, true, false, length, IfOk, IfErr, OnOk};
 ghost use Rattle.disks.specs.Disks.{LeavesOnly, Only};
 ghost use Rattle.effects.specs.Records.{Deed, AllFit};
-ghost use Rattle.effects.specs.Fold.{Ledger, Folds, nothing};
+ghost use Rattle.effects.specs.Fold.{Ledger, nothing};
 ghost use Rattle.job_journal.specs.Journal.{FileStandsFor, FileRests};
-ghost use Rattle.job_journal.specs.Opening.{Calm, CountsFault, CountsBack, IsUnfound, IsOpened, DamagedIn, IsDamaged};
+ghost use Rattle.job_journal.specs.Opening.{Calm, CountsFault, CountsBack, FoldsTo, WasMade, IsUnfound, IsOpened, DamagedIn, IsDamaged};
 
 use crate::contents::{contents, settle};
 use crate::journal::{Journal, ROOM};
@@ -38,6 +38,7 @@ fn prepare<D: Disk, R: Replay, S: Sieve>(
 ) -> Result<u64, OpenFault>
     requires { R.holds table.old ≡ nothing }
     ensures opened { IfOk result (λ end. D.told disk.old ≡ true → IsOpened S.accepted D.seen D.may_leave (D.seen disk.old) disk.new end (R.holds table.new)) }
+    ensures made { IfOk result (λ _. WasMade S.accepted (R.holds table.new)) }
     ensures damaged { IfErr result (λ f. D.told disk.old ≡ true → DamagedIn S.accepted (D.seen disk.old) f) }
     ensures any_moment { (deeds : List Deed) → D.told disk.old ≡ true → AllFit deeds → FileStandsFor deeds (D.seen disk.old)
         → LeavesOnly D.moment D.left_since disk.old disk.new (λ c. D.may_leave disk.old c ⊎ FileStandsFor deeds c) }
@@ -76,17 +77,21 @@ pub fn open_journal<D: Disk, R: Replay, S: Sieve>(
 
     // No put has failed yet.
     ensures unbroken { IfOk result (λ j. j.broken ≡ false) }
+    ensures told { IfOk result (λ j. D.told j.disk ≡ D.told disk) }
 
     // The file stood for effects, which made the table, and is at rest with them.
     ensures opened { IfOk result (λ j. D.told disk ≡ true → IsOpened S.accepted D.seen D.may_leave (D.seen disk) j.disk j.end (R.holds table.new)) }
 
+    // Each effect that made the table was possible and accepted after those before, also where the disk doesn't tell what it holds.
+    ensures made { IfOk result (λ _. WasMade S.accepted (R.holds table.new)) }
+
     // Where it stood for these, the table is theirs, and the file at rest has them.
     ensures same { IfOk result (λ j. (deeds : List Deed) → D.told disk ≡ true → AllFit deeds → FileStandsFor deeds (D.seen disk)
-        → Folds S.accepted nothing deeds (R.holds table.new) × FileRests D.seen D.may_leave j.disk j.end deeds) }
+        → FoldsTo S.accepted nothing deeds (R.holds table.new) × FileRests D.seen D.may_leave j.disk j.end deeds) }
 
     // Damaged comes only where the file is, and never where it stands for effects that are possible and accepted.
     ensures damaged { IfErr result (λ f. D.told disk ≡ true → DamagedIn S.accepted (D.seen disk) f.0) }
-    ensures undamaged { IfErr result (λ f. (deeds : List Deed) (ledger : Ledger) → D.told disk ≡ true → AllFit deeds → Folds S.accepted nothing deeds ledger → FileStandsFor deeds (D.seen disk) → IsUnfound f.0) }
+    ensures undamaged { IfErr result (λ f. (deeds : List Deed) (ledger : Ledger) → D.told disk ≡ true → AllFit deeds → FoldsTo S.accepted nothing deeds ledger → FileStandsFor deeds (D.seen disk) → IsUnfound f.0) }
 
     ensures sound { IfOk result (λ j. (place : ℕ) → D.told disk ≡ true → IsDamaged S.accepted (D.seen disk) place → ⊥) }
 

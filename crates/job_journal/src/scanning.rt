@@ -1,9 +1,9 @@
 //! The records of a file, read.
 
-ghost use Rattle.std.specs.Prelude.{◌≡◌, ◌<◌, ◌≤◌, ◌-◌, ◌∷◌, List, ℕ, Some, None, if◌then◌else◌, length, IfOk, IfErr, IfSome, IfNone};
+ghost use Rattle.std.specs.Prelude.{◌≡◌, ◌↔◌, ◌<◌, ◌≤◌, ◌-◌, ◌∷◌, List, ℕ, true, Some, None, if◌then◌else◌, length, IfOk, IfErr, IfSome, IfNone};
 ghost use Rattle.effects.specs.Records.{deed_of};
-ghost use Rattle.effects.specs.Fold.{nothing, passes, step};
-ghost use Rattle.job_journal.specs.Opening.{ReadsRecords, ScanFits, TakesRecord};
+ghost use Rattle.effects.specs.Fold.{nothing};
+ghost use Rattle.job_journal.specs.Opening.{IsAdmitted, ReadsRecords, ScanFits, StepsTo, TakesRecord};
 ghost use Rattle.std.specs.Option.{option_copied};
 
 use effects::{Document, Effect, Replay, decode};
@@ -24,19 +24,19 @@ pub enum OpenFault {
 
 /// What says which documents are accepted.
 pub trait Sieve {
-    ghost use Rattle.std.specs.Prelude.{List, ℕ, Bool};
+    ghost use Rattle.std.specs.Prelude.{◌≡◌, true, ◌↔◌, List, ℕ};
 
     /// Of an instance's text and a document.
-    ghost accepted: { List ℕ → List ℕ → Bool };
+    ghost accepted: { List ℕ → List ℕ → Type 0 };
 
     /// Whether a document is accepted for an instance's text.
     fn accepts(&mut self, osil: &[u8], document: &[u8]) -> Result<bool, Memory>
-        ensures { IfOk result (λ is. is ≡ accepted osil.now document.now) };
+        ensures { IfOk result (λ is. (is ≡ true) ↔ accepted osil.now document.now) };
 }
 
 /// Whether a document that a finish brings is accepted.
 fn passes<R: Replay, S: Sieve>(table: &R, sieve: &mut S, effect: &Effect) -> Result<bool, Memory>
-    ensures { IfOk result (λ is. is ≡ passes S.accepted (R.holds table.now) (deed_of effect.now)) }
+    ensures { IfOk result (λ is. (is ≡ true) ↔ IsAdmitted S.accepted (R.holds table.now) (deed_of effect.now)) }
 {
     match effect {
         Effect::Finish { number, document } => match document {
@@ -58,7 +58,7 @@ fn passes<R: Replay, S: Sieve>(table: &R, sieve: &mut S, effect: &Effect) -> Res
 
 /// Makes an effect whose document is accepted; false where it isn't, or the effect isn't possible.
 fn admit<R: Replay, S: Sieve>(table: &mut R, sieve: &mut S, effect: &Effect) -> Result<bool, Memory>
-    ensures { IfOk result (λ made. step S.accepted (deed_of effect.now) (R.holds table.old) ≡ (if made then Some (R.holds table.new) else None)) }
+    ensures { IfOk result (λ made. StepsTo S.accepted (deed_of effect.now) (R.holds table.old) (if made then Some (R.holds table.new) else None)) }
 {
     match passes(table, sieve, effect) {
         Ok(true) => table.apply(effect),
