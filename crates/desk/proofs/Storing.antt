@@ -6,7 +6,6 @@ use Rattle.effects.specs.Records.{Deed}
 use Rattle.effects.specs.declared.store.NotStored.{NotStored}
 use Rattle.effects.specs.declared.store.NotStored.TheVariants.{Disk, Broken, Long}
 use Rattle.effects.specs.Stores.{CountsDisk, PutsIf}
-use Rattle.effects.proofs.Faults.{never_refused}
 use Rattle.job_table.specs.declared.entries.TableMove.{TableMove}
 use Rattle.job_table.specs.declared.entries.TableMove.TheVariants as asks
 use Rattle.job_table.specs.declared.entries.Reply.{Reply}
@@ -19,7 +18,7 @@ use Rattle.desk.specs.declared.held.Stored.{Stored}
 use Rattle.desk.specs.declared.view.SeatEntry.{SeatEntry}
 use Rattle.job_table.specs.Kept.{KeptBy, said_in}
 use Rattle.desk.specs.Kinds.{Moves}
-use Rattle.desk.specs.Stores.{was_made, made_moves, says_disk, has_disk, after_entry, after_entries, listed, deeds_of, AnsweredSo, StoresSo, LeadsStored}
+use Rattle.desk.specs.Stores.{was_made, made_moves, says_disk, has_disk, after_entry, after_entries, listed, deeds_of, AnsweredSo, StoresSo, LeadsStored, ClosesStored}
 use Rattle.desk.specs.History.{moves_in}
 use Rattle.desk.proofs.Histories.{makes_split}
 
@@ -305,13 +304,14 @@ module _ {S : Type 0} (right : List ℕ → List ℕ → Bool → Option (List �
       subst (λ (b : Bool). LeadsStepwise right start.0 (cond b (entry_of_move e.table_move e.reply ∷ made_moves es) (made_moves es)) held.0) (sym (ap was_made r.says))
       (subst (λ (t : Register). LeadsStepwise right t (made_moves es) held.0) r.stays (made_lead es next held rest))
 
--- where nothing is kept, no move is refused: each is one of the table alone
-module _ {S : Type 0} (right : List ℕ → List ℕ → Bool → Option (List ℕ) → Type 0) (keeps : S → List Deed → Type 0) where
-  pub plain_by : (start : Register × S) (log : List SeatEntry) (held : Register × S) → LeadsStored right keeps (λ _ _ _. false) (λ _. false) (λ _. 0) start log held
-      → LeadsStepwise right start.0 (moves_in log) held.0
-  plain_by start [] held same = ap (λ (h : Register × S). h.0) same
-  plain_by start (e ∷ es) held (next, inl m, rest) = (next.0, m.step, plain_by next es held rest)
-  plain_by start (e ∷ es) held (next, inr r, rest) = absurd (never_refused keeps (planned e.table_move start.0) start.1 next.1 r.fault r.puts)
+  -- a desk at which nobody made a move
+  pub closes_nothing : (first : Register) (start : S) → ClosesStored right keeps too_long broken faults first start [] first start
+  closes_nothing first start = record {
+    leads = refl;
+    moves = refl;
+    made = refl;
+    stores = λ sound. stores_so keeps too_long broken faults right [] (first, start) (first, start) refl sound;
+  }
 
 -- what a move that is made behind the put of its effect makes of a table and its store
 module _ {A S : Type 0} (right : List ℕ → List ℕ → Bool → Option (List ℕ) → Type 0) (keeps : S → List Deed → Type 0) (too_long : S → List Deed → Deed → Bool) (broken : S → Bool) (faults : S → ℕ)

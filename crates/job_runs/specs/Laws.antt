@@ -1,5 +1,5 @@
--- What holds of runs in every history from an empty table on, whatever its numbers begin with.
-use Rattle.std.specs.Prelude.{◌≡◌, ℕ, Bool, true, false, All, List, ◌∷◌, ◌++◌, Option, Some}
+-- What holds of runs in every history from a table on whose numbers rise.
+use Rattle.std.specs.Prelude.{◌≡◌, ◌⊎◌, ℕ, Bool, true, false, All, List, ◌∷◌, ◌++◌, Option, Some}
 use Rattle.effects.specs.declared.store.NotStored.{NotStored}
 use Rattle.job_table.specs.declared.job.Job.{Job}
 use Rattle.job_table.specs.declared.entries.TableMove.{TableMove}
@@ -8,8 +8,8 @@ use Rattle.job_table.specs.declared.entries.Finishing as answer
 use Rattle.job_table.specs.declared.entries.Finishing.TheVariants as ends
 use Rattle.job_table.specs.declared.entries.Reply.{Reply}
 use Rattle.job_table.specs.declared.entries.Reply.TheVariants as reply
-use Rattle.job_table.specs.Jobs.{Register}
-use Rattle.job_table.specs.History.{MoveEntry, entry_of_move, LeadsTo, IsGiving}
+use Rattle.job_table.specs.Jobs.{Register, Rises}
+use Rattle.job_table.specs.History.{MoveEntry, entry_of_move, LeadsOn, IsGiving}
 use Rattle.job_runs.specs.Runs.{IsJobRun}
 
 -- a finish was kept
@@ -35,8 +35,16 @@ IsFinishKept e = kept_if_finish e.table_move e.reply ≡ true
 abbrev pub AreKept : List MoveEntry → Type 0
 AreKept entries = All IsFinishKept entries
 
--- the finish of a run that follows the claim or the enter that gave the job is kept
+-- the same, but where its effect wasn't stored
+abbrev pub IsKeptIfStored : MoveEntry → Type 0
+IsKeptIfStored e = IsFinishKept e ⊎ ((fault : NotStored) × (e.reply ≡ reply.NotStored fault))
+
+-- every finish among these moves was kept, or its effect wasn't stored
+abbrev pub AreKeptIfStored : List MoveEntry → Type 0
+AreKeptIfStored entries = All IsKeptIfStored entries
+
+-- the finish of a run that follows the claim or the enter that gave the job is kept, where it is stored
 abbrev pub RunsAreKept : (List ℕ → List ℕ → List Bool → Option (List ℕ) → Type 0) → (List ℕ → List ℕ → Bool → Option (List ℕ) → Type 0) → Type 0
 RunsAreKept made right =
-    (j : Job) (move : TableMove) (fault : Option NotStored) (before run : List MoveEntry) (now : Register) → IsGiving move → IsJobRun made j fault run
-    → LeadsTo right (before ++ entry_of_move move (reply.Gave (Some j)) ∷ run) now → AreKept run
+    (start : Register) (j : Job) (move : TableMove) (fault : Option NotStored) (before run : List MoveEntry) (now : Register) → Rises start → IsGiving move → IsJobRun made j fault run
+    → LeadsOn right start (before ++ entry_of_move move (reply.Gave (Some j)) ∷ run) now → AreKeptIfStored run

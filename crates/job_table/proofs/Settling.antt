@@ -1,10 +1,10 @@
 -- The table that goes on from what effects left.
 use Rattle.std.proofs.Common.{◌≡◌, ℕ, ◌+◌, ◌≤◌, nat_eq, Bool, true, false, cond, if◌then◌else◌, List, [], ◌∷◌, map, Option, Some, None, refl, sym, ◌∙◌, ap, subst, arith}
 use Rattle.std.proofs.lemmas.List.Sums.{sum_by-cons}
-use Rattle.effects.specs.Fold.{Stage}
+use Rattle.effects.specs.Fold.{Stage, Given, Sent, Asked, Over, Stopped, Ledger}
 use Rattle.job_table.specs.declared.job.Phase.{Phase}
 use Rattle.job_table.specs.declared.job.Phase.TheVariants.{Issued, Waiting, Running, Finished, Killed}
-use Rattle.job_table.specs.Jobs.{Register, HeldJobs, phase_of, with_phase, Rise, is_running, running_jobs}
+use Rattle.job_table.specs.Jobs.{Register, HeldJobs, NobodyRuns, phase_of, with_phase, Rise, is_running, running_jobs}
 use Rattle.job_table.specs.Steps.{is_marked, moved}
 use Rattle.job_table.specs.Plans.{seen_as, ledger_of}
 use Rattle.job_table.specs.Remade.{AllAtRest, IsAtRest, IsRemade, number_if_marked, first_marked, settled_phase, settled, phase_from, table_of}
@@ -146,3 +146,25 @@ goes_on (e ∷ es) rest = λ i. (e.0, by e.1 rest.0 i) ∷ goes_on es rest.1 i
 -- the table that goes on is determined by what effects left
 pub goes_on_from : (r : Register) → IsRemade r → settled r ≡ table_of (ledger_of r)
 goes_on_from r m = λ i. record { first = r.first; jobs = goes_on r.jobs m.at_rest i; issued = r.issued; workers = m.nobody i }
+
+-- ---- nobody runs a job of it
+
+stage_idle : (s : Stage) (osil osol : List ℕ) (marked : Bool) → Some (phase_from s) ≡ Some (Running osil osol marked) → ⊥
+stage_idle Given osil osol marked is = cc
+stage_idle (Sent a b) osil osol marked is = cc
+stage_idle (Asked a b) osil osol marked is = cc
+stage_idle (Over d) osil osol marked is = cc
+stage_idle Stopped osil osol marked is = cc
+
+idle_here : (b : Bool) (s : Stage) (other : Option Phase) (osil osol : List ℕ) (marked : Bool) → (other ≡ Some (Running osil osol marked) → ⊥)
+    → cond b (Some (phase_from s)) other ≡ Some (Running osil osol marked) → ⊥
+idle_here true s other osil osol marked rest is = stage_idle s osil osol marked is
+idle_here false s other osil osol marked rest is = rest is
+
+all_idle : (jobs : List (ℕ × Stage)) (n : ℕ) (osil osol : List ℕ) (marked : Bool) → phase_of n (map (λ held. (held.0, phase_from held.1)) jobs) ≡ Some (Running osil osol marked) → ⊥
+all_idle [] n osil osol marked is = cc
+all_idle (e ∷ es) n osil osol marked is =
+    idle_here (nat_eq n e.0) e.1 (phase_of n (map (λ (held : ℕ × Stage). (held.0, phase_from held.1)) es)) osil osol marked (all_idle es n osil osol marked) is
+
+pub nobody_resumed : (l : Ledger) → NobodyRuns (table_of l)
+nobody_resumed l n osil osol marked is = all_idle l.jobs n osil osol marked is

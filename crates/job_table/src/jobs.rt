@@ -5,7 +5,7 @@ ghost use Rattle.std.specs.Option.{option_copied};
 ghost use Rattle.job_table.specs.declared.entries.Reply.{Reply};
 ghost use Rattle.job_table.specs.declared.entries.Finishing.TheVariants.{Kept};
 ghost use Rattle.job_table.specs.declared.job.Phase.TheVariants.{Issued, Running, Finished};
-ghost use Rattle.job_table.specs.Jobs.{Register, beginning, next_number, Rise, phase_of, with_phase, without, state_of, is_waiting, is_running, states, waiting_jobs, running_jobs, first_waiting, IsFirstWaiting, Below};
+ghost use Rattle.job_table.specs.Jobs.{Register, beginning, next_number, Rise, Rises, phase_of, with_phase, without, state_of, is_waiting, is_running, states, waiting_jobs, running_jobs, first_waiting, IsFirstWaiting, Below};
 ghost use Rattle.effects.specs.Records.{deed_of};
 ghost use Rattle.effects.specs.Stores.{Puts, PutsIf, fault_of};
 ghost use Rattle.job_table.specs.Kept.{KeptBy};
@@ -450,6 +450,14 @@ impl Jobs {
             }
         }
         None
+    }
+
+    /// Law: the numbers rise.
+    pub(crate) fn rise(&self)
+        ensures { Rises self.now }
+    {
+        // What the fields keep is at hand where a call is given one.
+        let _ = self.waiting.len();
     }
 
     /// Kills each job that runs and was asked to stop.

@@ -1,4 +1,5 @@
-//! What holds of every history of moves from an empty table on, whatever its numbers begin with.
+//! What holds of every history of moves from a table on whose numbers rise, as an empty one's do. Its moves were made, or their effects
+//! weren't stored.
 
 ghost use Rattle.job_table.specs.Laws.{GivenJobsRun, NumbersAreGivenOnce, FirstFinishIsKept, RetrievedDocumentsAreRight};
 
@@ -21,7 +22,8 @@ pub fn first_finish_is_kept<V: Verdicts>()
 {}
 
 /// Law: each document that is retrieved came with a finish, and is right for the texts that a send or an enter brought under its
-/// number; where it says that the job was asked to stop, a kill of the job stands before that finish.
+/// number, or that the job had when it waited in the table at first; where it says that the job was asked to stop, a kill of the job
+/// stands before that finish. Or the table had it at first. Nobody runs a job in that table.
 pub fn documents_are_right<V: Verdicts>()
     ensures { RetrievedDocumentsAreRight V.right }
 {}

@@ -5,7 +5,7 @@ ghost use Rattle.std.specs.Option.{option_copied};
 ghost use Rattle.effects.specs.Records as deeds;
 ghost use Rattle.effects.specs.Records.{paper_of, deed_of};
 ghost use Rattle.effects.specs.Fold.{nothing, osil_in, stage_of};
-ghost use Rattle.job_table.specs.Jobs.{phase_of, is_waiting};
+ghost use Rattle.job_table.specs.Jobs.{phase_of, is_waiting, Rises, NobodyRuns};
 ghost use Rattle.job_table.specs.Plans.{ledger_of};
 ghost use Rattle.job_table.specs.Remade.{takes_document, takes_kill, takes_mark, takes_farewell, Remakes, TriesAgain, osil_of, table_of};
 
@@ -309,9 +309,11 @@ impl<V: Verdicts> Remade<V> {
         self.jobs.issued() > 0
     }
 
-    /// The table that goes on from what they left: a job that was asked to stop is killed.
+    /// The table that goes on from what they left: a job that was asked to stop is killed. Nobody runs one.
     pub fn into_table(self) -> Table<V>
-        ensures { result ≡ table_of self }
+        ensures goes_on { result ≡ table_of self }
+        ensures rises { Rises result }
+        ensures nobody { NobodyRuns result }
     {
         let Remade {
             alloc,
@@ -319,6 +321,7 @@ impl<V: Verdicts> Remade<V> {
             verdicts,
         } = self;
         jobs.settle();
+        jobs.rise();
         Table {
             alloc,
             jobs,

@@ -1,9 +1,9 @@
 -- What holds of every conversation.
 use Rattle.std.specs.Prelude.{◌≡◌, ℕ, Bool, List, ◌++◌, Option, Some, map, ⊤}
 use Rattle.job_table.specs.declared.entries.Reply.{Reply}
-use Rattle.job_table.specs.Jobs.{Register}
-use Rattle.job_table.specs.History.{MoveEntry, LeadsTo}
-use Rattle.job_runs.specs.Laws.{AreKept}
+use Rattle.job_table.specs.Jobs.{Register, Rises}
+use Rattle.job_table.specs.History.{MoveEntry, LeadsOn}
+use Rattle.job_runs.specs.Laws.{AreKeptIfStored}
 use Rattle.os_server.specs.declared.serve.Served.{Served}
 use Rattle.os_server.specs.declared.serve.Served.TheVariants.{Ended, CutShort, ReadFault, WriteFault, Memory}
 use Rattle.os_server.specs.Talk.{Part, AtEnd, ReadsBytes, Talk}
@@ -24,11 +24,11 @@ takens parts = map (λ p. p.taken) parts
 abbrev pub replies : List MoveEntry → List Reply
 replies entries = map (λ e. e.reply) entries
 
--- where a table's history is that of one who makes moves, every finish of a conversation is kept
+-- where a table's history is that of one who makes moves, every finish of a conversation is kept, where its effect is stored
 abbrev pub ConversationsAreKept : (List ℕ → List ℕ → List Bool → Option (List ℕ) → Type 0) → (Bool → Type 0) → (List ℕ → List ℕ → Bool → Option (List ℕ) → Type 0) → Type 0
 ConversationsAreKept made wakes right =
-    (end : Served) (past : List ℕ) (left left' : Option (List ℕ)) (p : Part) (before : List MoveEntry) (now : Register)
-    → Talk made wakes end (AtEnd past left left') p → LeadsTo right (before ++ p.entries) now → AreKept p.entries
+    (end : Served) (past : List ℕ) (left left' : Option (List ℕ)) (p : Part) (start : Register) (before : List MoveEntry) (now : Register) → Rises start
+    → Talk made wakes end (AtEnd past left left') p → LeadsOn right start (before ++ p.entries) now → AreKeptIfStored p.entries
 
 module _ (made : List ℕ → List ℕ → List Bool → Option (List ℕ) → Type 0) (wakes : Bool → Type 0) where
   -- without a fault, and with memory, the bytes to come are cut into requests and a last part in one way, which says how the

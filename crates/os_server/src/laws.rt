@@ -12,7 +12,8 @@ use job_runs::finishes_are_kept;
 use job_table::Verdicts;
 use soap_calls::{bytes_have_one_refusal, bytes_say_one_call, calls_are_not_refused};
 
-/// Law: where a conversation's moves are those of the whole history from some moment on, every finish among them is kept.
+/// Law: where a conversation's moves are those of the whole history from some moment on, every finish among them is kept, where its effect
+/// is stored.
 pub fn conversations_are_kept<V: Verdicts, S: Server<V>>()
     ensures { ConversationsAreKept S.ran S.wakes V.right }
 {

@@ -1,5 +1,5 @@
 -- Behind a shift no job waits.
-use Rattle.std.proofs.Common.{◌≡◌, ℕ, ◌+◌, Bool, true, false, cond, List, [], ◌∷◌, Option, Some, None, refl, sym, ap, ◌∙◌, subst}
+use Rattle.std.proofs.Common.{◌≡◌, ℕ, ◌+◌, Bool, true, false, cond, List, [], ◌∷◌, Option, Some, None, refl, sym, ap, ◌∙◌, subst, inl, inr}
 use Rattle.std.proofs.lemmas.List.Sums.{sum_by-cons}
 use Rattle.job_table.specs.declared.job.Job.{Job}
 use Rattle.job_table.specs.declared.job.Phase.{Phase}
@@ -8,8 +8,8 @@ use Rattle.job_table.specs.declared.entries.TableMove.TheVariants.{Claim, Leave}
 use Rattle.job_table.specs.declared.entries.Reply.TheVariants as reply
 use Rattle.job_table.specs.Jobs.{HeldJobs, Register, job, is_waiting, or_waiting, first_waiting, waiting_jobs}
 use Rattle.job_table.specs.Steps.{MoveOutcome, outcome, claims}
-use Rattle.job_table.specs.History.{MoveEntry, entry_of_move, LeadsStepwise}
-use Rattle.job_table.proofs.Histories.{runs_split}
+use Rattle.job_table.specs.History.{MoveEntry, entry_of_move, LeadsOn, MovesOn}
+use Rattle.job_table.proofs.Histories.{chains_split}
 use Rattle.workers.specs.Shifts.{WorksUntilNone, WorksThrough}
 use Rattle.job_runs.proofs.Judgements.{Made, Judgement}
 
@@ -39,15 +39,24 @@ claims_none None r next is = (refl, ap (λ (o : MoveOutcome). o.after) (sym is))
 claims_none (Some j) r next is = absurd (gave_is_not_none j (ap (λ (o : MoveOutcome). o.reply) is))
 
 module _ (made : Made) (right : Judgement) where
-  rests_idle : (r after : Register) (es : List MoveEntry) → WorksUntilNone made es → LeadsStepwise right r es after → waiting_jobs after.jobs ≡ 0
-  rests_idle r after es rests runs =
-      let (mid, before, (next, step, same)) = runs_split right r after rests.before (entry_of_move (Claim true) (reply.Gave None) ∷ [])
-      (subst (λ (l : List MoveEntry). LeadsStepwise right r l after) rests.are runs) in
+  idle_after : (mid next : Register) → MovesOn right mid (Claim true) (reply.Gave None) next → waiting_jobs next.jobs ≡ 0
+  idle_after mid next (inl step) =
       let (none, stays) = claims_none (first_waiting mid.jobs) mid next step.is in
-      ap (λ (s : Register). waiting_jobs s.jobs) (same ∙ stays) ∙ none_first mid.jobs none
+      ap (λ (s : Register). waiting_jobs s.jobs) stays ∙ none_first mid.jobs none
+  idle_after mid next (inr (fault, says, may, same)) = absurd cc
 
-  pub shift_leaves_none : (r after : Register) (es : List MoveEntry) → WorksThrough made es → LeadsStepwise right r es after → waiting_jobs after.jobs ≡ 0
+  same_waiting : (mid last : Register) → MovesOn right mid Leave reply.Done last → waiting_jobs last.jobs ≡ waiting_jobs mid.jobs
+  same_waiting mid last (inl step) = ap (λ (o : MoveOutcome). waiting_jobs o.after.jobs) (sym step.is)
+  same_waiting mid last (inr (fault, says, may, same)) = absurd cc
+
+  rests_idle : (r after : Register) (es : List MoveEntry) → WorksUntilNone made es → LeadsOn right r es after → waiting_jobs after.jobs ≡ 0
+  rests_idle r after es rests runs =
+      let (mid, before, (next, step, same)) = chains_split (MovesOn right) r after rests.before (entry_of_move (Claim true) (reply.Gave None) ∷ [])
+      (subst (λ (l : List MoveEntry). LeadsOn right r l after) rests.are runs) in
+      ap (λ (s : Register). waiting_jobs s.jobs) same ∙ idle_after mid next step
+
+  pub shift_leaves_none : (r after : Register) (es : List MoveEntry) → WorksThrough made es → LeadsOn right r es after → waiting_jobs after.jobs ≡ 0
   shift_leaves_none r after es works runs =
-      let (next, enlists, later) = subst (λ (l : List MoveEntry). LeadsStepwise right r l after) works.are runs in
-      let (mid, shift, (last, leaves, same)) = runs_split right next after works.shift (entry_of_move Leave reply.Done ∷ []) later in
-      ap (λ (s : Register). waiting_jobs s.jobs) same ∙ ap (λ (o : MoveOutcome). waiting_jobs o.after.jobs) (sym leaves.is) ∙ rests_idle next mid works.shift works.rests shift
+      let (next, enlists, later) = subst (λ (l : List MoveEntry). LeadsOn right r l after) works.are runs in
+      let (mid, shift, (last, leaves, same)) = chains_split (MovesOn right) next after works.shift (entry_of_move Leave reply.Done ∷ []) later in
+      ap (λ (s : Register). waiting_jobs s.jobs) same ∙ same_waiting mid last leaves ∙ rests_idle next mid works.shift works.rests shift
