@@ -1,2 +1,5 @@
 pub mod Runs
 pub mod ProvedDocuments
+pub mod Sieves
+pub mod StoredDocuments
+pub mod Openings

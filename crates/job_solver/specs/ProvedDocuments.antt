@@ -18,11 +18,10 @@ use Rattle.job_table.specs.declared.entries.Reply.TheVariants as reply
 use Rattle.job_table.specs.Jobs.{Register, job}
 use Rattle.job_table.specs.History.{MoveEntry, entry_of_move, LeadsTo, WasKilled, WasBrought}
 
--- a document that is shown of a job came with a finish of it that was kept. It answers texts that were sent or entered under the job's
--- number before that finish: it is the result document of a report about them. A claim in it, that a point is optimal, that none is
+-- a document that is shown of a job came with a finish of it that was kept. It answers texts that the job had before that finish: it is the result document of a report about them. A claim in it, that a point is optimal, that none is
 -- feasible, that points have no best value, or of a point, is accepted by the checker from these bytes and those of the instance, and is true of
 -- the instance. Only where a kill of the job stands before the finish was the job asked to stop
-pub record IsProved (n : ℕ) (document : List ℕ) (before : List MoveEntry) : Type 0 where
+pub record IsProvedBy (had : List ℕ → List ℕ → List MoveEntry → Type 0) (n : ℕ) (document : List ℕ) (before : List MoveEntry) : Type 0 where
   pub osil : List ℕ
   pub osol : List ℕ
   pub asked : Bool
@@ -30,12 +29,16 @@ pub record IsProved (n : ℕ) (document : List ℕ) (before : List MoveEntry) : 
   pub until : List MoveEntry
   pub since : List MoveEntry
   pub finished : before ≡ until ++ entry_of_move (Finish (job n osil osol) asked (Some document)) (reply.Finish Kept) ∷ since
-  pub brought : WasBrought n osil osol until
+  pub brought : had osil osol until
   pub killed : asked ≡ true → WasKilled n until
   pub answers : AnswersJob osil osol asked report
   pub written : document ≡ report_text report
   pub accepted : (c : Claim) (k : Kind) → report.claim ≡ Some c → kind c ≡ Some k → IsAcceptedText osil document k
   pub is_true : (p : Parts) (c : Claim) (k : Kind) → IsInstanceText osil p → report.claim ≡ Some c → kind c ≡ Some k → IsTrueOf (problem p) (Means.claim c)
+
+-- the same, where the texts were sent or entered under the job's number before that finish
+abbrev pub IsProved : ℕ → List ℕ → List MoveEntry → Type 0
+IsProved n document before = IsProvedBy (WasBrought n) n document before
 
 -- each document that is shown is such a one, by what stands before
 abbrev pub AreProved : List MoveEntry → Type 0

@@ -1,5 +1,6 @@
 //! What holds of every history of jobs that are solved.
 ghost use Rattle.job_solver.specs.ProvedDocuments.{ShownAreProved};
+ghost use Rattle.job_solver.specs.StoredDocuments.{ShownAreProvedFrom};
 
 use crate::solver::SolvedJobs;
 use job_table::documents_are_right;
@@ -10,6 +11,15 @@ use solve_run::claims_are_accepted;
 /// job was asked to stop, a kill of the job.
 pub fn shown_documents_are_proved()
     ensures { ShownAreProved }
+{
+    documents_are_right::<SolvedJobs>();
+    claims_are_accepted();
+}
+
+/// Law: the same in a history from a table on that a journal gave, in which no job runs: what is shown is proved so, or the table had it
+/// at first. A job that waited there has its texts from there.
+pub fn shown_documents_are_proved_from_tables()
+    ensures { ShownAreProvedFrom }
 {
     documents_are_right::<SolvedJobs>();
     claims_are_accepted();

@@ -6,11 +6,18 @@
 //! [`shown_documents_are_proved`] joins what the table says of its documents, which finish brought them and for which texts, with
 //! what the solver says of its answers, which claims the checker accepts and which are true.
 //!
+//! [`open_jobs`] opens the journal of such a table (`job_journal`). Of the documents that it keeps those are accepted that claim
+//! nothing, and those whose claims the checker accepts ([`DocumentSieve`]).
+//!
 //! The rules are in `docs/rules/jobs.md` and `docs/rules/runs.md`.
 #![tactic(auto)]
 
 mod laws;
+mod opening;
+mod sieve;
 mod solver;
 
-pub use laws::shown_documents_are_proved;
+pub use laws::{shown_documents_are_proved, shown_documents_are_proved_from_tables};
+pub use opening::open_jobs;
+pub use sieve::DocumentSieve;
 pub use solver::{SolvedJobs, Solver};

@@ -1,0 +1,96 @@
+-- A journal that is opened, with numbers that begin with one that is asked for.
+use Rattle.std.proofs.Common.{◌≡◌, inl, inr, ℕ, ◌≤◌, nat_eq, nat_le, nat_lt, Bool, true, false, ◌&&◌, if◌then◌else◌, List, [], ◌∷◌, ◌++◌, Option, Some, None, Err, refl, sym, ap, ◌∙◌, subst, arith}
+use Rattle.std.proofs.lemmas.Bool.Decides.{nat_tests}
+use Rattle.os_io.specs.Streams.{HasRisen}
+use Rattle.effects.specs.Limits.{most_first}
+use Rattle.effects.specs.Records.{Deed, Begin}
+use Rattle.effects.specs.Fold.{Ledger, nothing, begins}
+use Rattle.job_table.specs.Jobs.{Register}
+use Rattle.job_table.specs.Remade.{table_of}
+use Rattle.job_journal.specs.declared.scanning.OpenFault.{OpenFault}
+use Rattle.job_journal.specs.declared.scanning.OpenFault.TheVariants.{ReadFault, WriteFault, Damaged, Memory}
+use Rattle.job_journal.specs.Journal.{FileRests}
+use Rattle.job_journal.specs.Opening.{FoldsTo, WasMade, IsOpened, IsUnfound, DamagedIn, CountsFault, CountsBack}
+use Rattle.job_journal.proofs.Scans.{folds_push}
+use Rattle.job_solver.specs.Sieves.{Sifts}
+use Rattle.job_solver.specs.Openings.{BeginsWith, BegunWith, GoesOn, IsTableOf}
+use Rattle.job_solver.proofs.StoredDocuments.{going_on}
+
+some_same : (l m : Ledger) → Some l ≡ Some m → l ≡ m
+some_same l m is = cc
+
+-- numbers begin with this one where none was given
+begins_so : (n : ℕ) (l : Ledger) → nat_lt 0 l.issued ≡ false → 1 ≤ n → n ≤ most_first → begins n l ≡ Some (record l { first = n })
+begins_so n l none some within =
+    let new : nat_eq l.issued 0 ≡ true = grind (arith, nat_tests) in
+    let least : nat_le 1 n ≡ true = grind (arith, nat_tests) in
+    let most : nat_le n most_first ≡ true = grind (arith, nat_tests) in
+    λ i. if new i && least i && most i then Some (record l { first = n }) else None
+
+-- and so they do once that was made
+pub begins_then : (n end : ℕ) (l l' : Ledger) (made : Bool) → begins n l ≡ (if made then Some l' else None) → nat_lt 0 l.issued ≡ false → 1 ≤ n → n ≤ most_first → BeginsWith n end l'.first l'.issued
+begins_then n end l l' true is none some within =
+    let same : record l { first = n } ≡ l' = some_same (record l { first = n }) l' (sym (begins_so n l none some within) ∙ is) in inr (inl (ap (λ (m : Ledger). m.first) (sym same)))
+begins_then n end l l' false is none some within = let wrong : Some (record l { first = n }) ≡ None = sym (begins_so n l none some within) ∙ is in cc
+
+-- an effect that is possible was made
+made_so : (made : Bool) (m new : Ledger) (o : Option Ledger) → o ≡ (if made then Some new else None) → o ≡ Some m → o ≡ Some new
+made_so true m new o is so = is
+made_so false m new o is so = cc
+
+module _ {D : Type 0} (seen : D → List ℕ) (may_leave : D → List ℕ → Type 0) (told : D → Bool) (first : ℕ) where
+  abbrev Begun : (disk : D) (end : ℕ) → Ledger → (disk' : D) (end' : ℕ) → Ledger → Type 0
+  Begun disk end l disk' end' l' = BegunWith seen may_leave told first disk end l disk' end' l'
+
+  pub begun : (disk disk' : D) (end end' : ℕ) (l l' : Ledger) (made : Bool) → begins first l ≡ (if made then Some l' else None) → nat_lt 0 l.issued ≡ false → 1 ≤ first → first ≤ most_first
+      → ((deeds : List Deed) → told disk ≡ true → FileRests seen may_leave disk end deeds → FileRests seen may_leave disk' end' (deeds ++ Begin first ∷ []))
+      → Begun disk end l disk' end' l'
+  begun disk disk' end end' l l' made is none some within rests =
+      inr (made_so made (record l { first = first }) l' (begins first l) is (begins_so first l none some within), rests)
+
+  still_folds : (deeds : List Deed) (l l' : Ledger) → l' ≡ l → FoldsTo Sifts nothing deeds l → FoldsTo Sifts nothing deeds l'
+  still_folds deeds l l' still folds = subst (λ (m : Ledger). FoldsTo Sifts nothing deeds m) (sym still) folds
+
+  -- the table goes on from effects
+  pub made_on : (disk disk' : D) (end end' : ℕ) (l l' : Ledger) (table : Register) → WasMade Sifts l → Begun disk end l disk' end' l' → table ≡ table_of l' → (deeds : List Deed) × GoesOn deeds table
+  made_on disk disk' end end' l l' table (deeds, folds) (inl (same, there, still)) is = (deeds, going_on deeds l' table (still_folds deeds l l' still folds) is)
+  made_on disk disk' end end' l l' table (deeds, folds) (inr (leads, rests)) is =
+      (deeds ++ Begin first ∷ [], going_on (deeds ++ Begin first ∷ []) l' table (folds_push Sifts nothing deeds l (Begin first) l' folds (tt, leads)) is)
+
+  -- and from those that the file stood for
+  pub table_on : (file : List ℕ) (disk disk' : D) (end end' : ℕ) (l l' : Ledger) (table : Register) → told disk ≡ true → IsOpened Sifts seen may_leave file disk end l → Begun disk end l disk' end' l'
+      → table ≡ table_of l' → IsTableOf seen may_leave file first table disk' end'
+  table_on file disk disk' end end' l l' table tells o (inl (same, there, still)) is = record {
+    deeds = o.deeds;
+    fit = o.fit;
+    stands = o.stands;
+    kept = o.deeds;
+    kept_is = inl refl;
+    goes_on = going_on o.deeds l' table (still_folds o.deeds l l' still o.folds) is;
+    rests = subst (λ (z : D × ℕ). FileRests seen may_leave z.0 z.1 o.deeds) (λ i. (sym same i, sym there i)) o.rests;
+  }
+  table_on file disk disk' end end' l l' table tells o (inr (leads, rests)) is = record {
+    deeds = o.deeds;
+    fit = o.fit;
+    stands = o.stands;
+    kept = o.deeds ++ Begin first ∷ [];
+    kept_is = inr refl;
+    goes_on = going_on (o.deeds ++ Begin first ∷ []) l' table (folds_push Sifts nothing o.deeds l (Begin first) l' o.folds (tt, leads)) is;
+    rests = rests o.deeds tells o.rests;
+  }
+
+-- ---- where it isn't opened
+
+pub no_damage : (file : List ℕ) (fault : OpenFault) → IsUnfound fault → DamagedIn Sifts file fault
+no_damage file ReadFault un = tt
+no_damage file WriteFault un = tt
+no_damage file (Damaged place) un = absurd un
+no_damage file Memory un = tt
+
+-- whatever is counted of a journal
+pub counted_back : {D : Type 0} (faults : D → ℕ) (fault : OpenFault) (disk left : D) (before mid : ℕ) → mid ≡ before → left ≡ disk
+    → CountsFault {X = Unit {0}} (Err fault) mid (faults disk) → CountsBack {J = ℕ} (λ n. n) faults (Err (fault, left)) before
+counted_back faults ReadFault disk left before mid same is counts = subst (λ (z : ℕ × ℕ). HasRisen z.0 z.1) (λ i. (same i, ap faults (sym is) i)) counts
+counted_back faults WriteFault disk left before mid same is counts = subst (λ (z : ℕ × ℕ). HasRisen z.0 z.1) (λ i. (same i, ap faults (sym is) i)) counts
+counted_back faults (Damaged place) disk left before mid same is counts = ap faults is ∙ counts ∙ same
+counted_back faults Memory disk left before mid same is counts = ap faults is ∙ counts ∙ same

@@ -1,0 +1,27 @@
+use Rattle.std.proofs.Common.{sym, ◌∙◌, subst}
+use Rattle.job_table.specs.Jobs.{Register}
+use Rattle.job_solver.specs.Openings.{BeginsWith}
+use Rattle.job_solver.proofs.Openings.{made_on, table_on, no_damage, counted_back}
+use Rattle.job_solver.proofs.opening.open_jobs.Goals as goal
+
+pub returns-in-Ok-begin_with-clause-begins : goal.returns-in-Ok-begin_with-clause-begins
+returns-in-Ok-begin_with-clause-begins g c =
+    subst (λ (r : Register). BeginsWith c.args.first c.begin_with.new.journal.end r.first r.issued) (sym c.into_table-table.ensures.goes_on) c.in-Ok-begin_with.ensures.begins
+
+pub returns-in-Ok-begin_with-clause-goes_on : goal.returns-in-Ok-begin_with-clause-goes_on
+returns-in-Ok-begin_with-clause-goes_on g c =
+    made_on g.D.Disk.seen g.D.Disk.may_leave g.D.Disk.told c.args.first c.in-Ok.journal.disk c.begin_with.new.journal.disk c.in-Ok.journal.end c.begin_with.new.journal.end c.open_journal.new.table
+    c.begin_with.new.table c.into_table-table.result c.in-Ok.ensures.made c.in-Ok-begin_with.ensures.begun c.into_table-table.ensures.goes_on
+
+pub returns-in-Ok-begin_with-clause-opened : goal.returns-in-Ok-begin_with-clause-opened
+returns-in-Ok-begin_with-clause-opened g c = λ tells.
+    table_on g.D.Disk.seen g.D.Disk.may_leave g.D.Disk.told c.args.first (g.D.Disk.seen c.args.disk) c.in-Ok.journal.disk c.begin_with.new.journal.disk c.in-Ok.journal.end c.begin_with.new.journal.end
+    c.open_journal.new.table c.begin_with.new.table c.into_table-table.result (c.in-Ok.ensures.told ∙ tells) (c.in-Ok.ensures.opened tells) c.in-Ok-begin_with.ensures.begun c.into_table-table.ensures.goes_on
+
+pub returns-in-Err-begin_with-clause-damaged : goal.returns-in-Err-begin_with-clause-damaged
+returns-in-Err-begin_with-clause-damaged g c = λ tells. no_damage (g.D.Disk.seen c.args.disk) c.in-Err-begin_with.fault c.in-Err-begin_with.ensures.err
+
+pub returns-in-Err-begin_with-clause-cause : goal.returns-in-Err-begin_with-clause-cause
+returns-in-Err-begin_with-clause-cause g c =
+    counted_back g.D.Disk.faults c.in-Err-begin_with.fault c.begin_with.new.journal.disk c.into_disk.result (g.D.Disk.faults c.args.disk) (g.D.Disk.faults c.in-Ok.journal.disk)
+    c.in-Ok.ensures.cause c.into_disk.ensures c.in-Err-begin_with.ensures.cause
