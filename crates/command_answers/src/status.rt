@@ -26,3 +26,6 @@ pub const NO_REPLY: u8 = 7;
 
 /// The input ended inside a request.
 pub const CUT_SHORT: u8 = 8;
+
+/// The journal is damaged, and where was written.
+pub const DAMAGED: u8 = 9;

@@ -14,7 +14,7 @@ use Rattle.effects.specs.Limits.{most_first}
 use Rattle.six_calls.specs.Names.{kind_named}
 use Rattle.command_line.specs.Forms.{program_form}
 use Rattle.command_line.specs.Numbers.{number_between, number_or}
-use Rattle.command_line.specs.Words.{Command, Said, Session, Check, Solve, Generate, Call, Serve, AreNumbersWithin, asked_by, asked_with, asks, called_command, check_of, found_in, generate_of, port_of, serve_of, solve_of}
+use Rattle.command_line.specs.Words.{Command, Said, Check, Solve, Generate, Call, Serve, AreNumbersWithin, asked_by, asked_with, asks, called_command, check_of, found_in, generate_of, port_of, serve_of, session_of, solve_of}
 
 number_within : (least most : ℕ) (word : Text) (n : ℕ) → number_between least most word ≡ Some n → (least ≤ n) × (n ≤ most)
 number_within least most word n is = go (is_unsigned_in least most word) refl is
@@ -58,7 +58,7 @@ module _ (said : Said) (it : Command) where
   serve_within : (host : Option Text) (port workers servers connections patience first : Option ℕ) → port_of said ≡ port → number_or 2 0 16 (said (codes "workers")) ≡ workers
       → number_or 8 1 64 (said (codes "servers")) ≡ servers → number_or 1000000 1 1000000 (said (codes "connections")) ≡ connections
       → number_or 30 1 3600 (said (codes "patience")) ≡ patience → number_or 1 1 most_first (said (codes "first")) ≡ first
-      → option_and_then (λ (h : Text). option_and_then (λ (p : ℕ). option_and_then (λ (w : ℕ). option_and_then (λ (s : ℕ). option_and_then (λ (c : ℕ). option_and_then (λ (t : ℕ). option_map (λ (n : ℕ). Serve h p w s c t n) first) patience) connections) servers) workers) port) host ≡ Some it
+      → option_and_then (λ (h : Text). option_and_then (λ (p : ℕ). option_and_then (λ (w : ℕ). option_and_then (λ (s : ℕ). option_and_then (λ (c : ℕ). option_and_then (λ (t : ℕ). option_map (λ (n : ℕ). Serve h p w s c t n (said (codes "journal"))) first) patience) connections) servers) workers) port) host ≡ Some it
       → AreNumbersWithin it
   serve_within None port workers servers connections patience first p w s c t n is = absurd (none-some it is)
   serve_within (Some host) None workers servers connections patience first p w s c t n is = absurd (none-some it is)
@@ -68,7 +68,7 @@ module _ (said : Said) (it : Command) where
   serve_within (Some host) (Some port) (Some workers) (Some servers) (Some connections) None first p w s c t n is = absurd (none-some it is)
   serve_within (Some host) (Some port) (Some workers) (Some servers) (Some connections) (Some patience) None p w s c t n is = absurd (none-some it is)
   serve_within (Some host) (Some port) (Some workers) (Some servers) (Some connections) (Some patience) (Some first) p w s c t n is =
-      let within : AreNumbersWithin (Serve host port workers servers connections patience first) = (
+      let within : AreNumbersWithin (Serve host port workers servers connections patience first (said (codes "journal"))) = (
         (read_within 0 65535 (said (codes "port")) port p).1,
         (or_within 2 0 16 (said (codes "workers")) workers (omega arith) (omega arith) w).1,
         or_within 8 1 64 (said (codes "servers")) servers (omega arith) (omega arith) s,
@@ -76,11 +76,11 @@ module _ (said : Said) (it : Command) where
         or_within 30 1 3600 (said (codes "patience")) patience (omega arith) (omega arith) t,
         or_within 1 1 most_first (said (codes "first")) first (omega arith) (omega arith) n,
       ) in
-      subst AreNumbersWithin (same_Some (Serve host port workers servers connections patience first) it is) within
+      subst AreNumbersWithin (same_Some (Serve host port workers servers connections patience first (said (codes "journal"))) it is) within
 
   by_name : (session check solve generate call serve : Bool)
-      → cond session (Some Session) (cond check (check_of said) (cond solve (solve_of said) (cond generate (generate_of said) (cond call (called_command said) (cond serve (serve_of said) None))))) ≡ Some it → AreNumbersWithin it
-  by_name true check solve generate call serve is = subst AreNumbersWithin (same_Some Session it is) tt
+      → cond session (Some (session_of said)) (cond check (check_of said) (cond solve (solve_of said) (cond generate (generate_of said) (cond call (called_command said) (cond serve (serve_of said) None))))) ≡ Some it → AreNumbersWithin it
+  by_name true check solve generate call serve is = subst AreNumbersWithin (same_Some (session_of said) it is) tt
   by_name false true solve generate call serve is = check_within (said (codes "osil")) (said (codes "osrl")) is
   by_name false false true generate call serve is = solve_within (said (codes "osil")) (said (codes "options")) (is_some (said (codes "safe"))) is
   by_name false false false true call serve is = generate_within (option_and_then (number_between 1 1000) (said (codes "variables"))) refl is

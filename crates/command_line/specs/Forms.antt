@@ -13,12 +13,12 @@ pub record CommandForm : Type 0 where
 
 -- the commands
 abbrev pub forms : List CommandForm
-forms = record { name = codes "session"; needed = []; named = []; flags = [] }
+forms = record { name = codes "session"; needed = []; named = codes "journal" ∷ []; flags = [] }
     ∷ record { name = codes "check"; needed = codes "osil" ∷ codes "osrl" ∷ []; named = []; flags = [] }
     ∷ record { name = codes "solve"; needed = codes "osil" ∷ []; named = codes "options" ∷ []; flags = codes "safe" ∷ [] }
     ∷ record { name = codes "generate"; needed = codes "variables" ∷ []; named = []; flags = [] }
     ∷ record { name = codes "call"; needed = codes "name" ∷ codes "host" ∷ codes "port" ∷ []; named = codes "osil" ∷ codes "osol" ∷ codes "ospl" ∷ []; flags = [] }
-    ∷ record { name = codes "serve"; needed = codes "host" ∷ codes "port" ∷ []; named = codes "workers" ∷ codes "servers" ∷ codes "connections" ∷ codes "patience" ∷ codes "first" ∷ []; flags = [] }
+    ∷ record { name = codes "serve"; needed = codes "host" ∷ codes "port" ∷ []; named = codes "workers" ∷ codes "servers" ∷ codes "connections" ∷ codes "patience" ∷ codes "first" ∷ codes "journal" ∷ []; flags = [] }
     ∷ []
 
 -- a word that must be given

@@ -16,27 +16,31 @@ use Rattle.command_line.specs.declared.words.Asked.TheVariants as asked
 -- files of its parts; or a server there, with so many workers, so many conversations at once, up to so many connections, of whose links
 -- each waits for its peer for so many seconds at most, and whose first job has this number
 pub data Command : Type 0 where
-  Session : Command
+  Session : (journal : Option Text) → Command
   Check : (osil osrl : Text) → Command
   Solve : (osil : Text) → (options : Option Text) → (safe : Bool) → Command
   Generate : (variables : ℕ) → Command
   Call : (kind : CallKind) → (host : Text) → (port : ℕ) → (osil osol ospl : Option Text) → Command
-  Serve : (host : Text) → (port workers servers connections patience first : ℕ) → Command
+  Serve : (host : Text) → (port workers servers connections patience first : ℕ) → (journal : Option Text) → Command
 
 -- the command that is asked for
 abbrev pub meant : Asked → Command
-meant asked.Session = Session
+meant (asked.Session journal) = Session (option_map (λ n. n.now) journal)
 meant (asked.Check osil osrl) = Check osil.now osrl.now
 meant (asked.Solve osil options safe) = Solve osil.now (option_map (λ name. name.now) options) safe
 meant (asked.Generate variables) = Generate variables
 meant (asked.Call words) = Call words.kind words.host.now words.port (option_map (λ name. name.now) words.osil) (option_map (λ name. name.now) words.osol) (option_map (λ name. name.now) words.ospl)
-meant (asked.Serve words) = Serve words.host.now words.port words.workers words.servers words.connections words.patience words.first
+meant (asked.Serve words) = Serve words.host.now words.port words.workers words.servers words.connections words.patience words.first (option_map (λ n. n.now) words.journal)
 
 -- ---- what a command's words mean
 
 -- the texts of words, by the words' names
 abbrev pub Said : Type 0
 Said = Text → Option Text
+
+-- a session, over the journal in a file, if it is named
+abbrev pub session_of : Said → Command
+session_of said = Session (said (codes "journal"))
 
 abbrev pub check_of : Said → Option Command
 check_of said = option_and_then (λ osil. option_map (Check osil) (said (codes "osrl"))) (said (codes "osil"))
@@ -59,13 +63,13 @@ called_command said = option_and_then (λ kind. option_and_then (λ host. option
 -- connections, all of them where none are said; 1 to 3600 seconds, 30 where none are said; and a number from 1 to 2^62, 1 where none is said
 abbrev pub serve_of : Said → Option Command
 serve_of said =
-    option_and_then (λ host. option_and_then (λ port. option_and_then (λ workers. option_and_then (λ servers. option_and_then (λ connections. option_and_then (λ patience. option_map (λ first. Serve host port workers servers connections patience first)
+    option_and_then (λ host. option_and_then (λ port. option_and_then (λ workers. option_and_then (λ servers. option_and_then (λ connections. option_and_then (λ patience. option_map (λ first. Serve host port workers servers connections patience first (said (codes "journal")))
     (number_or 1 1 most_first (said (codes "first")))) (number_or 30 1 3600 (said (codes "patience")))) (number_or 1000000 1 1000000 (said (codes "connections"))))
     (number_or 8 1 64 (said (codes "servers")))) (number_or 2 0 16 (said (codes "workers")))) (port_of said)) (said (codes "host"))
 
 -- what a command asks for, by its name and by the texts of its words
 abbrev pub asked_by : Text → Said → Option Command
-asked_by name said = if bytes_eq name (codes "session") then Some Session
+asked_by name said = if bytes_eq name (codes "session") then Some (session_of said)
     else (if bytes_eq name (codes "check") then check_of said
     else (if bytes_eq name (codes "solve") then solve_of said
     else (if bytes_eq name (codes "generate") then generate_of said
@@ -89,7 +93,7 @@ asks words = asked_with (fault_of program_form words) (subcommand_of program_for
 
 -- the words are `session`'s
 abbrev pub AsksSession : List Text → Type 0
-AsksSession words = asks words ≡ Some Session
+AsksSession words = asks words ≡ Some (Session None)
 
 -- the words are no command's
 abbrev pub IsNoCommand : List Text → Type 0
@@ -105,32 +109,32 @@ IsSolve words osil options safe = asks words ≡ Some (Solve osil options safe)
 
 -- a command's numbers are within their ends
 abbrev pub AreNumbersWithin : Command → Type 0
-AreNumbersWithin Session = Unit {0}
+AreNumbersWithin (Session journal) = Unit {0}
 AreNumbersWithin (Check osil osrl) = Unit {0}
 AreNumbersWithin (Solve osil options safe) = Unit {0}
 AreNumbersWithin (Generate variables) = (1 ≤ variables) × (variables ≤ 1000)
 AreNumbersWithin (Call kind host port osil osol ospl) = port ≤ 65535
-AreNumbersWithin (Serve host port workers servers connections patience first) =
+AreNumbersWithin (Serve host port workers servers connections patience first journal) =
     (port ≤ 65535) × (workers ≤ 16) × ((1 ≤ servers) × (servers ≤ 64)) × ((1 ≤ connections) × (connections ≤ 1000000)) × ((1 ≤ patience) × (patience ≤ 3600))
     × ((1 ≤ first) × (first ≤ most_first))
 
 -- the command names files: a call does where one of its parts is in a file
 abbrev pub names_files : Command → Bool
-names_files Session = false
+names_files (Session journal) = false
 names_files (Check osil osrl) = true
 names_files (Solve osil options safe) = true
 names_files (Generate variables) = false
 names_files (Call kind host port osil osol ospl) = is_some osil || (is_some osol || is_some ospl)
-names_files (Serve host port workers servers connections patience first) = false
+names_files (Serve host port workers servers connections patience first journal) = false
 
 -- the command asks for links
 abbrev pub asks_for_links : Command → Bool
-asks_for_links Session = false
+asks_for_links (Session journal) = false
 asks_for_links (Check osil osrl) = false
 asks_for_links (Solve osil options safe) = false
 asks_for_links (Generate variables) = false
 asks_for_links (Call kind host port osil osol ospl) = true
-asks_for_links (Serve host port workers servers connections patience first) = true
+asks_for_links (Serve host port workers servers connections patience first journal) = true
 
 -- the words name no file: no command that they ask for does
 abbrev pub NamesNoFile : List Text → Type 0

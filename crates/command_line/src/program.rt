@@ -74,7 +74,7 @@ pub(crate) fn program<'a>(alloc: Global) -> Result<Command<'a>, Memory>
     ensures { IfOk result (λ command. app_of command ≡ program_form) }
 {
     let program = Command::new(alloc, "os_app").subcommand_required(true);
-    let program = with_command(program, alloc, "session", &[], &[], &[])?;
+    let program = with_command(program, alloc, "session", &[], &["journal"], &[])?;
     let program = with_command(program, alloc, "check", &["osil", "osrl"], &[], &[])?;
     let program = with_command(program, alloc, "solve", &["osil"], &["options"], &["safe"])?;
     let program = with_command(program, alloc, "generate", &["variables"], &[], &[])?;
@@ -91,7 +91,14 @@ pub(crate) fn program<'a>(alloc: Global) -> Result<Command<'a>, Memory>
         alloc,
         "serve",
         &["host", "port"],
-        &["workers", "servers", "connections", "patience", "first"],
+        &[
+            "workers",
+            "servers",
+            "connections",
+            "patience",
+            "first",
+            "journal",
+        ],
         &[],
     )
 }

@@ -31,7 +31,7 @@ pub struct CallWords<'w> {
 }
 
 /// Where is served, by up to how many workers that run jobs, how many conversations at once, and how many connections in all; for how
-/// many seconds a link waits for its peer at most, and which number the first job has.
+/// many seconds a link waits for its peer at most, which number the first job has, and the name of the journal's file.
 #[derive(Clone, Copy)]
 pub struct ServeWords<'w> {
     pub host: &'w str,
@@ -41,13 +41,16 @@ pub struct ServeWords<'w> {
     pub connections: u32,
     pub patience: u16,
     pub first: u64,
+    pub journal: Option<&'w str>,
 }
 
 /// What the words ask for.
 #[derive(Clone, Copy)]
 pub enum Asked<'w> {
-    /// To serve the requests that come on the input, and write the answers to the output.
-    Session,
+    /// To serve the requests that come on the input, and write the answers to the output, over the journal in a file, if it is named.
+    Session {
+        journal: Option<&'w str>,
+    },
     /// To check the result in one file of the instance in another.
     Check {
         osil: &'w str,
@@ -101,6 +104,14 @@ fn port_of(matches: &ArgMatches) -> Option<u16>
 {
     let port = number_in(matches.get_str("port")?, 0, 65_535)?;
     Some(port as u16)
+}
+
+/// The journal that `session`'s words name.
+fn session_of<'w>(matches: &ArgMatches<'w>) -> Asked<'w>
+    ensures { says.meant result ≡ says.session_of (first_value (found_of matches.now)) }
+{
+    let journal = matches.get_str("journal");
+    Asked::Session { journal }
 }
 
 /// The files that a check's words name.
@@ -167,6 +178,7 @@ fn serve_of<'w>(matches: &ArgMatches<'w>) -> Option<Asked<'w>>
     let connections = number_or(1_000_000, matches.get_str("connections"), 1, 1_000_000)?;
     let patience = number_or(30, matches.get_str("patience"), 1, 3_600)?;
     let first = number_or(1, matches.get_str("first"), 1, MOST_FIRST)?;
+    let journal = matches.get_str("journal");
     Some(Asked::Serve(ServeWords {
         host,
         port,
@@ -175,6 +187,7 @@ fn serve_of<'w>(matches: &ArgMatches<'w>) -> Option<Asked<'w>>
         connections: connections as u32,
         patience: patience as u16,
         first,
+        journal,
     }))
 }
 
@@ -183,7 +196,7 @@ fn asked_of<'w>(name: &str, matches: &ArgMatches<'w>) -> Option<Asked<'w>>
     ensures { option_map says.meant result ≡ says.asked_by name.now (first_value (found_of matches.now)) }
 {
     if name == "session" {
-        Some(Asked::Session)
+        Some(session_of(matches))
     } else if name == "check" {
         check_of(matches)
     } else if name == "solve" {
