@@ -1,4 +1,4 @@
--- The finishes of many movers, each of whom finishes only the job that it has in hand, are kept.
+-- The finishes of many movers, each of whom finishes only the job that it has in hand, are kept, where they are stored.
 use Rattle.std.proofs.Common.{◌≡◌, ◌≢◌, ℕ, eqb, eq-eqb, eqb-true, ne_eqb, cond, Bool, true, false, List, [], ◌∷◌, ◌++◌, Option, Some, None, refl, sym, ◌∙◌, ap, subst, inl, inr}
 use Rattle.std.proofs.lemmas.List.Elements.{All-nil, All-cons}
 use Rattle.job_table.specs.declared.job.Job.{Job}
@@ -6,15 +6,15 @@ use Rattle.job_table.specs.declared.entries.TableMove.{TableMove}
 use Rattle.job_table.specs.declared.entries.TableMove.TheVariants.{Enter, Claim, Look, Finish}
 use Rattle.job_table.specs.declared.entries.Reply as replies
 use Rattle.job_table.specs.declared.entries.Reply.TheVariants as reply
-use Rattle.job_table.specs.Jobs.{Register, beginning}
+use Rattle.job_table.specs.Jobs.{Register, Rises}
 use Rattle.job_table.specs.Steps.{Step}
-use Rattle.job_table.specs.History.{MoveEntry as Said, entry_of_move, LeadsStepwise, LeadsTo as Leads, runs_then, NoFinish, is_finish_of, IsGiving, WasTold}
-use Rattle.job_table.proofs.Histories.{leads_on}
+use Rattle.job_table.specs.History.{MoveEntry as Said, entry_of_move, LeadsOn, MovesOn, chains_then, NoFinish, is_finish_of, IsGiving, WasTold}
 use Rattle.job_table.specs.Laws.{WasGiven, FirstFinishIsKept, NumbersAreGivenOnce}
-use Rattle.job_runs.specs.Laws.{kept_if_finish, IsFinishKept, AreKept}
+use Rattle.job_runs.specs.Laws.{IsKeptIfStored, AreKeptIfStored}
 use Rattle.job_runs.proofs.Judgements.{Judgement}
+use Rattle.job_runs.proofs.Histories.{ends_so, gave_made}
 use Rattle.desk.specs.declared.view.SeatEntry.{SeatEntry}
-use Rattle.desk.specs.History.{LeadsTo, moves_in, entries_by}
+use Rattle.desk.specs.History.{moves_in, entries_by}
 use Rattle.serving.proofs.Hands.{Hand, after_gave, after_look, then_in_hand, Allows, IsOrderly}
 
 false_is_not : false ≡ true → ⊥
@@ -56,19 +56,21 @@ module _ (right : Judgement) where
   HoldsAny now None = Unit {0}
   HoldsAny now (Some h) = Holds now h
 
-  given_more : (j : Job) (before entries : List Said) (now next : Register) (e : Said) → WasGiven right j before entries now → Step right now e.table_move e.reply next
+  given_more : (j : Job) (before entries : List Said) (now next : Register) (e : Said) → WasGiven right j before entries now → MovesOn right now e.table_move e.reply next
       → WasGiven right j before (entries ++ e ∷ []) next
   given_more j before entries now next e g step = record {
+    start = g.start;
+    rises = g.rises;
     old = g.old;
     new = g.new;
     table_move = g.table_move;
     runs = g.runs;
     giving = g.giving;
     gave = g.gave;
-    rest = runs_then right g.new now next entries (e ∷ []) g.rest (next, step, refl);
+    rest = chains_then (MovesOn right) g.new now next entries (e ∷ []) g.rest (next, step, refl);
   }
 
-  holds_more : (now next : Register) (h : Hand) (move : TableMove) (said : replies.Reply) → Holds now h → Step right now move said next → is_finish_of h.job.number move ≡ false → Holds next h
+  holds_more : (now next : Register) (h : Hand) (move : TableMove) (said : replies.Reply) → Holds now h → MovesOn right now move said next → is_finish_of h.job.number move ≡ false → Holds next h
   holds_more now next h move said holds step other = record {
     before = holds.before;
     entries = holds.entries ++ entry_of_move move said ∷ [];
@@ -77,20 +79,20 @@ module _ (right : Judgement) where
     told = λ told. told_more h.job.number holds.entries (entry_of_move move said ∷ []) (holds.told told);
   }
 
-  module _ (before : List Said) (now next : Register) (first : Leads right before now) where
-    gave_holds : (move : TableMove) (said : replies.Reply) (h : Option Hand) → IsGiving move → ((n : ℕ) → is_finish_of n move ≡ false) → HoldsAny now h → Step right now move said next
+  module _ (start : Register) (rises : Rises start) (before : List Said) (now next : Register) (first : LeadsOn right start before now) where
+    gave_holds : (move : TableMove) (said : replies.Reply) (h : Option Hand) → IsGiving move → ((n : ℕ) → is_finish_of n move ≡ false) → HoldsAny now h → MovesOn right now move said next
         → HoldsAny next (after_gave said h)
     gave_holds move (reply.Gave (Some j)) h giving other holds step = record {
       before = before;
       entries = [];
-      given = record { old = now; new = next; table_move = move; runs = first; giving = giving; gave = step; rest = refl };
+      given = record { start = start; rises = rises; old = now; new = next; table_move = move; runs = first; giving = giving; gave = gave_made right move j now next step; rest = refl };
       unfinished = tt;
       told = λ told. absurd (false_is_not told);
     }
     gave_holds move said None giving other holds step = tt
     gave_holds move said (Some h) giving other holds step = holds_more now next h move said holds step (other h.job.number)
 
-    look_holds : (n : ℕ) (said : replies.Reply) (h : Option Hand) → Allows h (Look n) → HoldsAny now h → Step right now (Look n) said next → HoldsAny next (after_look said h)
+    look_holds : (n : ℕ) (said : replies.Reply) (h : Option Hand) → Allows h (Look n) → HoldsAny now h → MovesOn right now (Look n) said next → HoldsAny next (after_look said h)
     look_holds n (reply.Marked true) (Some h) is holds step =
         let said : Said = entry_of_move (Look n) (reply.Marked true) in record {
           before = holds.before;
@@ -103,7 +105,7 @@ module _ (right : Judgement) where
     look_holds n said (Some h) is holds step = holds_more now next h (Look n) said holds step refl
 
     -- who makes a move holds then what it has in hand
-    move_holds : (move : TableMove) (said : replies.Reply) (h : Option Hand) → Allows h move → HoldsAny now h → Step right now move said next → HoldsAny next (then_in_hand move said h)
+    move_holds : (move : TableMove) (said : replies.Reply) (h : Option Hand) → Allows h move → HoldsAny now h → MovesOn right now move said next → HoldsAny next (then_in_hand move said h)
     move_holds (Enter o p) said h is holds step = gave_holds (Enter o p) said h tt (λ n. refl) holds step
     move_holds (Claim w) said h is holds step = gave_holds (Claim w) said h tt (λ n. refl) holds step
     move_holds (Look n) said h is holds step = look_holds n said h is holds step
@@ -112,13 +114,12 @@ module _ (right : Judgement) where
     move_holds move said (Some h) is holds step = holds_more now next h move said holds step refl
 
     module _ (law : FirstFinishIsKept right) where
-      finish_kept : (move : TableMove) (said : replies.Reply) (h : Option Hand) → Allows h move → HoldsAny now h → Step right now move said next → kept_if_finish move said ≡ true
+      finish_kept : (move : TableMove) (said : replies.Reply) (h : Option Hand) → Allows h move → HoldsAny now h → MovesOn right now move said next → IsKeptIfStored (entry_of_move move said)
       finish_kept (Finish j asked document) said None is holds step = absurd is
-      finish_kept (Finish j asked document) said (Some h) is holds step =
-          let kept = law h.job holds.before holds.entries now next asked document said holds.given holds.unfinished (λ was. holds.told (is.1 was))
-          (subst (λ (i : Job). Step right now (Finish i asked document) said next) is.0 step) in
-          subst (λ (s : replies.Reply). kept_if_finish (Finish j asked document) s ≡ true) (sym kept) refl
-      finish_kept move said h is holds step = refl
+      finish_kept (Finish j asked document) said (Some h) is holds step = ends_so right j asked document said now next step
+          (λ made. law h.job holds.before holds.entries now next asked document said holds.given holds.unfinished (λ was. holds.told (is.1 was))
+          (subst (λ (i : Job). Step right now (Finish i asked document) said next) is.0 made))
+      finish_kept move said h is holds step = inl refl
 
   -- a move of another finishes another job
   finishes_another : (move : TableMove) (mine : Option Hand) (h : Hand) → Allows mine move → ((i : Hand) → mine ≡ Some i → h.job.number ≢ i.job.number) → is_finish_of h.job.number move ≡ false
@@ -128,14 +129,14 @@ module _ (right : Judgement) where
 
   module _ (numbers : NumbersAreGivenOnce right) where
     -- what is in hand after a move is another job than that of someone else
-    gave_another : (now next : Register) (move : TableMove) (said : replies.Reply) (mine : Option Hand) (h i : Hand) → IsGiving move → after_gave said mine ≡ Some h → Holds now i → Step right now move said next
+    gave_another : (now next : Register) (move : TableMove) (said : replies.Reply) (mine : Option Hand) (h i : Hand) → IsGiving move → after_gave said mine ≡ Some h → Holds now i → MovesOn right now move said next
         → ((k : Hand) → mine ≡ Some k → k.job.number ≢ i.job.number) → h.job.number ≢ i.job.number
     gave_another now next move (reply.Gave (Some j)) mine h i giving is holds step apart = λ same.
-        false_is_not (sym (numbers i.job j holds.before holds.entries now next move holds.given giving step)
+        false_is_not (sym (numbers i.job j holds.before holds.entries now next move holds.given giving (gave_made right move j now next step))
         ∙ eq-eqb i.job.number j.number (sym (ap number_in is ∙ same)))
     gave_another now next move said mine h i giving is holds step apart = apart h is
 
-    move_another : (now next : Register) (move : TableMove) (said : replies.Reply) (mine : Option Hand) (h i : Hand) → then_in_hand move said mine ≡ Some h → Holds now i → Step right now move said next
+    move_another : (now next : Register) (move : TableMove) (said : replies.Reply) (mine : Option Hand) (h i : Hand) → then_in_hand move said mine ≡ Some h → Holds now i → MovesOn right now move said next
         → ((k : Hand) → mine ≡ Some k → k.job.number ≢ i.job.number) → h.job.number ≢ i.job.number
     move_another now next (Enter o p) said mine h i is holds step apart = gave_another now next (Enter o p) said mine h i tt is holds step apart
     move_another now next (Claim w) said mine h i is holds step apart = gave_another now next (Claim w) said mine h i tt is holds step apart
@@ -156,8 +157,8 @@ module _ (right : Judgement) where
       holds : (k : ℕ) → HoldsAny now (hands k)
       apart : Apart hands
 
-    module _ (e : SeatEntry) (hands : ℕ → Option Hand) (before : List Said) (now next : Register) (first : Leads right before now) (all : AllHold now hands)
-        (is : Allows (hands e.seat) e.table_move) (step : Step right now e.table_move e.reply next) where
+    module _ (start : Register) (rises : Rises start) (e : SeatEntry) (hands : ℕ → Option Hand) (before : List Said) (now next : Register) (first : LeadsOn right start before now) (all : AllHold now hands)
+        (is : Allows (hands e.seat) e.table_move) (step : MovesOn right now e.table_move e.reply next) where
       -- of another one's hand
       other_holds : (k : ℕ) → e.seat ≢ k → (h : Option Hand) → hands k ≡ h → HoldsAny now h → HoldsAny next h
       other_holds k other None at holds = tt
@@ -165,7 +166,7 @@ module _ (right : Judgement) where
           (finishes_another e.table_move (hands e.seat) h is (λ i mine. all.apart k e.seat h i (λ same. other (sym same)) at mine))
 
       every_holds : (k : ℕ) (own : Bool) → eqb e.seat k ≡ own → HoldsAny next (cond own (then_in_hand e.table_move e.reply (hands e.seat)) (hands k))
-      every_holds k true same = move_holds before now next first e.table_move e.reply (hands e.seat) is (all.holds e.seat) step
+      every_holds k true same = move_holds start rises before now next first e.table_move e.reply (hands e.seat) is (all.holds e.seat) step
       every_holds k false other = other_holds k (λ same. false_is_not (sym other ∙ eq-eqb e.seat k same)) (hands k) refl (all.holds k)
 
       mine_apart : (m : ℕ) (h i : Hand) → e.seat ≢ m → then_in_hand e.table_move e.reply (hands e.seat) ≡ Some h → hands m ≡ Some i → h.job.number ≢ i.job.number
@@ -198,19 +199,20 @@ module _ (right : Judgement) where
     tail_orderly e hands k es false other is = is
 
     module _ (law : FirstFinishIsKept right) where
-      rest_kept : (log : List SeatEntry) (hands : ℕ → Option Hand) (before : List Said) (now table : Register) → Leads right before now → LeadsStepwise right now (moves_in log) table
-          → AllHold now hands → ((k : ℕ) → IsOrderly (hands k) (moves_in (entries_by k log))) → AreKept (moves_in log)
+      rest_kept : (start : Register) → Rises start → (log : List SeatEntry) (hands : ℕ → Option Hand) (before : List Said) (now table : Register) → LeadsOn right start before now
+          → LeadsOn right now (moves_in log) table → AllHold now hands → ((k : ℕ) → IsOrderly (hands k) (moves_in (entries_by k log))) → AreKeptIfStored (moves_in log)
       unfolding hands_after
-      rest_kept [] hands before now table first runs all orderly = All-nil IsFinishKept
-      rest_kept (e ∷ log) hands before now table first (next, step, runs) all orderly =
+      rest_kept start rises [] hands before now table first runs all orderly = All-nil IsKeptIfStored
+      rest_kept start rises (e ∷ log) hands before now table first (next, step, runs) all orderly =
           let said : Said = entry_of_move e.table_move e.reply in
           let is : Allows (hands e.seat) e.table_move = head_allowed (hands e.seat) e (entries_by e.seat log) (eqb e.seat e.seat) (eq-eqb e.seat e.seat refl) (orderly e.seat) in
-          All-cons IsFinishKept said (moves_in log) (finish_kept before now next first law e.table_move e.reply (hands e.seat) is (all.holds e.seat) step)
-          (rest_kept log (hands_after e hands) (before ++ said ∷ []) next table (leads_on right before now said next first step) runs
-          (all_hold_after e hands before now next first all is step)
+          All-cons IsKeptIfStored said (moves_in log) (finish_kept start rises before now next first law e.table_move e.reply (hands e.seat) is (all.holds e.seat) step)
+          (rest_kept start rises log (hands_after e hands) (before ++ said ∷ []) next table (chains_then (MovesOn right) start now next before (said ∷ []) first (next, step, refl)) runs
+          (all_hold_after start rises e hands before now next first all is step)
           (λ k. tail_orderly e hands k (entries_by k log) (eqb e.seat k) refl (orderly k)))
 
       -- every finish in a history of orderly movers
-      pub kept_beside : (log : List SeatEntry) (table : Register) → LeadsTo right log table → ((k : ℕ) → IsOrderly None (moves_in (entries_by k log))) → AreKept (moves_in log)
-      kept_beside log table leads orderly = rest_kept log (λ k. None) [] (beginning table.first) table refl leads
+      pub kept_beside : (start : Register) → Rises start → (log : List SeatEntry) (table : Register) → LeadsOn right start (moves_in log) table → ((k : ℕ) → IsOrderly None (moves_in (entries_by k log)))
+          → AreKeptIfStored (moves_in log)
+      kept_beside start rises log table leads orderly = rest_kept start rises log (λ k. None) [] start table refl leads
           (record { holds = λ k. tt; apart = λ k m h i other at at'. absurd (none_is_not_some h at) }) orderly

@@ -4,3 +4,4 @@ pub mod Order
 pub mod NumberCounts
 pub mod Histories
 pub mod Endings
+pub mod Stored

@@ -1,5 +1,5 @@
 -- How many numbers a table has given is how often a move gave one.
-use Rattle.std.proofs.Common.{◌≡◌, ℕ, ◌+◌, ◌&&◌, not, nat_lt, nat_le, bytes_eq, length, Bool, true, false, cond, List, [], ◌∷◌, Option, Some, None, refl, sym, ◌∙◌, ap, subst, arith}
+use Rattle.std.proofs.Common.{◌≡◌, ℕ, ◌+◌, ◌&&◌, not, nat_lt, nat_le, bytes_eq, length, Bool, true, false, cond, List, [], ◌∷◌, Option, Some, None, refl, sym, ◌∙◌, ap, subst, arith, inl, inr}
 use Rattle.std.proofs.lemmas.List.Sums.{sum_by-cons}
 use Rattle.job_table.specs.declared.job.Job.{Job}
 use Rattle.job_table.specs.declared.job.Phase.{Phase}
@@ -10,7 +10,8 @@ use Rattle.job_table.specs.declared.entries.Reply.{Reply}
 use Rattle.job_table.specs.declared.entries.Reply.TheVariants as reply
 use Rattle.job_table.specs.Jobs.{Register, beginning, next_number, phase_of, first_waiting, job}
 use Rattle.job_table.specs.Steps.{MoveOutcome, outcome, most_jobs, last_number, with_new, sends, claims, finishes, kills, row_of_move}
-use Rattle.job_table.specs.History.{MoveEntry, LeadsStepwise, LeadsTo}
+use Rattle.effects.specs.declared.store.NotStored.{NotStored}
+use Rattle.job_table.specs.History.{MoveEntry, LeadsOn, MovesOn, LeadsTo, on_stepwise}
 use Rattle.serving.specs.Serving.{gives_number, numbers_given}
 
 -- the count after an outcome, by whether its reply gives a number
@@ -66,14 +67,25 @@ first_counted : (gives : Bool) (n next rest : ℕ) → next ≡ cond gives (1 + 
 first_counted true n next rest is = omega (arith, is)
 first_counted false n next rest is = omega (arith, is)
 
-runs_counted : (right : List ℕ → List ℕ → Bool → Option (List ℕ) → Type 0) (r after : Register) (es : List MoveEntry) → LeadsStepwise right r es after → after.issued ≡ r.issued + numbers_given es
+unstored_gives_none : (move : TableMove) (fault : NotStored) → gives_number move (reply.NotStored fault) ≡ false
+unstored_gives_none moves.Issue fault = refl
+unstored_gives_none (moves.Enter o p) fault = refl
+unstored_gives_none move fault = refl
+
+-- the count after a call that was made, or wasn't
+one_counted : (right : List ℕ → List ℕ → Bool → Option (List ℕ) → Type 0) (r next : Register) (move : TableMove) (said : Reply) → MovesOn right r move said next
+    → next.issued ≡ cond (gives_number move said) (1 + r.issued) r.issued
+one_counted right r next move said (inl step) = subst (λ (o : MoveOutcome). Counted (gives_number move) r o) step.is (row_counted move r)
+one_counted right r next move said (inr (fault, says, may, same)) =
+    ap (λ (s : Register). s.issued) same ∙ ap (λ (b : Bool). cond b (1 + r.issued) r.issued) (sym (ap (gives_number move) says ∙ unstored_gives_none move fault))
+
+pub runs_counted : (right : List ℕ → List ℕ → Bool → Option (List ℕ) → Type 0) (r after : Register) (es : List MoveEntry) → LeadsOn right r es after → after.issued ≡ r.issued + numbers_given es
 runs_counted right r after [] runs = ap (λ (s : Register). s.issued) runs ∙ omega arith
 runs_counted right r after (e ∷ es) (next, step, runs) =
-    let one : next.issued ≡ cond (gives_number e.table_move e.reply) (1 + r.issued) r.issued =
-    subst (λ (o : MoveOutcome). Counted (gives_number e.table_move) r o) step.is (row_counted e.table_move r) in
+    let one : next.issued ≡ cond (gives_number e.table_move e.reply) (1 + r.issued) r.issued = one_counted right r next e.table_move e.reply step in
     runs_counted right next after es runs ∙ first_counted (gives_number e.table_move e.reply) r.issued next.issued (numbers_given es) one
     ∙ ap (λ (n : ℕ). r.issued + n) (sym (sum_by-cons (λ (x : MoveEntry). cond (gives_number x.table_move x.reply) 1 0) e es))
 
 -- from an empty table on
 pub all_counted : (right : List ℕ → List ℕ → Bool → Option (List ℕ) → Type 0) (after : Register) (es : List MoveEntry) → LeadsTo right es after → after.issued ≡ numbers_given es
-all_counted right after es runs = runs_counted right (beginning after.first) after es runs ∙ omega arith
+all_counted right after es runs = runs_counted right (beginning after.first) after es (on_stepwise right (beginning after.first) after es runs) ∙ omega arith

@@ -1,5 +1,6 @@
 -- The lines that a server writes.
-use Rattle.std.specs.Prelude.{ℕ, List, [], ◌∷◌, ◌++◌, codes, decimal}
+use Rattle.std.specs.Prelude.{ℕ, List, [], ◌∷◌, ◌++◌, codes}
+use Rattle.command_answers.specs.Outputs.{number_line}
 
 -- links can come
 abbrev pub listening : List ℕ
@@ -7,4 +8,4 @@ listening = codes "listening" ++ (10 ∷ [])
 
 -- so many numbers of jobs were given
 abbrev pub jobs_line : ℕ → List ℕ
-jobs_line n = codes "jobs " ++ decimal n ++ (10 ∷ [])
+jobs_line n = number_line (codes "jobs ") n

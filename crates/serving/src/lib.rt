@@ -20,6 +20,6 @@ mod server;
 mod setup;
 
 pub use ending::Ending;
-pub use server::serve;
+pub use server::{serve, serve_stored};
 pub use server_threads::ServeLimits;
 pub use setup::Setup;

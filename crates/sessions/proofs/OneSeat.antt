@@ -1,17 +1,22 @@
 -- A session's desk, of which one seat alone made moves.
-use Rattle.std.proofs.Common.{◌≡◌, ℕ, ◌-◌, ◌+◌, List, [], ◌++◌, refl, sym, ◌∙◌, ap, subst}
+use Rattle.std.proofs.Common.{◌≡◌, ℕ, Bool, List, [], ◌++◌, refl, sym, ◌∙◌, ap, subst, arith}
 use mathlib.Core.Option.{some-ne-none}
 use Rattle.os_io.specs.Streams.{Tells}
-use Rattle.job_table.specs.Jobs.{Register, beginning}
-use Rattle.job_table.specs.History.{MoveEntry, LeadsStepwise, LeadsTo}
+use Rattle.job_table.specs.Jobs.{Register, Rises, NobodyRuns, beginning}
+use Rattle.job_table.specs.History.{MoveEntry, LeadsStepwise, LeadsOn, LeadsTo, on_stepwise}
 use Rattle.job_table.proofs.Histories.{first_led}
+use Rattle.job_runs.specs.Laws.{AreKeptIfStored}
+use Rattle.job_runs.proofs.Histories.{kept_stepwise}
 use Rattle.desk.specs.declared.view.View.{View}
 use Rattle.desk.specs.declared.view.SeatEntry.{SeatEntry}
 use Rattle.desk.specs.History.{entries_by, by}
 use Rattle.desk.specs.Rule.{first_view, HasMet}
 use Rattle.desk.specs.SeatMoves.{Closes, ClosesBy}
 use Rattle.desk.specs.SeatHistory.{Asked, AskedBy}
+use Rattle.desk.proofs.Storing.{closes_nothing}
 use Rattle.desk.proofs.WholeHistory.{moves_by_one, whole_history}
+use Rattle.job_journal.specs.declared.journal.Journal.{Journal}
+use Rattle.job_journal.specs.Stores.{keeps_these, too_long_behind}
 use Rattle.os_server.specs.declared.serve.Served.{Served}
 use Rattle.os_server.specs.Laws.{ConversationsAreKept}
 use Rattle.os_server.specs.Talk.{ServesWhole}
@@ -19,7 +24,9 @@ use Rattle.os_server.proofs.Rounds.{serves_so}
 use Rattle.solve_run.specs.JobAnswers.{Right}
 use Rattle.job_solver.specs.Runs.{Makes, WakesNobody}
 use Rattle.job_solver.specs.ProvedDocuments.{ShownAreProved}
+use Rattle.job_solver.specs.StoredDocuments.{ShownAreProvedFrom}
 use Rattle.sessions.specs.Sessions.{ServesAlone, IsSession}
+use Rattle.sessions.specs.StoredSessions.{ServesStored, IsStoredSession}
 
 -- ---- a new desk
 
@@ -54,6 +61,31 @@ session_of kept shown end old new (table, (s, whole)) =
       table = table;
       runs = s.moves;
       serves = (serves_so Makes WakesNobody (λ made. LeadsStepwise Right (beginning 1) made table) (λ made. made ≡ s.part.entries) end old new s refl, whole);
-      kept = kept end s.past old.left new.left s.part [] table s.talk runs;
+      kept = kept_stepwise Right (beginning 1) table s.part.entries s.moves
+          (kept end s.past old.left new.left s.part (beginning 1) [] table (omega arith) s.talk (on_stepwise Right (beginning 1) table s.part.entries s.moves));
       proved = shown s.part.entries table runs;
+    }
+
+-- a conversation without a move, over a journal
+pub stored_without : {D : Type 0} {g : _} (told : D → Bool) (seen : D → List ℕ) (may_leave : D → List ℕ → Type 0) (faults : D → ℕ) (first : Register) (journal : Journal D g) (end : Served) (disk : D) (old new : Tells)
+    → disk ≡ journal.disk → ServesWhole Makes WakesNobody (λ made. made ≡ []) end old new → ServesStored told seen may_leave faults first journal end disk old new
+stored_without told seen may_leave faults first journal end disk old new left serves =
+    ([], first, journal, left, closes_nothing Right (keeps_these told seen may_leave) too_long_behind (λ j. j.broken) (λ j. faults j.disk) first journal, serves)
+
+-- a conversation over a journal whose moves were all that were made is a session, by what was told to the desk
+pub stored_session_of : {D : Type 0} {g : _} (told : D → Bool) (seen : D → List ℕ) (may_leave : D → List ℕ → Type 0) (faults : D → ℕ) (first held : Register) (journal store : Journal D g) (end : Served) (disk : D) (old new : Tells)
+    → held ≡ first → store ≡ journal → Rises first → NobodyRuns first → ConversationsAreKept Makes WakesNobody Right → ShownAreProvedFrom
+    → ServesStored told seen may_leave faults held store end disk old new → IsStoredSession told seen may_leave faults first journal end disk old new
+stored_session_of {D} {g} told seen may_leave faults first held journal store end disk old new same kept_in rises nobody kept shown serves =
+    let (own, table, after, left, closes, (s, whole)) = subst (λ (z : Register × Journal D g). ServesStored told seen may_leave faults z.0 z.1 end disk old new) (λ i. (same i, kept_in i)) serves in
+    let moves : LeadsOn Right first own table = subst (λ (es : List MoveEntry). LeadsOn Right first es table) (moves_by_one 0 own) closes.moves in record {
+      own = own;
+      table = table;
+      after = after;
+      left_is = left;
+      closes = closes;
+      serves = (s, whole);
+      kept = subst (λ (es : List MoveEntry). AreKeptIfStored es) s.moves
+          (kept end s.past old.left new.left s.part first [] table rises s.talk (subst (λ (es : List MoveEntry). LeadsOn Right first es table) (sym s.moves) moves));
+      shown = shown first own table rises nobody moves;
     }

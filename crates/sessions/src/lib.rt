@@ -7,8 +7,14 @@
 //! job, and a result that says that a point is optimal, that none is feasible, or that points have no best value, is accepted by the
 //! checker from the document's own bytes, and is true. That last part holds of every history of solved jobs, whoever makes its
 //! moves: [`job_solver::shown_documents_are_proved`].
+//!
+//! [`serve_stored_session`] makes its moves at a table whose effects a journal keeps: each is made once its effect is stored, and a
+//! call whose effect isn't is answered `Server.Disk`.
 #![tactic(auto)]
 
+mod by_seat;
 mod session;
+mod stored;
 
 pub use session::serve_session;
+pub use stored::serve_stored_session;

@@ -6,10 +6,11 @@ ghost use Rattle.desk.specs.Rule.{first_view};
 ghost use Rattle.desk.specs.SeatMoves.{desk_id, first_number, IsSeatOf};
 ghost use Rattle.sessions.specs.Sessions.{ServesAlone, IsSession};
 
-use desk::{Desk, LentSeatOf, Seat};
+use crate::by_seat::serve_by_seat;
+use desk::{Desk, Seat};
 use job_solver::{SolvedJobs, Solver, shown_documents_are_proved};
 use os_io::{Sink, Source};
-use os_server::{Served, conversations_are_kept, serve_ends, turn_away};
+use os_server::{Served, conversations_are_kept, turn_away};
 use std::alloc::Global;
 use std::sync::Wait;
 
@@ -29,17 +30,7 @@ fn serve_alone<I: Source, O: Sink, R: Wait>(
     ensures output_of_input { SameOutput (I.tells input.old) (I.tells input.new) }
     ensures input_of_output { SameInput (O.tells output.old) (O.tells output.new) }
 {
-    let mut mover = LentSeatOf {
-        rt,
-        desk: &desk,
-        seat: &mut seat,
-    };
-    let served = serve_ends(alloc, input, output, &mut mover, &Solver);
-    let LentSeatOf {
-        rt: _,
-        desk: _,
-        seat: _seat,
-    } = mover;
+    let served = serve_by_seat(rt, alloc, &desk, &mut seat, input, output);
     let _closed = desk.close(seat);
     served
 }

@@ -1,7 +1,0 @@
-use Rattle.os_io.proofs.Pieces.{sends_flushed}
-use Rattle.serving.proofs.lines.tell_jobs.Goals as goal
-
-pub returns : goal.returns
-returns g c =
-    let f = c.flush.ensures in
-    sends_flushed _ c.flush.result _ c.in_ok-write_jobs.ensures f.written f.all f.handed_on f.counted f.input
