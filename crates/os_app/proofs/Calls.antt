@@ -1,11 +1,11 @@
 -- How a run ends that makes a call.
-use Rattle.std.proofs.Common.{◌≡◌, ℕ, false, List, Option, Some, None, refl}
+use Rattle.std.proofs.Common.{◌≡◌, ℕ, inl, false, List, Option, Some, None, refl}
 use Rattle.std.specs.Prelude.{◌||◌, is_some}
 use Rattle.six_calls.specs.declared.call.CallKind.{CallKind}
 use Rattle.command_line.specs.Words.{Call, asks}
 use Rattle.os_client.specs.Runs.{CallEnds, NamesNone}
 use Rattle.os_client.proofs.Runs.{never_misused, none_failed}
-use Rattle.os_app.specs.Runs.{ProgramRun, LeavesInput, Runs, call_run, called}
+use Rattle.os_app.specs.Runs.{ProgramRun, LeavesInput, EndsSo, call_run, called}
 use Rattle.os_app.proofs.Words.{command_runs, no_check, true_or_false}
 
 -- a call that names no file
@@ -15,11 +15,11 @@ none_named None None (Some ospl) none = absurd (true_or_false none)
 none_named None (Some osol) ospl none = absurd (true_or_false none)
 none_named (Some osil) osol ospl none = absurd (true_or_false none)
 
-pub call_runs : (status : ℕ) (run : ProgramRun) (kind : CallKind) (host : List ℕ) (port : ℕ) (osil osol ospl : Option (List ℕ)) → asks run.words ≡ Some (Call kind host port osil osol ospl)
-    → CallEnds status (call_run run kind host port osil osol ospl) → LeavesInput run → Runs status run
+pub call_runs : {Stored : Type 0} (status : ℕ) (run : ProgramRun) (kind : CallKind) (host : List ℕ) (port : ℕ) (osil osol ospl : Option (List ℕ)) → asks run.words ≡ Some (Call kind host port osil osol ospl)
+    → CallEnds status (call_run run kind host port osil osol ospl) → LeavesInput run → EndsSo Stored status run
 call_runs status run kind host port osil osol ospl asked ends input =
     command_runs status run (Call kind host port osil osol ospl) asked
-    (called (record { kind = kind; host = host; port = port; osil = osil; osol = osol; ospl = ospl; asked = asked; ends = ends; input = input }))
+    (inl (called (record { kind = kind; host = host; port = port; osil = osil; osol = osol; ospl = ospl; asked = asked; ends = ends; input = input })))
     (never_misused status _ ends)
     (λ none. none_failed status _ ends (none_named osil osol ospl (none _ asked)))
     (no_check status run _ asked tt)

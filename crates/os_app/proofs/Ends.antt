@@ -11,7 +11,7 @@ use Rattle.command_line.specs.Words.{Command, Session, Check, Solve, Generate, C
 use Rattle.os_app.specs.Checks.{IsAnswerTo, accepted, refused}
 use Rattle.os_app.specs.Statuses.{check_status, solve_status}
 use Rattle.os_app.specs.Ends.{AnswerEnds, FilesEnd, from_memory, in_full, unread, unwritten, unmade}
-use Rattle.os_app.specs.Runs.{ProgramRun, Checks, IsDue, IsUntaken, RunEnds, Runs, answered, file_fault, unsent, unheard}
+use Rattle.os_app.specs.Runs.{ProgramRun, Checks, IsDue, IsUntaken, RunEnds, EndsSo, answered, file_fault, unsent, unheard}
 use Rattle.os_app.proofs.Words.{command_runs, names_none}
 
 -- an answer that was told
@@ -73,9 +73,9 @@ due_small : (run : ProgramRun) (it : Command) (due : ℕ) (text : List ℕ) → 
 due_small run (Check osil osrl) due text is = answer_small _ _ due text is.answers
 due_small run (Solve osil options safe) due text is = omega (arith, is.status_is, solve_small is.report.error)
 due_small run (Generate variables) due text is = omega (arith, is.about.status_is, check_small is.about.is_accepted)
-due_small run Session due text is = absurd is
+due_small run (Session journal) due text is = absurd is
 due_small run (Call kind host port osil osol ospl) due text is = absurd is
-due_small run (Serve host port workers servers connections patience first) due text is = absurd is
+due_small run (Serve host port workers servers connections patience first journal) due text is = absurd is
 
 never_two : (status : ℕ) (run : ProgramRun) (it : Command) → EndsText status run it → status ≡ 2 → ⊥
 never_two status run it (in_full text due files sent) two = omega (arith, two, due_small run it status text due)
@@ -90,7 +90,7 @@ files_read status run it asked (unwritten due text is about files off) none = fi
 files_read status run it asked (unmade is files same) none = files
 
 -- a command that writes a text
-pub text_runs : (status : ℕ) (run : ProgramRun) (it : Command) → asks run.words ≡ Some it → EndsText status run it → IsUntaken run
-    → ((a b : List ℕ) → IsCheck run.words a b → Checks status run a b) → Runs status run
+pub text_runs : {Stored : Type 0} (status : ℕ) (run : ProgramRun) (it : Command) → asks run.words ≡ Some it → EndsText status run it → IsUntaken run
+    → ((a b : List ℕ) → IsCheck run.words a b → Checks status run a b) → EndsSo Stored status run
 text_runs status run it asked ends untaken checks =
-    command_runs status run it asked (run_ends status run it asked ends untaken) (never_two status run it ends) (files_read status run it asked ends) checks
+    command_runs status run it asked (inl (run_ends status run it asked ends untaken)) (never_two status run it ends) (files_read status run it asked ends) checks

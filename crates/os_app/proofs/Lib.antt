@@ -2,6 +2,7 @@ pub mod FirstBytes
 pub mod Verdicts
 pub mod Words
 pub mod OtherWords
+pub mod JournalRuns
 pub mod Ends
 pub mod Checks
 pub mod Solves

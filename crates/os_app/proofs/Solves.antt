@@ -8,14 +8,13 @@ use Rattle.certificate.specs.declared.claims.Claim.TheVariants.{Unsure}
 use Rattle.osrl_grammar.specs.declared.report.Report.{Report}
 use Rattle.solve_run.specs.declared.document.Document.{Document}
 use Rattle.solve_run.specs.JobAnswers.{AreJobTexts, IsBestOfSearch, AnswersJob, no_options, no_instance, solved, gave_up}
-use Rattle.solve_run.specs.Runs.{IsRight}
 use Rattle.command_answers.specs.FileNames.{ReadsNamed}
 use Rattle.command_answers.proofs.Outputs.{held_by}
 use Rattle.os_app.specs.Safe.{IsSafeText, HasNoSafeText, TakesOptions}
 use Rattle.os_app.specs.Safe as safe
 use Rattle.os_app.specs.Solves.{IsDocumentAbout, IsRightWith}
 use Rattle.os_app.specs.Statuses.{solve_status}
-use Rattle.os_app.specs.Runs.{ProgramRun, IsUntaken, Runs}
+use Rattle.os_app.specs.Runs.{ProgramRun, IsUntaken, EndsSo}
 use Rattle.command_line.specs.Words.{IsSolve, Solve}
 use Rattle.os_app.proofs.FirstBytes.{Shows, file_of}
 use Rattle.os_app.proofs.Words.{no_check}
@@ -100,7 +99,7 @@ about_named held instance name safe status text about = subst (λ (o : Option He
 
 -- ---- a run
 
-pub solve_runs : (status : ℕ) (run : ProgramRun) (osil_name : List ℕ) (options_name : Option (List ℕ)) (safe : Bool) → IsSolve run.words osil_name options_name safe
-    → EndsText status run (Solve osil_name options_name safe) → IsUntaken run → Runs status run
+pub solve_runs : {Stored : Type 0} (status : ℕ) (run : ProgramRun) (osil_name : List ℕ) (options_name : Option (List ℕ)) (safe : Bool) → IsSolve run.words osil_name options_name safe
+    → EndsText status run (Solve osil_name options_name safe) → IsUntaken run → EndsSo Stored status run
 solve_runs status run osil_name options_name safe solve ends untaken =
     text_runs status run (Solve osil_name options_name safe) solve ends untaken (no_check status run (Solve osil_name options_name safe) solve tt)

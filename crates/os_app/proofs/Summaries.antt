@@ -8,7 +8,7 @@ use Rattle.solve_run.specs.JobAnswers.{Right}
 use Rattle.solve_run.specs.Runs.{IsRight}
 use Rattle.command_line.specs.Words.{Generate, asks}
 use Rattle.os_app.specs.Summaries.{IsSummaryAbout, IsSummaryOf}
-use Rattle.os_app.specs.Runs.{ProgramRun, IsUntaken, Runs}
+use Rattle.os_app.specs.Runs.{ProgramRun, IsUntaken, EndsSo}
 use Rattle.os_app.proofs.Words.{no_check}
 use Rattle.os_app.proofs.Ends.{EndsText, text_runs}
 
@@ -27,5 +27,5 @@ summary_is n p osil a b c doc status line is first second third written right ab
   about = subst (λ (t : List ℕ). IsSummaryAbout n osil t status line) third (subst (λ (t : List ℕ). IsSummaryAbout n t c status line) second about);
 }
 
-pub generate_runs : (status : ℕ) (run : ProgramRun) (variables : ℕ) → asks run.words ≡ Some (Generate variables) → EndsText status run (Generate variables) → IsUntaken run → Runs status run
+pub generate_runs : {Stored : Type 0} (status : ℕ) (run : ProgramRun) (variables : ℕ) → asks run.words ≡ Some (Generate variables) → EndsText status run (Generate variables) → IsUntaken run → EndsSo Stored status run
 generate_runs status run variables asked ends untaken = text_runs status run (Generate variables) asked ends untaken (no_check status run (Generate variables) asked tt)

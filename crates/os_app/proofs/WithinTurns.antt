@@ -47,7 +47,10 @@ use Rattle.os_io.specs.Files.{Held, Holds, MayHold}
 use Rattle.command_answers.specs.Outputs.{IsTold}
 use Rattle.command_line.specs.Words.{Command, Session, Solve, Call, asks, IsSolve, IsNoCommand}
 use Rattle.os_app.specs.Solves.{IsDocumentAbout}
-use Rattle.os_app.specs.Runs.{ProgramRun, RunEnds, IsDue, IsUsageDue, IsAnswerDue, IsUnsent, WritesWithinTurns, asks_to_serve, served, answered, called, hosted, misused, file_fault, unsent, unheard}
+use Rattle.os_app.specs.Runs.{ProgramRun, StoresRun, RunEnds, IsDue, IsUsageDue, IsAnswerDue, IsUnsent, WritesWithinTurns, asks_to_serve, served, answered, called, hosted, misused, file_fault, unsent, unheard}
+use Rattle.disks.specs.declared.disk.Disk.{Ghosts}
+use Rattle.os_app.specs.StoredRuns.{StoredRunEnds, kept}
+use Rattle.os_app.specs.StoredRuns as stored
 use Rattle.os_app.proofs.Words.{one_command}
 
 -- ---- options
@@ -218,12 +221,19 @@ module _ (laws : Laws) (status : ℕ) (run : ProgramRun) (osil_name : List ℕ) 
   unsent_within u is (inl d) = absurd (a_command d.other)
   unsent_within u is (inr d) = due_within d.asked.command d.status u.text (one d.asked.command d.asked.asked) d.asked.due (inr (is, u.breaks_off))
 
-  pub ends_within : RunEnds status run → WritesWithinTurns status run
-  ends_within (served how is s) = let e = one Session s.session in absurd (cc)
+  ends_within : RunEnds status run → WritesWithinTurns status run
+  ends_within (served how is s) = let e = one (Session None) s.session in absurd (cc)
   ends_within (answered a) = due_within a.asked.command status a.text (one a.asked.command a.asked.asked) a.asked.due (inl (refl, a.sent))
   ends_within (called c) = let e = one (Call c.kind c.host c.port c.osil c.osol c.ospl) c.asked in absurd (cc)
-  ends_within (hosted how is h) = let e = one (asks_to_serve h.host h.port h.setup) h.asked in absurd (cc)
+  ends_within (hosted how is h) = let e = one (asks_to_serve h.host h.port h.setup None) h.asked in absurd (cc)
   ends_within (misused is m) = absurd (a_command m.other)
   ends_within (file_fault is f) = inl f.unwritten
   ends_within (unsent is u) = unsent_within u is u.due
   ends_within (unheard is u) = inl u.unwritten
+
+  -- nor of words that name a journal
+  pub run_within : {D : Type 0} (g : Ghosts D) (stores : StoresRun)
+      → RunEnds status run ⊎ StoredRunEnds g status run stores → WritesWithinTurns status run
+  run_within g stores (inl ends) = ends_within ends
+  run_within g stores (inr (kept name asked ends)) = let e = one (Session (Some name)) asked in absurd (cc)
+  run_within g stores (inr (stored.hosted host port setup name asked ends input)) = let e = one (asks_to_serve host port setup (Some name)) asked in absurd (cc)

@@ -1,5 +1,5 @@
 -- What the words of a run decide of it.
-use Rattle.std.proofs.Common.{◌≡◌, ◌∙◌, ℕ, ◌⊎◌, inl, inr, true, false, List, Option, Some, None, arith, refl, sym, subst}
+use Rattle.std.proofs.Common.{◌≡◌, ◌∙◌, ℕ, ◌⊎◌, inl, inr, true, List, Option, Some, None, arith, refl, sym, subst}
 use Rattle.std.proofs.lemmas.Option.{none-some, same_Some}
 use Rattle.os_server.specs.declared.serve.Served.{Served}
 use Rattle.os_server.specs.declared.serve.Served.TheVariants.{Ended, CutShort, ReadFault, WriteFault, Memory}
@@ -10,7 +10,7 @@ use Rattle.serving.specs.Serving as serving
 use Rattle.os_app.specs.Statuses.{session_status}
 pub use Rattle.command_line.proofs.Texts.{true_or_false}
 use Rattle.command_line.specs.Words.{Command, Session, Check, Solve, Generate, Call, Serve, asks, asks_for_links, names_files, AsksForNoLink, IsCheck, IsNoCommand, NamesNoFile}
-use Rattle.os_app.specs.Runs.{ProgramRun, ServesSession, IsUnheard, LeavesInput, RunEnds, served, hosted, unheard, AllFilesRead, Checks, Runs, asks_to_serve}
+use Rattle.os_app.specs.Runs.{ProgramRun, ServesSession, IsUnheard, LeavesInput, RunEnds, served, hosted, unheard, AllFilesRead, Checks, EndsSo, asks_to_serve}
 use Rattle.serving.specs.declared.setup.Setup.{Setup}
 use Rattle.os_app.specs.Runs as runs
 
@@ -25,11 +25,11 @@ one_command asked a b first second = same_Some a b (sym first ∙ second)
 -- a check is no other command
 abbrev pub IsOther : Command → Type 0
 IsOther (Check osil osrl) = ⊥
-IsOther Session = Unit {0}
+IsOther (Session journal) = Unit {0}
 IsOther (Solve osil options safe) = Unit {0}
 IsOther (Generate variables) = Unit {0}
 IsOther (Call kind host port osil osol ospl) = Unit {0}
-IsOther (Serve host port workers servers connections patience first) = Unit {0}
+IsOther (Serve host port workers servers connections patience first journal) = Unit {0}
 
 pub no_check : (status : ℕ) (run : ProgramRun) (it : Command) → asks run.words ≡ Some it → IsOther it → (a b : List ℕ) → IsCheck run.words a b → Checks status run a b
 no_check status run it asked other a b check = absurd (subst IsOther (one_command _ it (Check a b) asked check) other)
@@ -43,8 +43,8 @@ pub links_none : (words : List (List ℕ)) (it : Command) → asks words ≡ Som
 links_none words it asked links none = true_or_false (sym links ∙ none it asked)
 
 -- a run of a command that doesn't end with 2
-pub command_runs : (status : ℕ) (run : ProgramRun) (it : Command) → asks run.words ≡ Some it → RunEnds status run → (status ≡ 2 → ⊥) → (NamesNoFile run.words → AllFilesRead run)
-    → ((a b : List ℕ) → IsCheck run.words a b → Checks status run a b) → Runs status run
+pub command_runs : {Stored : Type 0} (status : ℕ) (run : ProgramRun) (it : Command) → asks run.words ≡ Some it → RunEnds status run ⊎ Stored → (status ≡ 2 → ⊥) → (NamesNoFile run.words → AllFilesRead run)
+    → ((a b : List ℕ) → IsCheck run.words a b → Checks status run a b) → EndsSo Stored status run
 command_runs status run it asked ends never files checks = record {
   ends = ends;
   files = files;
@@ -54,14 +54,14 @@ command_runs status run it asked ends never files checks = record {
 
 -- ---- statuses that aren't 2
 
-session_never : (how : Served) → session_status how ≡ 2 → ⊥
+pub session_never : (how : Served) → session_status how ≡ 2 → ⊥
 session_never Ended two = absurd (omega (arith, two))
 session_never CutShort two = absurd (omega (arith, two))
 session_never ReadFault two = absurd (omega (arith, two))
 session_never WriteFault two = absurd (omega (arith, two))
 session_never Memory two = absurd (omega (arith, two))
 
-serve_never : (how : Ending) → serve_status how ≡ 2 → ⊥
+pub serve_never : (how : Ending) → serve_status how ≡ 2 → ⊥
 serve_never endings.Done two = absurd (omega (arith, two))
 serve_never endings.LinkMemory two = absurd (omega (arith, two))
 serve_never endings.ListenFault two = absurd (omega (arith, two))
@@ -72,14 +72,14 @@ serve_never endings.ReportFault two = absurd (omega (arith, two))
 
 -- ---- the commands over links
 
-pub session_runs : (run : ProgramRun) (how : Served) (status : ℕ) → status ≡ session_status how → ServesSession how run → AllFilesRead run → Runs status run
-session_runs run how status is one files = command_runs status run Session one.session (served how is one) (λ two. session_never how (sym is ∙ two)) (λ none. files) (no_check status run Session one.session tt)
+pub session_runs : {Stored : Type 0} (run : ProgramRun) (how : Served) (status : ℕ) → status ≡ session_status how → ServesSession how run → AllFilesRead run → EndsSo Stored status run
+session_runs run how status is one files = command_runs status run (Session None) one.session (inl (served how is one)) (λ two. session_never how (sym is ∙ two)) (λ none. files) (no_check status run (Session None) one.session tt)
 
-pub serve_runs : (run : ProgramRun) (how : Ending) (status : ℕ) (host : List ℕ) (port : ℕ) (setup : Setup) → status ≡ serve_status how → asks run.words ≡ Some (asks_to_serve host port setup)
-    → serving.IsServerRun how host port setup run.net run.net_after run.output run.output_after → LeavesInput run → AllFilesRead run → Runs status run
+pub serve_runs : {Stored : Type 0} (run : ProgramRun) (how : Ending) (status : ℕ) (host : List ℕ) (port : ℕ) (setup : Setup) → status ≡ serve_status how → asks run.words ≡ Some (asks_to_serve host port setup None)
+    → serving.IsServerRun how host port setup run.net run.net_after run.output run.output_after → LeavesInput run → AllFilesRead run → EndsSo Stored status run
 serve_runs run how status host port setup is asked serves input files =
-    command_runs status run (asks_to_serve host port setup) asked
-    (hosted how is (record { host = host; port = port; setup = setup; asked = asked; serves = serves; input = input; all_files_read = files }))
+    command_runs status run (asks_to_serve host port setup None) asked
+    (inl (hosted how is (record { host = host; port = port; setup = setup; asked = asked; serves = serves; input = input; all_files_read = files })))
     (λ two. serve_never how (sym is ∙ two))
     (λ none. files)
     (no_check status run _ asked tt)
@@ -87,10 +87,10 @@ serve_runs run how status host port setup is asked serves input files =
 -- ---- no command, and none that is heard
 
 -- words that are no command's, whose usage was sent, or not whole
-pub other_runs : (run : ProgramRun) (status : ℕ) → IsNoCommand run.words → RunEnds status run
-    → (status ≡ 2) ⊎ (status ≡ 4) → AllFilesRead run → Runs status run
+pub other_runs : {Stored : Type 0} (run : ProgramRun) (status : ℕ) → IsNoCommand run.words → RunEnds status run
+    → (status ≡ 2) ⊎ (status ≡ 4) → AllFilesRead run → EndsSo Stored status run
 other_runs run status other ends which files = record {
-  ends = ends;
+  ends = inl ends;
   files = λ none. files;
   misused = (
     λ two. (other, λ four. omega (arith, two, four), λ five. omega (arith, two, five)),
@@ -103,9 +103,9 @@ other_runs run status other ends which files = record {
 }
 
 -- no memory to read the words
-pub unheard_runs : (run : ProgramRun) → IsUnheard run → Runs 5 run
+pub unheard_runs : {Stored : Type 0} (run : ProgramRun) → IsUnheard run → EndsSo Stored 5 run
 unheard_runs run none = record {
-  ends = unheard refl none;
+  ends = inl (unheard refl none);
   files = λ no. none.all_files_read;
   misused = (λ two. absurd (omega (arith, two)), λ all. absurd (all.2 refl));
   checks = λ a b check. record {

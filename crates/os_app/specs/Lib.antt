@@ -4,5 +4,7 @@ pub mod Solves
 pub mod Summaries
 pub mod Ends
 pub mod Grounds
+pub mod ProgramRuns
 pub mod Runs
+pub mod StoredRuns
 pub mod Statuses

@@ -1,8 +1,8 @@
 -- How a run ends, by its words and by what came and went.
-use Rattle.std.specs.Prelude.{false, ◌≡◌, ◌↔◌, ℕ, ◌⊎◌, true, Option, Some, List, [], ◌∷◌, ◌++◌, Ok, Err, option_map}
+use Rattle.std.specs.Prelude.{false, ◌≡◌, ◌↔◌, ℕ, ◌⊎◌, true, Option, Some, None, List, [], ◌∷◌, ◌++◌, Ok, Err, option_map}
 use Rattle.os_io.specs.Files.{Held, Holds, NoFile}
-use Rattle.os_io.specs.Links.{NetTells}
-use Rattle.os_io.specs.Streams.{Tells, HasRisen}
+use Rattle.os_io.specs.Streams.{HasRisen}
+use Rattle.disks.specs.declared.disk.Disk.{Ghosts}
 use Rattle.os_server.specs.declared.serve.Served.{Served}
 use Rattle.os_server.specs.Talk.{both_ends}
 use Rattle.sessions.specs.Sessions as sessions
@@ -17,6 +17,8 @@ use Rattle.os_client.specs.Runs.{CallRun, CallEnds}
 use Rattle.serving.specs.declared.ending.Ending.{Ending}
 use Rattle.serving.specs.Serving as serving
 use Rattle.serving.specs.declared.setup.Setup.{Setup}
+pub use Rattle.os_app.specs.ProgramRuns.{ProgramRun, StoresRun, AllFilesRead, LeavesInput, IsUntaken, asks_to_serve}
+use Rattle.os_app.specs.StoredRuns.{StoredRunEnds}
 use Rattle.os_app.specs.Checks.{IsAnswerLine, IsAnswerAbout}
 use Rattle.os_app.specs.Solves.{IsDocumentAbout}
 use Rattle.os_app.specs.Summaries.{IsSummaryOf}
@@ -26,40 +28,15 @@ use Rattle.os_app.specs.Safe.{says_turn_limit}
 use Rattle.os_app.specs.Statuses.{serve_status, session_status, solve_status}
 use Rattle.command_line.specs.Words.{Command, Session, Check, Solve, Generate, Call, Serve, asks, names_files, AsksSession, IsCheck, NamesNoFile, IsNoCommand, usage}
 
--- a run's words, what names hold, and what its files, its input, its output and its net tell before and after it
-pub record ProgramRun : Type 0 where
-  pub words : List (List ℕ)
-  pub held : List ℕ → Held
-  pub file_faults : ℕ
-  pub file_faults_after : ℕ
-  pub input : Tells
-  pub input_after : Tells
-  pub output : Tells
-  pub output_after : Tells
-  pub net : NetTells
-  pub net_after : NetTells
-
--- no file failed to be read
-abbrev pub AllFilesRead : ProgramRun → Type 0
-AllFilesRead run = run.file_faults_after ≡ run.file_faults
-
--- nothing is told anew of the input: nothing was taken, and no read failed
-abbrev pub LeavesInput : ProgramRun → Type 0
-LeavesInput run = run.input_after ≡ run.input
-
--- nothing is told anew of the input or of the net: nothing was taken, no link came or was given back, and nothing of them failed
-abbrev pub IsUntaken : ProgramRun → Type 0
-IsUntaken run = LeavesInput run × (run.net_after ≡ run.net)
-
 -- the text that a command asks for, with its status, by what names hold: a check's line, the result document of a job, or the line
 -- about a generated instance. The others ask for no text that is made beforehand
 abbrev pub IsDue : (List ℕ → Held) → Command → (status : ℕ) → (text : List ℕ) → Type 0
 IsDue held (Check osil osrl) status text = IsAnswerAbout (held osil) (held osrl) status text
 IsDue held (Solve osil options safe) status text = IsDocumentAbout (held osil) (option_map held options) safe status text
 IsDue held (Generate variables) status text = IsSummaryOf variables status text
-IsDue held Session status text = ⊥
+IsDue held (Session journal) status text = ⊥
 IsDue held (Call kind host port osil osol ospl) status text = ⊥
-IsDue held (Serve host port workers servers connections patience first) status text = ⊥
+IsDue held (Serve host port workers servers connections patience first journal) status text = ⊥
 
 -- the text that the words ask for
 pub record AsksForText (run : ProgramRun) (status : ℕ) (text : List ℕ) : Type 0 where
@@ -149,16 +126,12 @@ pub record IsCalled (status : ℕ) (run : ProgramRun) : Type 0 where
   pub ends : CallEnds status (call_run run kind host port osil osol ospl)
   pub input : LeavesInput run
 
--- to serve at this port of a host, so set up
-abbrev pub asks_to_serve : (host : List ℕ) → (port : ℕ) → Setup → Command
-asks_to_serve host port setup = Serve host port setup.limits.workers setup.limits.servers setup.limits.connections setup.patience setup.first
-
 -- links were served, by a server that was set up as the words say, which ended so
 pub record IsHosted (how : Ending) (run : ProgramRun) : Type 0 where
   pub host : List ℕ
   pub port : ℕ
   pub setup : Setup
-  pub asked : asks run.words ≡ Some (asks_to_serve host port setup)
+  pub asked : asks run.words ≡ Some (asks_to_serve host port setup None)
   pub serves : serving.IsServerRun how host port setup run.net run.net_after run.output run.output_after
   pub input : LeavesInput run
   pub all_files_read : AllFilesRead run
@@ -199,14 +172,18 @@ pub record Checks (status : ℕ) (run : ProgramRun) (osil_name osrl_name : List 
   pub judged : (osil osrl : List ℕ) → run.held osil_name ≡ Holds osil → run.held osrl_name ≡ Holds osrl → IsPairJudged status run osil osrl
   pub there : (status ≡ 0) ⊎ (status ≡ 1) → MayBeThere run osil_name × MayBeThere run osrl_name
 
--- a run ends in one of these ways. What the bytes to come decide of a session follows by the laws of `os_server`. Status 2
+-- a run ends in one of these ways, or, over a journal, so. What the bytes to come decide of a session follows by the laws of `os_server`. Status 2
 -- says that the words are no command's, no write failed and there was memory, exactly. Only of words that name files a file fails to be
 -- read
-pub record Runs (status : ℕ) (run : ProgramRun) : Type 0 where
-  pub ends : RunEnds status run
+pub record EndsSo (Stored : Type 0) (status : ℕ) (run : ProgramRun) : Type 0 where
+  pub ends : RunEnds status run ⊎ Stored
   pub files : NamesNoFile run.words → AllFilesRead run
   pub misused : (status ≡ 2) ↔ (IsNoCommand run.words × (status ≡ 4 → ⊥) × (status ≡ 5 → ⊥))
   pub checks : (osil_name osrl_name : List ℕ) → IsCheck run.words osil_name osrl_name → Checks status run osil_name osrl_name
+
+-- a run and what its stores told of it, by what is told of disks
+abbrev pub Runs : {D : Type 0} → Ghosts D → (status : ℕ) → ProgramRun → StoresRun → Type 0
+Runs g status run stores = EndsSo (StoredRunEnds g status run stores) status run
 
 -- the text of a report that doesn't name the limit of turns was sent, with its status, or a first part of it
 pub record TellsWithinTurns (status : ℕ) (run : ProgramRun) : Type 0 where

@@ -6,54 +6,29 @@ ghost use Rattle.os_io.specs.Streams.{SameInput, SameOutput};
 ghost use Rattle.command_line.specs.Words.{AsksForNoLink, NamesNoFile};
 ghost use Rattle.os_app.specs.Ends.{AnswerEnds, from_memory};
 ghost use Rattle.os_app.specs.Grounds.{AnswersAreOne};
+ghost use Rattle.os_app.specs.ProgramRuns.{NamesNoJournal, stores_run};
 ghost use Rattle.os_app.specs.Runs.{Runs};
-ghost use Rattle.os_app.specs.Statuses.{serve_status, session_status};
 
 use crate::checking::answer_about;
 use crate::generating::generate;
 use crate::solving::solve_files;
-use command_answers::status::{
-    CUT_SHORT, DONE, MISUSED, NO_LINK, NO_MEMORY, READ_FAULT, WRITE_FAULT,
-};
+use crate::statuses::{serve_status, session_status};
+use crate::stored::{keep_server, keep_session};
+use command_answers::status::{MISUSED, NO_MEMORY, READ_FAULT, WRITE_FAULT};
 use command_answers::{StatusText, send_answer};
 use command_line::{Asked, numbers_are_within_their_ends, read_words, write_usage};
+use disks::Stores;
 use document_checker::{
     accepted_documents_are_not_refused, documents_have_one_answer, documents_have_one_kind,
 };
 use os_client::make_call;
 use os_io::{Failed, FileFault, Files, Listener, Memory, Sink, Source};
-use os_server::Served;
-use serving::{Ending, ServeLimits, Setup, serve};
+use serving::{ServeLimits, Setup, serve};
 use sessions::serve_session;
 use std::alloc::{AllocError, Global};
 use std::process::ExitCode;
 use std::sync::Wait;
 use std::thread::Threads;
-
-/// The status of a session.
-fn session_status(served: Served) -> u8
-    ensures { result ≡ session_status served }
-{
-    match served {
-        Served::Ended => DONE,
-        Served::CutShort => CUT_SHORT,
-        Served::ReadFault => READ_FAULT,
-        Served::WriteFault => WRITE_FAULT,
-        Served::Memory => NO_MEMORY,
-    }
-}
-
-/// The status of a server.
-fn serve_status(ending: Ending) -> u8
-    ensures { result ≡ serve_status ending }
-{
-    match ending {
-        Ending::Done => DONE,
-        Ending::LinkMemory | Ending::NoMemory => NO_MEMORY,
-        Ending::ListenFault | Ending::AcceptFault => NO_LINK,
-        Ending::AnnounceFault | Ending::ReportFault => WRITE_FAULT,
-    }
-}
 
 /// Sends an answer, if there is one, and says how it went.
 fn tell<O: Sink>(output: &mut O, answer: Result<StatusText, FileFault>) -> u8
@@ -103,26 +78,30 @@ fn documents_are_judged_once()
 /// a line. `solve` reads an instance's file, and one of options where it is named, and writes the result document that
 /// answers them, with the safe limit of turns in place of theirs where it is asked for. `generate` solves and checks a
 /// generated instance, and writes a line about it. `call` makes one of the six calls over a link, and writes what answers it.
-/// `serve` serves links that come.
+/// `serve` serves links that come. Where a journal is named, a session or a server goes on from the table that it keeps, and what
+/// changes is stored in it before it is answered.
 ///
 /// The status is 0 where all was written and handed on; 1 where what was written says no: `refused`, the document of an error,
 /// `unchecked`, a fault, another status of HTTP, or `false`; 2 where the words are no command and the usage was written; 3
-/// where a read of the input, of a file or of the link failed; 4 where a write of the output or of the link did; 5 where there
-/// was no memory; 6 where the listener failed; 7 where the bytes that came are no reply; and 8 where the input ended inside a
-/// request. Where there was no memory to read the words or to make the text that they ask for, nothing is taken, nothing
-/// written, and no link is asked for.
-pub fn run<F: Files, I: Source, O: Sink, N: Listener, R: Threads + Wait + Sync>(
+/// where a read of the input, of a file or of the link failed, or the journal wasn't opened or read; 4 where a write of the output
+/// or of the link did, or of the journal while it was opened; 5 where there was no memory; 6 where the listener failed; 7 where the
+/// bytes that came are no reply; 8 where the input ended inside a request; and 9 where the journal is damaged, and `damaged at` and
+/// the place were written in a line. Where there was no memory to read the words or to make the text that they ask for, or the
+/// journal wasn't opened, nothing is taken and no link is asked for, and nothing but that line is written.
+pub fn run<F: Files, K: Stores, I: Source, O: Sink, N: Listener, R: Threads + Wait + Sync>(
     rt: &R,
     alloc: Global,
     words: &[String],
     files: &mut F,
+    stores: &mut K,
     input: &mut I,
     output: &mut O,
     net: &mut N,
 ) -> u8
 where
     N::Conn: Send + Drop,
-    ensures runs { Runs result (record {
+    K::Store: Send + Sync,
+    ensures runs { Runs K.Store.Disk result (record {
       words = map string_bytes words.now;
       held = F.held files.old;
       file_faults = F.faults files.old;
@@ -133,15 +112,19 @@ where
       output_after = O.tells output.new;
       net = N.tells net.old;
       net_after = N.tells net.new;
-    }) }
+    }) (stores_run K.held K.back K.faults stores.old stores.new) }
     ensures output_of_input { SameOutput (I.tells input.old) (I.tells input.new) }
     ensures input_of_output { SameInput (O.tells output.old) (O.tells output.new) }
     ensures held { F.held files.new ≡ F.held files.old }
     ensures unread { NamesNoFile (map string_bytes words.now) → files.new ≡ files.old }
     ensures unlinked { AsksForNoLink (map string_bytes words.now) → net.new ≡ net.old }
+    ensures unkept { NamesNoJournal (map string_bytes words.now) → stores.new ≡ stores.old }
 {
     match read_words(alloc, words) {
-        Ok(Some(Asked::Session)) => session_status(serve_session(rt, alloc, input, output)),
+        Ok(Some(Asked::Session { journal })) => match journal {
+            None => session_status(serve_session(rt, alloc, input, output)),
+            Some(name) => keep_session(rt, alloc, stores, name, input, output),
+        },
         Ok(Some(Asked::Check { osil, osrl })) => {
             documents_are_judged_once();
             tell(output, answer_about(alloc, files, osil, osrl))
@@ -171,8 +154,12 @@ where
                     connections: to.connections,
                 },
             };
-            let ending = serve(rt, alloc, net, output, to.host, to.port, setup);
-            serve_status(ending)
+            match to.journal {
+                None => serve_status(serve(rt, alloc, net, output, to.host, to.port, setup)),
+                Some(name) => keep_server(
+                    rt, alloc, stores, name, net, output, to.host, to.port, setup,
+                ),
+            }
         }
         Ok(None) => match write_usage(output) {
             Ok(()) => MISUSED,

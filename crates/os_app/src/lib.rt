@@ -5,7 +5,8 @@
 //! output. `check OSIL OSRL` reads an instance and a result from two files and says whether what is claimed is shown.
 //! `solve OSIL [--options OSOL] [--safe]` reads an instance and options from files and writes the result document that answers them;
 //! `--safe` puts the safe limit of turns (`no_cycles`), if the program has one, in place of the options' own.
-//! `generate N` solves and checks a generated instance. `call` makes a call over a link, and `serve` serves links. The program
+//! `generate N` solves and checks a generated instance. `call` makes a call over a link, and `serve` serves links.
+//! `--journal FILE` has a session or a server keep its jobs in a file. The program
 //! `os_main` hands in the real ends and ends with the status of `run`, [`exit_code`]. The laws say what the words mean, and when
 //! `solve --safe` doesn't end at its limit of turns.
 #![tactic(auto)]
@@ -16,6 +17,8 @@ mod generating;
 mod laws;
 mod safe;
 mod solving;
+mod statuses;
+mod stored;
 
 pub use command::{exit_code, run};
 pub use command_line::{commands_have_their_words, numbers_are_within_their_ends};

@@ -3,10 +3,11 @@
 //! `session` serves the requests that come on the standard input, and writes the answers to the standard output. `check OSIL
 //! OSRL` reads an instance and a result from two files and says whether what is claimed is shown, `solve OSIL [--options
 //! OSOL] [--safe]` writes the result document of an instance, and `generate N` says how a generated one was solved. `serve`
-//! serves connections over TCP, and `call` makes a call of such a server. The program is [`os_app::run`] over the real words,
+//! serves connections over TCP, and `call` makes a call of such a server; `--journal FILE` keeps jobs in a file. The program is [`os_app::run`] over the real words,
 //! files, input, output and links, and ends with its status.
 #![tactic(auto)]
 
+use disks::FileStores;
 use os_app::{exit_code, run};
 use os_io::{DiskFiles, Memory, StdSink, StdSource};
 use std::alloc::AllocError;
@@ -32,6 +33,7 @@ fn main(rt: HostRuntime) -> ExitCode {
         Err(memory) => return exit_code(Err(memory)),
     };
     let mut files = DiskFiles::new(&rt);
+    let mut stores = FileStores::new(&rt);
     let mut input = StdSource::new(rt.stdin());
     let mut output = StdSink::new(rt.stdout());
     let mut net = TcpNet::new(&rt);
@@ -40,6 +42,7 @@ fn main(rt: HostRuntime) -> ExitCode {
         rt.alloc(),
         words.as_slice(),
         &mut files,
+        &mut stores,
         &mut input,
         &mut output,
         &mut net,

@@ -1,5 +1,5 @@
 use Rattle.std.proofs.lemmas.Result.{IfOk-weaker}
-use Rattle.std.proofs.Common.{◌∙◌, Some, ap, arith, refl}
+use Rattle.std.proofs.Common.{◌∙◌, Some, None, ap, refl}
 use Rattle.command_answers.proofs.Outputs.{sent, broken}
 use Rattle.command_line.proofs.Meanings.{asks_it, asks_none}
 use Rattle.os_app.proofs.OtherWords.{other_fails, other_helped}
@@ -8,16 +8,21 @@ use Rattle.os_app.proofs.Words.{links_none, names_none, session_runs, unheard_ru
 use Rattle.os_app.proofs.Calls.{call_runs, none_named}
 use Rattle.os_app.proofs.Checks.{check_runs}
 use Rattle.os_app.proofs.Summaries.{generate_runs}
+use Rattle.os_app.proofs.JournalRuns.{hosted_runs, journal_none, kept_runs, serve_named, session_named}
 use Rattle.os_app.proofs.Solves.{about_named, solve_runs}
 use Rattle.os_app.proofs.Ends.{ends_of, made_ends, told_from}
 use Rattle.os_app.proofs.command.run.Goals as goal
 
-pub returns-in-Ok-Some-Session-clause-runs : goal.returns-in-Ok-Some-Session-clause-runs
-returns-in-Ok-Some-Session-clause-runs g c =
+pub returns-in-None-clause-runs : goal.returns-in-None-clause-runs
+returns-in-None-clause-runs g c =
     session_runs _ c.serve_session.result c.session_status.result c.session_status.ensures (record {
-      session = asks_it _ _ _ (c.in-Ok-Some-Session.field-0-is ∙ ap Some c.in-Ok-Some-Session.field-0-0-is) c.in-Ok-Some-Session.ensures;
+      session = session_named _ _ None c.in-None.is (asks_it _ _ _ (c.in-Ok-Some-Session.field-0-is ∙ ap Some c.in-Ok-Some-Session.field-0-0-is) c.in-Ok-Some-Session.ensures);
       serves = c.serve_session.ensures.session;
     }) refl
+
+pub returns-in-Some-clause-runs : goal.returns-in-Some-clause-runs
+returns-in-Some-clause-runs g c =
+    kept_runs g.K.Store.Disk _ _ _ _ refl (session_named _ _ (Some c.in-Some.name) c.in-Some.is (asks_it _ _ _ (c.in-Ok-Some-Session.field-0-is ∙ ap Some c.in-Ok-Some-Session.field-0-0-is) c.in-Ok-Some-Session.ensures)) c.keep_session.ensures.ends
 
 pub returns-in-Ok-Some-Check-clause-runs : goal.returns-in-Ok-Some-Check-clause-runs
 returns-in-Ok-Some-Check-clause-runs g c =
@@ -55,10 +60,20 @@ pub returns-in-Ok-Some-Call-clause-runs : goal.returns-in-Ok-Some-Call-clause-ru
 returns-in-Ok-Some-Call-clause-runs g c =
     call_runs _ _ _ _ _ _ _ _ (asks_it _ _ _ (c.in-Ok-Some-Call.field-0-is ∙ ap Some c.in-Ok-Some-Call.field-0-0-is) c.in-Ok-Some-Call.ensures) c.make_call.ensures.ends refl
 
-pub returns-in-Ok-Some-Serve-clause-runs : goal.returns-in-Ok-Some-Serve-clause-runs
-returns-in-Ok-Some-Serve-clause-runs g c =
-    serve_runs _ c.serve-ending.result c.serve_status.result _ _ _ c.serve_status.ensures
-    (asks_it _ _ _ (c.in-Ok-Some-Serve.field-0-is ∙ ap Some c.in-Ok-Some-Serve.field-0-0-is) c.in-Ok-Some-Serve.ensures) c.serve-ending.ensures.served refl refl
+pub returns-in-None-journal-clause-runs : goal.returns-in-None-journal-clause-runs
+returns-in-None-journal-clause-runs g c =
+    serve_runs _ c.serve.result c.serve_status.result _ _ _ c.serve_status.ensures
+    (serve_named _ c.in-Ok-Some-Serve.to None c.in-None-journal.is (asks_it _ _ _ (c.in-Ok-Some-Serve.field-0-is ∙ ap Some c.in-Ok-Some-Serve.field-0-0-is) c.in-Ok-Some-Serve.ensures)) c.serve.ensures.served refl refl
+
+pub returns-in-Some-journal-clause-runs : goal.returns-in-Some-journal-clause-runs
+returns-in-Some-journal-clause-runs g c =
+    hosted_runs g.K.Store.Disk _ _ _ _ refl _ _ _ (serve_named _ c.in-Ok-Some-Serve.to (Some c.in-Some-journal.name) c.in-Some-journal.is (asks_it _ _ _ (c.in-Ok-Some-Serve.field-0-is ∙ ap Some c.in-Ok-Some-Serve.field-0-0-is) c.in-Ok-Some-Serve.ensures)) c.keep_server.ensures.ends refl
+
+pub returns-in-Some-clause-unkept : goal.returns-in-Some-clause-unkept
+returns-in-Some-clause-unkept g c = λ none. absurd (journal_none _ _ _ (session_named _ _ (Some c.in-Some.name) c.in-Some.is (asks_it _ _ _ (c.in-Ok-Some-Session.field-0-is ∙ ap Some c.in-Ok-Some-Session.field-0-0-is) c.in-Ok-Some-Session.ensures)) refl none)
+
+pub returns-in-Some-journal-clause-unkept : goal.returns-in-Some-journal-clause-unkept
+returns-in-Some-journal-clause-unkept g c = λ none. absurd (journal_none _ _ _ (serve_named _ c.in-Ok-Some-Serve.to (Some c.in-Some-journal.name) c.in-Some-journal.is (asks_it _ _ _ (c.in-Ok-Some-Serve.field-0-is ∙ ap Some c.in-Ok-Some-Serve.field-0-0-is) c.in-Ok-Some-Serve.ensures)) refl none)
 
 pub returns-in-Ok-Some-Check-clause-unread : goal.returns-in-Ok-Some-Check-clause-unread
 returns-in-Ok-Some-Check-clause-unread g c = λ none. absurd (names_none _ _ (asks_it _ _ _ (c.in-Ok-Some-Check.field-0-is ∙ ap Some c.in-Ok-Some-Check.field-0-0-is) c.in-Ok-Some-Check.ensures) refl none)
@@ -72,8 +87,11 @@ returns-in-Ok-Some-Call-clause-unread g c = λ none. c.make_call.ensures.unread 
 pub returns-in-Ok-Some-Call-clause-unlinked : goal.returns-in-Ok-Some-Call-clause-unlinked
 returns-in-Ok-Some-Call-clause-unlinked g c = λ none. absurd (links_none _ _ (asks_it _ _ _ (c.in-Ok-Some-Call.field-0-is ∙ ap Some c.in-Ok-Some-Call.field-0-0-is) c.in-Ok-Some-Call.ensures) refl none)
 
-pub returns-in-Ok-Some-Serve-clause-unlinked : goal.returns-in-Ok-Some-Serve-clause-unlinked
-returns-in-Ok-Some-Serve-clause-unlinked g c = λ none. absurd (links_none _ _ (asks_it _ _ _ (c.in-Ok-Some-Serve.field-0-is ∙ ap Some c.in-Ok-Some-Serve.field-0-0-is) c.in-Ok-Some-Serve.ensures) refl none)
+pub returns-in-None-journal-clause-unlinked : goal.returns-in-None-journal-clause-unlinked
+returns-in-None-journal-clause-unlinked g c = λ none. absurd (links_none _ _ (asks_it _ _ _ (c.in-Ok-Some-Serve.field-0-is ∙ ap Some c.in-Ok-Some-Serve.field-0-0-is) c.in-Ok-Some-Serve.ensures) refl none)
+
+pub returns-in-Some-journal-clause-unlinked : goal.returns-in-Some-journal-clause-unlinked
+returns-in-Some-journal-clause-unlinked g c = λ none. absurd (links_none _ _ (asks_it _ _ _ (c.in-Ok-Some-Serve.field-0-is ∙ ap Some c.in-Ok-Some-Serve.field-0-0-is) c.in-Ok-Some-Serve.ensures) refl none)
 
 pub generate-requires-clause-least : goal.generate-requires-clause-least
 generate-requires-clause-least g c = (c.numbers_are_within_their_ends.ensures _ _ (asks_it _ _ _ (c.in-Ok-Some-Generate.field-0-is ∙ ap Some c.in-Ok-Some-Generate.field-0-0-is) c.in-Ok-Some-Generate.ensures)).0
@@ -81,11 +99,20 @@ generate-requires-clause-least g c = (c.numbers_are_within_their_ends.ensures _ 
 pub generate-requires-clause-most : goal.generate-requires-clause-most
 generate-requires-clause-most g c = (c.numbers_are_within_their_ends.ensures _ _ (asks_it _ _ _ (c.in-Ok-Some-Generate.field-0-is ∙ ap Some c.in-Ok-Some-Generate.field-0-0-is) c.in-Ok-Some-Generate.ensures)).1
 
-pub serve-ending-requires-clause-servers : goal.serve-ending-requires-clause-servers
-serve-ending-requires-clause-servers g c κs lives = (c.numbers_are_within_their_ends-in-Ok-Some-Serve.ensures _ _ (asks_it _ _ _ (c.in-Ok-Some-Serve.field-0-is ∙ ap Some c.in-Ok-Some-Serve.field-0-0-is) c.in-Ok-Some-Serve.ensures)).2.0
+pub serve-requires-clause-servers : goal.serve-requires-clause-servers
+serve-requires-clause-servers g c κs lives = (c.numbers_are_within_their_ends-in-Ok-Some-Serve.ensures _ _ (asks_it _ _ _ (c.in-Ok-Some-Serve.field-0-is ∙ ap Some c.in-Ok-Some-Serve.field-0-0-is) c.in-Ok-Some-Serve.ensures)).2.0
 
-pub serve-ending-requires-clause-first : goal.serve-ending-requires-clause-first
-serve-ending-requires-clause-first g c κs lives = (c.numbers_are_within_their_ends-in-Ok-Some-Serve.ensures _ _ (asks_it _ _ _ (c.in-Ok-Some-Serve.field-0-is ∙ ap Some c.in-Ok-Some-Serve.field-0-0-is) c.in-Ok-Some-Serve.ensures)).5.0
+pub serve-requires-clause-first : goal.serve-requires-clause-first
+serve-requires-clause-first g c κs lives = (c.numbers_are_within_their_ends-in-Ok-Some-Serve.ensures _ _ (asks_it _ _ _ (c.in-Ok-Some-Serve.field-0-is ∙ ap Some c.in-Ok-Some-Serve.field-0-0-is) c.in-Ok-Some-Serve.ensures)).5.0
 
-pub serve-ending-requires-clause-fits : goal.serve-ending-requires-clause-fits
-serve-ending-requires-clause-fits g c κs lives = (c.numbers_are_within_their_ends-in-Ok-Some-Serve.ensures _ _ (asks_it _ _ _ (c.in-Ok-Some-Serve.field-0-is ∙ ap Some c.in-Ok-Some-Serve.field-0-0-is) c.in-Ok-Some-Serve.ensures)).5.1
+pub serve-requires-clause-fits : goal.serve-requires-clause-fits
+serve-requires-clause-fits g c κs lives = (c.numbers_are_within_their_ends-in-Ok-Some-Serve.ensures _ _ (asks_it _ _ _ (c.in-Ok-Some-Serve.field-0-is ∙ ap Some c.in-Ok-Some-Serve.field-0-0-is) c.in-Ok-Some-Serve.ensures)).5.1
+
+pub keep_server-requires-clause-servers : goal.keep_server-requires-clause-servers
+keep_server-requires-clause-servers g c κs lives = (c.numbers_are_within_their_ends-in-Ok-Some-Serve.ensures _ _ (asks_it _ _ _ (c.in-Ok-Some-Serve.field-0-is ∙ ap Some c.in-Ok-Some-Serve.field-0-0-is) c.in-Ok-Some-Serve.ensures)).2.0
+
+pub keep_server-requires-clause-first : goal.keep_server-requires-clause-first
+keep_server-requires-clause-first g c κs lives = (c.numbers_are_within_their_ends-in-Ok-Some-Serve.ensures _ _ (asks_it _ _ _ (c.in-Ok-Some-Serve.field-0-is ∙ ap Some c.in-Ok-Some-Serve.field-0-0-is) c.in-Ok-Some-Serve.ensures)).5.0
+
+pub keep_server-requires-clause-fits : goal.keep_server-requires-clause-fits
+keep_server-requires-clause-fits g c κs lives = (c.numbers_are_within_their_ends-in-Ok-Some-Serve.ensures _ _ (asks_it _ _ _ (c.in-Ok-Some-Serve.field-0-is ∙ ap Some c.in-Ok-Some-Serve.field-0-0-is) c.in-Ok-Some-Serve.ensures)).5.1
