@@ -17,9 +17,9 @@ impl Verdicts for Any {
 pub struct NoNo;
 
 impl Sieve for NoNo {
-    ghost use Rattle.std.specs.Prelude.{bytes_eq, not, ◌∷◌, []};
+    ghost use Rattle.std.specs.Prelude.{◌≢◌, ◌∷◌, []};
 
-    ghost accepted = { λ _ document. not (bytes_eq document (110 ∷ 111 ∷ [])) };
+    ghost accepted = { λ _ document. document ≢ 110 ∷ 111 ∷ [] };
 
     fn accepts(&mut self, _osil: &[u8], document: &[u8]) -> Result<bool, Memory> {
         Ok(document != b"no".as_slice())

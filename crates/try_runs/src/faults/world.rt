@@ -2,6 +2,7 @@
 
 use super::calls::{Fails, Given, Kind};
 use cases::bytes_of;
+use disks::{MemDisk, MemStores};
 use os_app::run;
 use os_io::{Files, MemFiles, MemLink, MemListener, MemSink, MemSource, Memory, Text};
 use std::alloc::Global;
@@ -97,11 +98,14 @@ impl<'r, R: Threads + Wait + Sync, F: Files> World<'r, R, F> {
         let mut input = MemSource::new(alloc, given.input, 1, &[fails.of(Kind::Read)])?;
         let mut output = MemSink::new(alloc, ROOM, &[fails.of(Kind::Write)])?;
         let mut net = net_of(alloc, given.links, fails)?;
+        let disk = MemDisk::new(alloc, &[], &[], u64::MAX)?;
+        let mut stores = MemStores::new(alloc, "journal", disk)?;
         let status = run(
             self.rt,
             alloc,
             words.as_slice(),
             &mut files,
+            &mut stores,
             &mut input,
             &mut output,
             &mut net,

@@ -25,6 +25,7 @@ pub(crate) struct Fails {
     pub write: u64,
     pub net: u64,
     pub link: u64,
+    pub disk: u64,
 }
 
 /// The files of a run, read from the disk.

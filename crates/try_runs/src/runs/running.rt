@@ -2,6 +2,7 @@
 
 use super::ends::{Fails, ROOM, files_of, input_of, net_of, output_of};
 use cases::{bytes_of, number_of};
+use disks::{MemDisk, MemStores};
 use os_app::run;
 use os_io::{Files, MemListener, Memory, Text};
 use std::alloc::Global;
@@ -15,6 +16,7 @@ const NONE: Fails = Fails {
     write: 0,
     net: 0,
     link: 0,
+    disk: 0,
 };
 
 /// The words of a run, with `|` between; none where there are no bytes.
@@ -33,7 +35,7 @@ fn behind<'f>(field: &'f [u8], word: &[u8]) -> Option<&'f [u8]> {
     field.strip_prefix(word)
 }
 
-/// The call that fails: `file N`, `read N`, `write N`, `net N`, `link N`, or none.
+/// The call that fails: `file N`, `read N`, `write N`, `net N`, `link N`, `disk N`, or none.
 fn fails_of(field: &[u8]) -> Fails {
     let mut fails = NONE;
     if let Some(number) = behind(field, b"file ") {
@@ -46,6 +48,8 @@ fn fails_of(field: &[u8]) -> Fails {
         fails.net = number_of(number);
     } else if let Some(number) = behind(field, b"link ") {
         fails.link = number_of(number);
+    } else if let Some(number) = behind(field, b"disk ") {
+        fails.disk = number_of(number);
     }
     fails
 }
@@ -99,11 +103,14 @@ impl<'r, R: Threads + Wait + Sync, F: Files> World<'r, R, F> {
         let mut files = files_of(alloc, &mut self.disk, fails)?;
         let mut input = input_of(alloc, input, piece, fails)?;
         let mut output = output_of(alloc, room, fails)?;
+        let disk = MemDisk::new(alloc, &[], &[fails.disk], u64::MAX)?;
+        let mut stores = MemStores::new(alloc, "journal", disk)?;
         let status = run(
             self.rt,
             alloc,
             words.as_slice(),
             &mut files,
+            &mut stores,
             &mut input,
             &mut output,
             net,

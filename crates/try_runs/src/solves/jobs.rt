@@ -1,5 +1,6 @@
 //! Jobs, solved and checked by the program.
 
+use disks::{MemDisk, MemStores};
 use os_app::run;
 use os_io::{MemFiles, MemListener, MemSink, MemSource, Memory, Text};
 use std::alloc::Global;
@@ -38,11 +39,14 @@ fn ran<R: Threads + Wait + Sync>(
     let mut input = MemSource::new(alloc, b"", 1, &[])?;
     let mut output = MemSink::new(alloc, ROOM, &[])?;
     let mut net = MemListener::new(alloc, &[])?;
+    let disk = MemDisk::new(alloc, &[], &[], u64::MAX)?;
+    let mut stores = MemStores::new(alloc, "journal", disk)?;
     let status = run(
         rt,
         alloc,
         words.as_slice(),
         files,
+        &mut stores,
         &mut input,
         &mut output,
         &mut net,
