@@ -4,6 +4,7 @@ that stay."""
 import html
 import os
 import re
+import signal
 import socket
 import subprocess
 
@@ -19,16 +20,18 @@ class Server:
     """A run of `serve` on a free port of loopback, behind the words of another command, if there are any. Where it was to end by itself, after so
     many connections, its status is looked at."""
 
-    def __init__(self, workers, servers, connections=None, patience=None, behind=()):
+    def __init__(self, workers, servers, connections=None, patience=None, behind=(), journal=None, before=None):
         self.behind = behind
         self.words = ["--workers", str(workers), "--servers", str(servers)]
         self.words += ["--connections", str(connections)] if connections else []
         self.words += ["--patience", str(patience)] if patience else []
+        self.words += ["--journal", journal] if journal else []
+        self.before = before
         self.connections, self.peak, self.jobs = connections, 0, None
 
     def __enter__(self):
         self.port = free_port()
-        self.process = subprocess.Popen([*self.behind, PROGRAM, "serve", "127.0.0.1", str(self.port), *self.words], stdout=subprocess.PIPE)
+        self.process = subprocess.Popen([*self.behind, PROGRAM, "serve", "127.0.0.1", str(self.port), *self.words], stdout=subprocess.PIPE, preexec_fn=self.before)
         line = self.process.stdout.readline()
         if line != b"listening\n":
             raise SystemExit(f"serve wrote {line!r} and ended with {self.process.wait()}")
@@ -41,7 +44,7 @@ class Server:
 
     def __exit__(self, kind, *_):
         if kind or not self.connections:
-            self.process.kill()
+            os.kill(self.process.pid, signal.SIGKILL)  # also one that was killed, and isn't waited for yet
         told = self.process.stdout.read()
         _, status, usage = os.wait4(self.process.pid, 0)
         self.process.returncode, self.peak = status, usage.ru_maxrss * 1024
