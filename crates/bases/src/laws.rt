@@ -1,3 +1,4 @@
+//! Laws of the dictionaries of bases.
 ghost use Rattle.std.specs.Prelude.{◌≡◌, ℕ, ◌+◌, ◌<◌, pos, Bool, true, false};
 ghost use Rattle.rational.specs.Ratio.{Ratio, IsNumber, IsSame};
 ghost use Rattle.evidence.specs.Sums.{none, total};

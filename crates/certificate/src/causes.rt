@@ -1,3 +1,4 @@
+//! Why a search ended before it knew the optimum.
 ghost use Rattle.std.specs.Prelude.{◌≡◌};
 ghost use Rattle.certificate.specs.Words.{step_text};
 
@@ -6,12 +7,19 @@ use std::alloc::AllocError;
 /// What was being done where a number was found too wide.
 #[derive(Clone, Copy, PartialEq, Eq, Debug)]
 pub enum Step {
+    /// A value of a basic column.
     Values,
+    /// How far a column may move.
     Ratio,
+    /// A number of the next dictionary.
     Pivot,
+    /// A bound, or a sum at a point.
     Point,
+    /// A direction, or a sum along it.
     Ray,
+    /// A number of a rounding cut.
     Round,
+    /// A sum of the closing check.
     Check,
 }
 
@@ -29,7 +37,7 @@ pub struct Place {
 pub enum Cause {
     /// It was told to stop.
     Killed,
-    /// It had looked at so many nodes.
+    /// It had begun so many nodes.
     NodeLimit(u32),
     /// It had taken so many turns.
     TurnLimit(u32),

@@ -1,3 +1,5 @@
+//! Claims about an instance.
+
 use crate::causes::Cause;
 use crate::lists::{Point, Ray, Values};
 use crate::nodes::{Cert, Certs};

@@ -1,3 +1,5 @@
+//! Lists of numbers: points, values, directions, and multipliers of columns.
+
 use fraction::Frac;
 use items::Items;
 

@@ -1,3 +1,4 @@
+//! The nodes of trees of cases, and certificates, which are rounding cuts and such nodes.
 ghost use Rattle.std.specs.Prelude.{◌≡◌, [], IfOk};
 
 use crate::lists::Mults;

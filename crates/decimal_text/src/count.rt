@@ -1,3 +1,4 @@
+//! Counts, read.
 ghost use Rattle.std.specs.Prelude.{IfOk, IfErr};
 ghost use Rattle.decimal_text.specs.Space.{trimmed};
 ghost use Rattle.decimal_text.specs.Count.{CountGrammar, IsCount, IsWideCount};

@@ -1,3 +1,4 @@
+//! Decimals, read.
 ghost use Rattle.std.specs.Prelude.{◌≡◌, ◌∷◌, [], length, IfOk, IfErr, MatchOption};
 ghost use Rattle.fraction.specs.Frac.{ratio};
 ghost use Rattle.decimal_text.specs.Bound.{BoundGrammar, SaysEnd, InfinityStop};

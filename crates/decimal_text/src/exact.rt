@@ -1,3 +1,4 @@
+//! Ratios, read.
 ghost use Rattle.std.specs.Prelude.{◌≡◌, IfOk, IfErr};
 ghost use Rattle.fraction.specs.Frac.{ratio};
 ghost use Rattle.decimal_text.specs.Exact.{RatioText, UnderSplit, UnderStop, IsUnder, under_of, under_value};

@@ -1,3 +1,5 @@
+//! Refusals of texts of numbers.
+
 /// Why a text is no number here, or a number has no text.
 #[derive(Clone, Copy, PartialEq, Eq, Debug, Drop)]
 pub enum DecimalFault {

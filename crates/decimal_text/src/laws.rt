@@ -1,3 +1,4 @@
+//! Laws: what is written is read back.
 ghost use Rattle.std.specs.Prelude.{◌≡◌, ◌≤◌, List, ℕ, ℤ, Result, Ok, IfOk, IfErr, unsigned_abs, decimal};
 ghost use Rattle.std.specs.Fmt.{signed_decimal};
 ghost use Rattle.fraction.specs.declared.frac.Frac.{Frac};

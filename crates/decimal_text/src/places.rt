@@ -1,3 +1,4 @@
+//! Fractions written as decimals that say all of them.
 ghost use Rattle.std.specs.Prelude.{◌≡◌, ◌≢◌, ℕ, pos, unsigned_abs, ◌*◌, ◌^◌, ◌<◌, ◌≤◌, true, false, OnOk, OnErr, IfErr};
 ghost use Rattle.std.specs.Int.{IsGcd};
 ghost use Rattle.rational.specs.Width.{most};

@@ -1,3 +1,4 @@
+//! Fractions written for people, cut to twelve decimals.
 ghost use Rattle.std.specs.Prelude.{◌≡◌, ◌++◌, ◌⊎◌, ◌<ℤ◌, ◌≤ℤ◌, pos, true, false, unsigned_abs, length, take, decimal, OnOk, OnErr};
 ghost use Rattle.fraction.specs.Frac.{ratio};
 ghost use Rattle.decimal_text.specs.Plain.{AppendsNumber, cut12, point_text};

@@ -1,3 +1,4 @@
+//! Fractions written as ratios.
 ghost use Rattle.std.specs.Prelude.{◌≡◌, ◌++◌, ◌==◌, [], ◌∷◌, cond, OnOk, OnErr, take, length, decimal};
 ghost use Rattle.std.specs.Fmt.{signed_decimal};
 ghost use Rattle.fraction.specs.Frac.{ratio};

@@ -1,3 +1,4 @@
+//! White space round a number's text.
 ghost use Rattle.std.specs.Prelude.{◌≡◌, reverse};
 ghost use Rattle.decimal_text.specs.Space.{is_space, without_leading_space, trimmed};
 

@@ -1,3 +1,4 @@
+//! Whole numbers, read.
 ghost use Rattle.std.specs.Prelude.{IfOk, IfErr};
 ghost use Rattle.decimal_text.specs.Space.{trimmed};
 ghost use Rattle.decimal_text.specs.Whole.{WholeGrammar, IsWholeText, IsWideWhole};

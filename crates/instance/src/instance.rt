@@ -1,3 +1,4 @@
+//! Instances, with their limits.
 ghost use Rattle.std.specs.Prelude.{◌≡◌, ◌↔◌, ◌<◌, ℕ, length, nat_eq, IsSome, IfSome, MatchOption, IfOk, OnErr};
 ghost use Rattle.std.specs.List.{filter};
 ghost use Rattle.rational.specs.Ratio.{IsSame};

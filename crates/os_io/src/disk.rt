@@ -1,3 +1,4 @@
+//! The files of the system, read by name.
 ghost use Rattle.std.specs.Prelude.{◌≡◌};
 ghost use Rattle.os_io.specs.Files.{Untold};
 

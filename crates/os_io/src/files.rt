@@ -1,3 +1,4 @@
+//! Files that are read by name.
 ghost use Rattle.std.specs.Prelude.{◌≡◌, ℕ, List, IfOk};
 ghost use Rattle.os_io.specs.Files.{CountsFiles, Held, ReadsFirst};
 

@@ -1,3 +1,4 @@
+//! What gives links.
 ghost use Rattle.std.specs.Prelude.{◌≡◌, IfOk, OnErr};
 ghost use Rattle.os_io.specs.Streams.{Counts};
 ghost use Rattle.os_io.specs.Links.{NetTells, Comes, IsGivenBack, ListenedAt, ConnectedTo, Reaches, SameLinks};

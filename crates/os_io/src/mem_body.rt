@@ -1,3 +1,4 @@
+//! Bodies that are kept in memory.
 ghost use Rattle.std.specs.Prelude.{◌≡◌, [], true, false, List, ℕ, IfOk, OnErr};
 ghost use Rattle.os_io.specs.Bodies.{TakesBehind, behind_none, behind_both, HasKept};
 

@@ -1,3 +1,4 @@
+//! Links in memory.
 ghost use Rattle.std.specs.Prelude.{◌≡◌, [], Some, IfOk, max, vec_capacity};
 ghost use Rattle.os_io.specs.MemLinks.{tells_of_link};
 ghost use Rattle.os_io.specs.Memory.{IsFresh};

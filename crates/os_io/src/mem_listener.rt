@@ -1,3 +1,4 @@
+//! Listeners in memory.
 ghost use Rattle.std.specs.Prelude.{◌≡◌, ◌∷◌, ◌<◌, [], map, Some, IfOk, IfSome, IfNone, OnOk, OnErr, vec_len, vec_capacity};
 ghost use Rattle.os_io.specs.Streams.{Counts};
 ghost use Rattle.os_io.specs.Links.{NetTells, IsGivenBack};

@@ -1,3 +1,4 @@
+//! Watches in memory.
 ghost use Rattle.std.specs.Prelude.{◌≡◌, IfOk};
 ghost use Rattle.os_io.specs.Memory.{IsFresh};
 ghost use Rattle.os_io.specs.Looks.{CameInMemory};

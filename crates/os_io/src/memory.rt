@@ -1,3 +1,4 @@
+//! Sources and sinks in memory.
 ghost use Rattle.std.specs.Prelude.{◌≡◌, [], Some, IfOk, max, vec_capacity};
 ghost use Rattle.os_io.specs.Memory.{input_left, output_handed, IsFresh};
 ghost use Rattle.os_io.specs.Streams.{source_tells, sink_tells};

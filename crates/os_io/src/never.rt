@@ -1,3 +1,4 @@
+//! The watch of a run that nobody stops.
 ghost use Rattle.std.specs.Prelude.{◌≡◌, refl};
 ghost use Rattle.os_io.specs.Looks.{stops_of};
 ghost use Rattle.os_io.specs.Laws.{no_stop, no_stops};

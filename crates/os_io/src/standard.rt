@@ -1,3 +1,4 @@
+//! The standard input and output.
 ghost use Rattle.std.specs.Prelude.{◌≡◌, None};
 ghost use Rattle.os_io.specs.Streams.{source_tells, sink_tells};
 

@@ -1,3 +1,4 @@
+//! What gives bytes, and what takes them.
 ghost use Rattle.std.specs.Prelude.{◌≡◌, ℕ, ◌<◌, ◌≤◌, [], length, take, IfOk, OnErr, OnOk};
 ghost use Rattle.os_io.specs.Streams.{Tells, BothTold, Takes, Appends, Grows, Counts, SameInput, SameOutput, Writes, Sends};
 

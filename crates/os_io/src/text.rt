@@ -1,3 +1,4 @@
+//! Bytes in memory that grow.
 ghost use Rattle.std.specs.Prelude.{◌≡◌, ◌==◌, ◌++◌, [], ◌∷◌, length, take, OnOk, OnErr, IfOk};
 
 use std::alloc::{AllocError, Global};

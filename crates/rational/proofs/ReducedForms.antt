@@ -32,7 +32,7 @@ pub record IsFormOf (x : Ratio) : Type 0 where
   pub reduced : IsReduced form
   pub same : IsSame form x
 
-parts_cross : (m b g : ℕ) → g ∣ m → g ∣ b → m / g * b ≡ m * (b / g)
+pub parts_cross : (m b g : ℕ) → g ∣ m → g ∣ b → m / g * b ≡ m * (b / g)
 parts_cross m b g gm gb =
     let e : m / g * (b / g * g) ≡ m / g * g * (b / g) = omega arith in
     ap (λ x. m / g * x) (sym (div-mul_cancel g gb)) ∙ e ∙ ap (λ x. x * (b / g)) (div-mul_cancel g gm)

@@ -1,3 +1,4 @@
+//! Laws of runs of the simplex method.
 ghost use Rattle.std.specs.Prelude.{◌≡◌, Bool, List};
 ghost use Rattle.evidence.specs.Instance.{Instance, IsInstance};
 ghost use Rattle.simplex_rules.specs.declared.columns.Status.{Status};

@@ -1,3 +1,4 @@
+//! A connection of the system, as a link.
 ghost use Rattle.std.specs.Prelude.{◌≡◌, ◌<◌, ◌≤◌, length, None, Ok, true, IfOk};
 ghost use Rattle.os_io.specs.Streams.{Tells, Counts};
 

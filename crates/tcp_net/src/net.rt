@@ -1,3 +1,4 @@
+//! The network of the system, as a listener.
 ghost use Rattle.std.specs.Prelude.{◌≡◌, None, IfOk};
 
 use crate::counted::counted;
