@@ -8,7 +8,7 @@ pub mod Choices
 pub mod Cycle
 pub mod Repeats
 pub mod Feasible
-pub mod Counting
+pub mod Pigeonholes
 pub mod SecondPhase
 pub mod FirstBasis
 pub mod OneCaseSearches

@@ -9,7 +9,7 @@ use Rattle.simplex_rules.specs.Ends.{Terms, Clock, End, Clash, Empty, Best, Endl
 use Rattle.simplex_rules.specs.Runs.{Run, looked_once}
 use Rattle.search_rules.specs.Branching.{Case}
 use Rattle.search_rules.specs.Cuts.{Trial, NoCut, WideCut, Cut}
-use Rattle.search_rules.specs.Search.{Found, SearchMoment, Outcome, To, Out, StopsBefore, Branches, Takes, TakesPoint, MeetsPoint, GoesFromTrial, GoesFromBest, GoesFrom, Closes, IsNext, IsVisit, ComesInSearch, begins, goes_on, IsSearchAnswer, searched, given_up, given_up_after, first, early, undivided}
+use Rattle.search_rules.specs.Search.{Found, SearchMoment, Outcome, To, Out, StopsBefore, Branches, Takes, TakesPoint, MeetsPoint, GoesFromTrial, GoesFromBest, GoesFrom, Closes, IsNextInSearch, IsVisit, ComesInSearch, begins, goes_on, IsSearchAnswer, searched, given_up, given_up_after, first, early, undivided}
 use Rattle.search_rules.specs.Outcomes.{HaveOneRange, IsPlain}
 use Rattle.search_rules.proofs.PlainSearches.{comes_plain, visit_closed}
 use Rattle.no_cycles.specs.Beginning.{BeginsFeasible}
@@ -91,7 +91,7 @@ module _ (I : Instance) (t : Terms) (plain : IsPlain I) (ranges : HaveOneRange I
   closed_ends m n (Some f) [] e q = cc
   closed_ends m n (Some f) (g ∷ gs) e q = cc
 
-  next_closed : (m n : SearchMoment) → ComesInSearch P t m → IsWholeOrClosed m → IsNext P t m (To n) → IsWholeOrClosed n
+  next_closed : (m n : SearchMoment) → ComesInSearch P t m → IsWholeOrClosed m → IsNextInSearch P t m (To n) → IsWholeOrClosed n
   next_closed m n comes (inl e) (inl (none, closes)) = let w = ap (λ k. k.waiting) e in absurd (cc)
   next_closed m n comes (inr (none, later)) (inl (empty, closes)) = absurd (closed_ends m n m.best m.level.later later closes)
   next_closed m n comes at (inr (inl (some, inl (limit, e)))) = absurd (cc)
@@ -115,7 +115,7 @@ module _ (I : Instance) (t : Terms) (plain : IsPlain I) (ranges : HaveOneRange I
         goes_within P t (record (first P) { clock = v.clock }) o c v.visit.case v.visit.rest k v.end
         (λ e. never_out I false t k v.clock good (λ room. settled_first I false good room feasible) (omega (arith, enough)) (subst (λ x. Run I false t k x v.clock) e run)) v.goes
 
-    next_within : (m : SearchMoment) (o : Outcome) (c : Clock) → IsWholeOrClosed m → IsNext P t m (Out o c) → is_out_of_turns o ≡ false
+    next_within : (m : SearchMoment) (o : Outcome) (c : Clock) → IsWholeOrClosed m → IsNextInSearch P t m (Out o c) → is_out_of_turns o ≡ false
     next_within m o c at (inl (none, closes)) = closes_within P t m o c m.best m.level.later closes
     next_within m o c at (inr (inl (some, stops))) = stops_within P t m o c stops
     next_within m o c (inl e) (inr (inr v)) = visit_within o c (subst (λ x. IsVisit P t x (Out o c)) e v)

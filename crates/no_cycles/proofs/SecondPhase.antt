@@ -15,7 +15,7 @@ use Rattle.simplex_rules.proofs.Moments.{comes_placed}
 use Rattle.no_cycles.specs.Phase.{IsImprovingTurn, AreTurns, IsSettled, BeginsSettled, HasNoneTwice, came_through}
 use Rattle.no_cycles.proofs.Repeats.{is_next, taken, once}
 use Rattle.no_cycles.proofs.Feasible.{stays_settled}
-use Rattle.no_cycles.proofs.Counting.{pigeons, code, code_below, code_one}
+use Rattle.no_cycles.proofs.Pigeonholes.{pigeons, code, code_below, code_one}
 
 pub few : (I : Instance) (zeroed : Bool) (t : Terms) (c : Clock) (at : ℕ → Moment) (k : ℕ) → IsInstance I → HasNoClash I → ComesInRun I zeroed t c (at 0) → AreTurns I zeroed t at k → k < 4 ^ goal_column I
 few I zeroed t c at k good room first turns =

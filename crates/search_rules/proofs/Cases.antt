@@ -13,13 +13,13 @@ use Rattle.evidence.specs.Rounds.{IsRoundingCut, derive}
 use Rattle.evidence.specs.AddedRows.{with_row}
 use Rattle.evidence.proofs.Totals.{total_below}
 use Rattle.evidence.proofs.Columns.{by_lt, further-numbers, All-anywhere}
-use Rattle.evidence.proofs.Branches.{instance_with}
+use Rattle.evidence.proofs.Branches.{instance_with, both-numbers, or_free-numbers}
 use Rattle.evidence.proofs.AddedRows.{other_entry, height_added, row_other}
 use Rattle.evidence.proofs.RoundingCuts.{instance_derived}
 use Rattle.simplex_rules.specs.Ends.{IsRelaxed, IsDirection}
 use Rattle.search_rules.specs.Branching.{Case, IsMet, AreMetBelow}
 use Rattle.search_rules.specs.Search.{undivided}
-use Rattle.search_rules.proofs.Ranges.{IsInside, inside-trans, inside_moves, most-numbers, least-numbers, most_inside, least_inside, both-numbers, inside_first, inside_second, only_none, only_none-numbers, or_free-numbers}
+use Rattle.search_rules.proofs.Ranges.{IsInside, inside-trans, inside_moves, most-numbers, least-numbers, most_inside, least_inside, inside_first, inside_second, only_none, only_none-numbers}
 
 -- J is I with narrower ranges and more rows
 pub record IsCase (I J : Instance) : Type 0 where

@@ -15,7 +15,7 @@ use Rattle.evidence.specs.Width.{LeafFits}
 use Rattle.evidence.proofs.Numbers.{◌≈◌, ◌⊙◌}
 use Rattle.evidence.proofs.LevelSteps.{next-instance, up, down, kept, objective-number}
 use Rattle.search_rules.specs.Search.{Found, Level, reached, IsValue, AreValuesAt}
-use Rattle.search_rules.specs.Outcomes.{Proves, ProvesAfter, CertificateProves, AreProved, ProvesEndless}
+use Rattle.search_rules.specs.Outcomes.{Proves, ProvesAfter, CertificateProves, AreLevelsProved, ProvesEndless}
 
 -- D is I with a row for each of these cuts
 abbrev pub IsAfter : Instance → List (List Multiplier) → Instance → Type 0
@@ -57,7 +57,7 @@ module _ (J : Instance) (c : Certificate) (v : Ratio) (proves : CertificateProve
   reaches_on e end g hs (d ∷ cs) I (h ∷ gs) (w ∷ vs) low at (p, x, is, r) = (p, x, is, reaches_on e end g hs cs (next_level I x h) gs vs (omega arith) at r)
 
   -- the last level
-  pub reaches_end : (cs : List Certificate) (I : Instance) (gs : List Goal) (vs : List Ratio) → length vs ≡ suc (length cs) → value_at vs (length cs) ≡ v → Reaches I gs vs cs J [] → AreProved I gs vs (cs ++ c ∷ [])
+  pub reaches_end : (cs : List Certificate) (I : Instance) (gs : List Goal) (vs : List Ratio) → length vs ≡ suc (length cs) → value_at vs (length cs) ≡ v → Reaches I gs vs cs J [] → AreLevelsProved I gs vs (cs ++ c ∷ [])
   reaches_end [] I (g ∷ gs) vs n at r = let no = r.1 in absurd (cc)
   reaches_end [] I [] [] n at r = absurd (omega arith)
   reaches_end [] I [] (w ∷ []) n at r = subst (λ K. CertificateProves K c (Some (minimising K w))) (sym r.0) (subst (λ x. CertificateProves J c (Some (minimising J x))) (sym at) proves)

@@ -20,9 +20,9 @@ use Rattle.simplex_rules.specs.Ends.{Terms, Clock, End, Clash, Empty, Best, Endl
 use Rattle.simplex_rules.specs.Runs.{looked_once}
 use Rattle.simplex_rules.proofs.Moments.{run_true}
 use Rattle.search_rules.specs.Branching.{Case, AreMetBelow, NoneMoves, split_cases, divided_cases}
-use Rattle.search_rules.specs.Cuts.{IsCut, Trial, NoCut, WideCut, Cut, TriesMultipliers, TriesEquation, TriesBasis}
+use Rattle.search_rules.specs.Cuts.{MakesCut, Trial, NoCut, WideCut, Cut, TriesMultipliers, TriesEquation, TriesBasis}
 use Rattle.search_rules.specs.Rays.{IsScaled}
-use Rattle.search_rules.specs.Search.{Found, Level, SearchMoment, To, first, undivided, shown_at, reached, closed_by_leaf, branch, divide, with_cut, next_level_at, IsPassed, IsHopeful, IsValue, AreValuesAt, Branches, MayCut, Takes, TakesPoint, MeetsPoint, GoesFromTrial, Improves, GoesFromBest, GoesFrom, Closes, IsNext, ComesInSearch, begins, goes_on}
+use Rattle.search_rules.specs.Search.{Found, Level, SearchMoment, To, first, undivided, shown_at, reached, closed_by_leaf, branch, divide, with_cut, next_level_at, IsPassed, IsHopeful, IsValue, AreValuesAt, Branches, MayCut, Takes, TakesPoint, MeetsPoint, GoesFromTrial, Improves, GoesFromBest, GoesFrom, Closes, IsNextInSearch, ComesInSearch, begins, goes_on}
 use Rattle.search_rules.specs.Outcomes.{IsPoint, Proves, CertificateProves}
 use Rattle.search_rules.proofs.Nodes.{ProvesAll, no_nodes, Within, Leads, leads_first, leads_on, leads_out, clash_first, farkas_first, bound_first, split_first, zero_first, at_most-trans, at_most-below, at_most-same, minimising_by-same}
 use Rattle.search_rules.proofs.Cases.{IsCase, itself, case_cut, IsEndless, IsOpen, open_most, open_least, open_zero, open_own, open_undivided, feasible, objective_of}
@@ -202,21 +202,21 @@ module _ (P : Problem) (C : Case) (rest : List Case) (m : SearchMoment) (h : Hol
   meets_hold t x ms n some (inr p) = takes_hold t x ms n (λ e. absurd (some e)) p
 
 -- a cut that was tried is one of the program
-cut_of : (I : Instance) (x : List Ratio) (ss : List Status) (ms : List Multiplier) (cs : List ℤ) (k : ℤ) → TriesBasis I x ss (Cut ms cs k) → IsCut I ms cs k
+cut_of : (I : Instance) (x : List Ratio) (ss : List Status) (ms : List Multiplier) (cs : List ℤ) (k : ℤ) → TriesBasis I x ss (Cut ms cs k) → MakesCut I ms cs k
 cut_of I x ss ms cs k (inl (w, e)) = absurd (cc)
 cut_of I x ss ms cs k (inr (inl (j, p, n, e))) = absurd (cc)
 cut_of I x ss ms cs k (inr (inr (j, u, p, n, d, t))) = of_equation t
   where
-    of_multipliers : (ns : List Multiplier) → TriesMultipliers I ns (Cut ms cs k) → IsCut I ms cs k
+    of_multipliers : (ns : List Multiplier) → TriesMultipliers I ns (Cut ms cs k) → MakesCut I ms cs k
     of_multipliers ns (inl (n, e)) = absurd (cc)
     of_multipliers ns (inr (inl (n, e))) = absurd (cc)
     of_multipliers ns (inr (inr (ds, l, c, e))) =
         let a : ns ≡ ms = cc in
         let b : ds ≡ cs = cc in
         let d : l ≡ k = cc in
-        subst (λ l. IsCut I ms cs l) d (subst (λ ds. IsCut I ms ds l) b (subst (λ ns. IsCut I ns ds l) a c))
+        subst (λ l. MakesCut I ms cs l) d (subst (λ ds. MakesCut I ms ds l) b (subst (λ ns. MakesCut I ns ds l) a c))
 
-    of_equation : TriesEquation I ss u j (Cut ms cs k) → IsCut I ms cs k
+    of_equation : TriesEquation I ss u j (Cut ms cs k) → MakesCut I ms cs k
     of_equation (inl (w, e)) = absurd (cc)
     of_equation (inr (inl (f, z, e))) = absurd (cc)
     of_equation (inr (inr (ns, f, z, are, m))) = of_multipliers ns m
@@ -248,14 +248,14 @@ module _ (P : Problem) (C : Case) (rest : List Case) (m : SearchMoment) (is : m.
       }
 
   -- a cut is a row more of the one case
-  cut_holds : (ms : List Multiplier) (cs : List ℤ) (k : ℤ) → P.later ≡ [] → m.nodes ≡ [] → IsCut C.program ms cs k → Holds P (with_cut m C rest ms cs k)
+  cut_holds : (ms : List Multiplier) (cs : List ℤ) (k : ℤ) → P.later ≡ [] → m.nodes ≡ [] → MakesCut C.program ms cs k → Holds P (with_cut m C rest ms cs k)
   cut_holds ms cs k one none c =
       let root = h.root none in
       let all : C ∷ rest ≡ undivided h.cut ∷ [] = sym is ∙ root in
       let p : C ≡ undivided h.cut = cc in
       let q : rest ≡ [] = cc in
       let D : Instance = derive h.cut cs k in
-      let is_cut : IsCut h.cut ms cs k = subst (λ K. IsCut K.program ms cs k) p c in
+      let is_cut : MakesCut h.cut ms cs k = subst (λ K. MakesCut K.program ms cs k) p c in
       let narrow : IsCase m.level.program D = case_cut m.level.program h.cut ms cs k is_cut.cut h.within in
       let next : record C { program = derive C.program cs k } ∷ rest ≡ undivided D ∷ [] = ap (λ (K : Case). record K { program = derive K.program cs k } ∷ rest) p ∙ ap (λ (r : List Case). undivided D ∷ r) q in
       record {
@@ -354,7 +354,7 @@ module _ (P : Problem) (m : SearchMoment) (h : Holds P m) (none : m.waiting ≡ 
   closes_hold t n (Some f) (g ∷ gs) some later (inr (wide, inr (goes, q))) = absurd (cc)
 
 module _ (P : Problem) (t : Terms) where
-  pub next_holds : (m n : SearchMoment) → Holds P m → IsNext P t m (To n) → Holds P n
+  pub next_holds : (m n : SearchMoment) → Holds P m → IsNextInSearch P t m (To n) → Holds P n
   next_holds m n h (inl (none, c)) = closes_hold P m h none t n m.best m.level.later refl refl c
   next_holds m n h (inr (inl (some, inl (limit, e)))) = absurd (cc)
   next_holds m n h (inr (inl (some, inr (within, stop, e)))) = absurd (cc)

@@ -22,7 +22,7 @@ use Rattle.simplex_rules.specs.declared.columns.Status.TheVariants.{Basic, Lower
 use Rattle.simplex_rules.specs.Statuses.{status_at, basic_in}
 use Rattle.simplex_rules.specs.Reports.{collected, one_of}
 use Rattle.search_rules.specs.Branching.{IsWholeBelow}
-use Rattle.search_rules.specs.Cuts.{IsFractional, IsLess, IsLeft, IsCutFormBy, IsCutForm, IsWideCut, IsNoCut, IsCut, AreCutMultipliers, Trial, Cut, TriesMultipliers, TriesEquation, TriesBasis}
+use Rattle.search_rules.specs.Cuts.{IsFractional, IsLessBy, IsLeftOver, IsCutFormBy, IsCutForm, IsWideCut, IsNoCut, MakesCut, AreCutMultipliers, Trial, Cut, TriesMultipliers, TriesEquation, TriesBasis}
 
 pub one_floor : (x : Ratio) (k l : ℤ) → IsFloor x k → IsFloor x l → k ≡ l
 one_floor x k l f g =
@@ -36,15 +36,15 @@ one_ceiling x k l c d =
     let b : (l +ℤ negsuc 0) <ℤ k = below-from_times (l +ℤ negsuc 0) k x.den (let p = d.low in let q = c.high in omega (arith, ints)) in
     omega (arith, ints)
 
-one_less : (x r q : Ratio) (k : ℤ) → IsNumber x → IsLess x k r → IsLess x k q → r ≡ q
+one_less : (x r q : Ratio) (k : ℤ) → IsNumber x → IsLessBy x k r → IsLessBy x k q → r ≡ q
 one_less x r q k n l m =
     same_reduced r q l.reduced m.reduced (IsSame-trans r (sum x (negative (whole k))) q (sum-number x (negative (whole k)) n (lit< tt)) l.same (sym m.same))
 
-one_left : (s : Status) (x r q : Ratio) → IsNumber x → IsLeft s x r → IsLeft s x q → r ≡ q
+one_left : (s : Status) (x r q : Ratio) → IsNumber x → IsLeftOver s x r → IsLeftOver s x q → r ≡ q
 one_left Basic x r q n e f = e ∙ sym f
 one_left Zero x r q n e f = e ∙ sym f
-one_left Lower x r q n (k, a, l) (h, b, m) = one_less x r q h n (subst (λ k. IsLess x k r) (one_floor x k h a b) l) m
-one_left Upper x r q n (k, a, l) (h, b, m) = one_less x r q h n (subst (λ k. IsLess x k r) (one_ceiling x k h a b) l) m
+one_left Lower x r q n (k, a, l) (h, b, m) = one_less x r q h n (subst (λ k. IsLessBy x k r) (one_floor x k h a b) l) m
+one_left Upper x r q n (k, a, l) (h, b, m) = one_less x r q h n (subst (λ k. IsLessBy x k r) (one_ceiling x k h a b) l) m
 
 -- the multipliers below a column are those of the numbers below it
 collected_same : (y z : ℕ → Ratio) (n : ℕ) → ((c : ℕ) → c < n → y c ≡ z c) → collected y n ≡ collected z n
@@ -68,11 +68,11 @@ module _ (I : Instance) (good : IsInstance I) (ms : List Multiplier) where
       by true e = record { number = number_at cs j; same = c.forms j low }
       by false e = subst (λ n. IsSame (form I ms j) (whole n)) (c.others j low (λ w. let f : IsTrue false = subst IsTrue e w in cc)) (c.forms j low)
 
-  no_or_cut : (cs : List ℤ) (k : ℤ) → IsNoCut I ms → IsCut I ms cs k → ⊥
+  no_or_cut : (cs : List ℤ) (k : ℤ) → IsNoCut I ms → MakesCut I ms cs k → ⊥
   no_or_cut cs k (inl (j, low, are, fits, other)) c = other (cut_form cs k c.cut j low)
   no_or_cut cs k (inr (all, fits, whole)) c = c.rounds whole
 
-  wide_or_cut : (cs : List ℤ) (k : ℤ) → IsWideCut I ms → IsCut I ms cs k → ⊥
+  wide_or_cut : (cs : List ℤ) (k : ℤ) → IsWideCut I ms → MakesCut I ms cs k → ⊥
   wide_or_cut cs k (inl (j, low, are, wide)) c = let f = c.fits in wide (f.forms j low)
   wide_or_cut cs k (inr (all, wide)) c = let f = c.fits in wide f.low
 

@@ -13,7 +13,7 @@ use Rattle.simplex_rules.specs.Ends.{Terms, Clock, End, Shown, Clash, Empty, Bes
 use Rattle.simplex_rules.specs.Runs.{Run, looked_once}
 use Rattle.simplex_rules.proofs.Moments.{run_true}
 use Rattle.search_rules.specs.Branching.{Case, IsWholeBelow, IsEither, AreMetBelow, IsSplit, NoneMoves}
-use Rattle.search_rules.specs.Search.{Found, Level, SearchMoment, Outcome, NextOfSearch, To, Out, early, IsPassed, IsHopeful, IsValue, AreValuesAt, Branches, MayCut, Takes, TakesPoint, MeetsPoint, Improves, GoesFromBest, GoesFrom, IsCaseRun, IsVisit, Closes, IsNext, ComesInSearch, begins, goes_on, Search, IsSearchAnswer, searched, given_up, given_up_after}
+use Rattle.search_rules.specs.Search.{Found, Level, SearchMoment, Outcome, NextOfSearch, To, Out, early, IsPassed, IsHopeful, IsValue, AreValuesAt, Branches, MayCut, Takes, TakesPoint, MeetsPoint, Improves, GoesFromBest, GoesFrom, IsCaseRun, IsVisit, Closes, IsNextInSearch, ComesInSearch, begins, goes_on, Search, IsSearchAnswer, searched, given_up, given_up_after}
 use Rattle.search_rules.specs.OneGoal.{lifted, IsWholeAlone}
 use Rattle.search_rules.specs.WholeSearch as Whole
 use Rattle.search_rules.proofs.Cases.{IsCase}
@@ -319,14 +319,14 @@ module _ (I : Instance) (good : IsInstance I) (t : Terms) (whole : IsWholeAlone 
     closes_back None n e = e
     closes_back (Some f) n e = e
 
-    next_on : (n : Whole.NextOfWhole) → Whole.IsNext I t m n → IsNext P t (lift I m) (lift_next I n)
+    next_on : (n : Whole.NextOfWhole) → Whole.IsNextInWhole I t m n → IsNextInSearch P t (lift I m) (lift_next I n)
     next_on n (inl (none, e)) = inl (waits_on m.ray m.waiting none, closes_on m.best (lift_next I n) (ap (lift_next I) e))
     next_on n (inr (inl (some, limit, e))) = inr (inl (λ w. some (waits_back m.ray m.waiting w), inl (limit, ap (lift_next I) e ∙ ap (λ o. Out o m.clock) (early_lifted m.best _))))
     next_on n (inr (inr (inl (some, within, stop, e)))) =
         inr (inl (λ w. some (waits_back m.ray m.waiting w), inr (within, stop, ap (lift_next I) e ∙ ap (λ o. Out o (looked_once m.clock)) (early_lifted m.best _))))
     next_on n (inr (inr (inr v))) = inr (inr (visit_on n v))
 
-    next_back : (n : NextOfSearch) → IsNext P t (lift I m) n → (k : Whole.NextOfWhole) × (n ≡ lift_next I k) × Whole.IsNext I t m k
+    next_back : (n : NextOfSearch) → IsNextInSearch P t (lift I m) n → (k : Whole.NextOfWhole) × (n ≡ lift_next I k) × Whole.IsNextInWhole I t m k
     next_back n (inl (none, c)) = (Whole.Out (Whole.closed m.best m.nodes) m.clock, closes_back m.best n c, inl (waits_back m.ray m.waiting none, refl))
     next_back n (inr (inl (some, inl (limit, e)))) =
         (Whole.Out (Whole.early m.best (NodeLimit t.nodes)) m.clock, e ∙ ap (λ o. Out o m.clock) (sym (early_lifted m.best _)), inr (inl (λ w. some (waits_on m.ray m.waiting w), limit, refl)))
@@ -347,10 +347,10 @@ module _ (I : Instance) (good : IsInstance I) (t : Terms) (whole : IsWholeAlone 
   comes_back n begins = record { moment = Whole.first I; is = refl; comes = Whole.begins }
   comes_back n (goes_on {m = before} c next) =
       let b = comes_back before c in
-      let (k, q, w) = next_back b.moment (comes_holds I t good b.moment b.comes) (To n) (subst (λ m. IsNext P t m (To n)) b.is next) in
+      let (k, q, w) = next_back b.moment (comes_holds I t good b.moment b.comes) (To n) (subst (λ m. IsNextInSearch P t m (To n)) b.is next) in
       by b.moment b.comes k q w
     where
-      by : (m : Whole.WholeMoment) → Whole.ComesInSearch I t m → (k : Whole.NextOfWhole) → To n ≡ lift_next I k → Whole.IsNext I t m k → IsWholeMoment n
+      by : (m : Whole.WholeMoment) → Whole.ComesInSearch I t m → (k : Whole.NextOfWhole) → To n ≡ lift_next I k → Whole.IsNextInWhole I t m k → IsWholeMoment n
       by m c (Whole.To k) q w = record { moment = k; is = cc; comes = Whole.goes_on c w }
       by m c (Whole.Out o d) q w = absurd (cc)
 
@@ -360,14 +360,14 @@ module _ (I : Instance) (good : IsInstance I) (t : Terms) (whole : IsWholeAlone 
   pub search_back : (p : Outcome) (c : Clock) → Search P t p c → (o : Whole.Outcome) × (p ≡ lifted o) × Whole.Search I t o c
   search_back p c s =
       let b = comes_back s.last s.comes in
-      let (k, q, w) = next_back b.moment (comes_holds I t good b.moment b.comes) (Out p c) (subst (λ m. IsNext P t m (Out p c)) b.is s.ends) in
+      let (k, q, w) = next_back b.moment (comes_holds I t good b.moment b.comes) (Out p c) (subst (λ m. IsNextInSearch P t m (Out p c)) b.is s.ends) in
       by b.moment b.comes k q w
     where
-      by : (m : Whole.WholeMoment) → Whole.ComesInSearch I t m → (k : Whole.NextOfWhole) → Out p c ≡ lift_next I k → Whole.IsNext I t m k → (o : Whole.Outcome) × (p ≡ lifted o) × Whole.Search I t o c
+      by : (m : Whole.WholeMoment) → Whole.ComesInSearch I t m → (k : Whole.NextOfWhole) → Out p c ≡ lift_next I k → Whole.IsNextInWhole I t m k → (o : Whole.Outcome) × (p ≡ lifted o) × Whole.Search I t o c
       by m comes (Whole.To k) q w = absurd (cc)
       by m comes (Whole.Out o d) q w =
           let e : d ≡ c = cc in
-          (o, cc, record { last = m; comes = comes; ends = subst (λ d. Whole.IsNext I t m (Whole.Out o d)) e w })
+          (o, cc, record { last = m; comes = comes; ends = subst (λ d. Whole.IsNextInWhole I t m (Whole.Out o d)) e w })
 
   pub answer_on : (o : Whole.Outcome) (c : Clock) → Whole.IsSearchAnswer I t o c → IsSearchAnswer P t (lifted o) c
   answer_on o c (Whole.searched s) = searched (search_on o c s)

@@ -19,9 +19,9 @@ use Rattle.simplex_rules.specs.Ends.{Terms, Clock, End, Shown, Clash, Empty, Bes
 use Rattle.simplex_rules.specs.Runs.{Run, looked_once}
 use Rattle.simplex_rules.proofs.Moments.{run_true}
 use Rattle.simplex_rules.proofs.OneEnd.{run_once, basis_once}
-use Rattle.search_rules.specs.Branching.{Case, IsMet, AreMetBelow, IsSplit, IsDivided, IsFirstMoving}
+use Rattle.search_rules.specs.Branching.{Case, IsMet, AreMetBelow, IsSplit, IsDividedAt, IsFirstMoving}
 use Rattle.search_rules.specs.Cuts.{Trial, NoCut, WideCut, Cut, TriesBasis}
-use Rattle.search_rules.specs.Search.{Found, Level, SearchMoment, Outcome, NextOfSearch, To, Out, first, branch, divide, next_level_at, reached, IsPassed, IsHopeful, IsValue, AreValuesAt, StopsBefore, Begins, Branches, Takes, TakesPoint, MeetsPoint, GoesFromTrial, Improves, GoesFromBest, GoesAlong, GoesFrom, AsksNext, Closes, IsVisit, IsNext, ComesInSearch, begins, goes_on, Search}
+use Rattle.search_rules.specs.Search.{Found, Level, SearchMoment, Outcome, NextOfSearch, To, Out, first, branch, divide, next_level_at, reached, IsPassed, IsHopeful, IsValue, AreValuesAt, StopsBefore, Begins, Branches, Takes, TakesPoint, MeetsPoint, GoesFromTrial, Improves, GoesFromBest, GoesAlong, GoesFrom, AsksNext, Closes, IsVisit, IsNextInSearch, ComesInSearch, begins, goes_on, Search}
 use Rattle.search_rules.proofs.Rays.{one_ray}
 use Rattle.search_rules.proofs.OneCut.{one_floor, trial_once}
 use Rattle.search_rules.proofs.Moments.{Holds, holds_first, this, best_number, objective-number, next_holds}
@@ -37,11 +37,11 @@ module _ (I : Instance) (x : List Ratio) where
   split_unmet : (j : ℕ) (k : ℤ) → IsSplit I x j k → IsUnmet I x j
   split_unmet j k s = (s.below, λ m. s.other (m.whole (let b = s.branch in b.whole)))
 
-  divided_unmet : (j : ℕ) → IsDivided I x j → IsUnmet I x j
+  divided_unmet : (j : ℕ) → IsDividedAt I x j → IsUnmet I x j
   divided_unmet j s = (s.below, λ m. s.other m.either)
 
-  not_both_ways : (i j : ℕ) (k : ℤ) → IsSplit I x i k → IsDivided I x j → ⊥
-  not_both_ways i j k s d = let e : j ≡ i = one_unmet j i (divided_unmet j d) (split_unmet i k s) in let d : IsDivided I x i = subst (IsDivided I x) e d in d.other s.either
+  not_both_ways : (i j : ℕ) (k : ℤ) → IsSplit I x i k → IsDividedAt I x j → ⊥
+  not_both_ways i j k s d = let e : j ≡ i = one_unmet j i (divided_unmet j d) (split_unmet i k s) in let d : IsDividedAt I x i = subst (IsDividedAt I x) e d in d.other s.either
 
 module _ (C : Case) (rest : List Case) (m : SearchMoment) (x : List Ratio) where
   branches_once : (a b : NextOfSearch) → Branches C rest m x a → Branches C rest m x b → a ≡ b
@@ -194,7 +194,7 @@ module _ (P : Problem) (good : IsProblem P) where
     waits : (m : SearchMoment) (a : NextOfSearch) → IsVisit P t m a → m.waiting ≡ [] → ⊥
     waits m a v e = let q = v.visit.is in cc
 
-    next_once : (m : SearchMoment) (a b : NextOfSearch) → Holds P m → IsNext P t m a → IsNext P t m b → a ≡ b
+    next_once : (m : SearchMoment) (a b : NextOfSearch) → Holds P m → IsNextInSearch P t m a → IsNextInSearch P t m b → a ≡ b
     next_once m a b h (inl (e, p)) (inl (f, q)) = closes_once m a b h m.best m.level.later refl p q
     next_once m a b h (inl (e, p)) (inr (inl (f, q))) = absurd (f e)
     next_once m a b h (inl (e, p)) (inr (inr w)) = absurd (waits m b w e)
@@ -207,19 +207,19 @@ module _ (P : Problem) (good : IsProblem P) where
 
     -- the moments from one on, to the end
     data Halts : SearchMoment → Outcome → Clock → Type 0 where
-      now : {m : SearchMoment} {o : Outcome} {c : Clock} → IsNext P t m (Out o c) → Halts m o c
-      later : {m n : SearchMoment} {o : Outcome} {c : Clock} → IsNext P t m (To n) → Halts n o c → Halts m o c
+      now : {m : SearchMoment} {o : Outcome} {c : Clock} → IsNextInSearch P t m (Out o c) → Halts m o c
+      later : {m n : SearchMoment} {o : Outcome} {c : Clock} → IsNextInSearch P t m (To n) → Halts n o c → Halts m o c
 
     from_first : (m : SearchMoment) (o : Outcome) (c : Clock) → ComesInSearch P t m → Halts m o c → Halts (first P) o c
     from_first m o c begins h = h
     from_first m o c (goes_on {m = before} p next) h = from_first before o c p (later next h)
 
     halts_once : (m : SearchMoment) (o : Outcome) (c : Clock) → Holds P m → Halts m o c → (n : SearchMoment) (p : Outcome) (d : Clock) → n ≡ m → Halts n p d → (o ≡ p) × (c ≡ d)
-    halts_once m o c h (now a) n p d e (now b) = let q = next_once m (Out o c) (Out p d) h a (subst (λ k. IsNext P t k (Out p d)) e b) in (cc, cc)
-    halts_once m o c h (now a) n p d e (later {n = k} b i) = let q = next_once m (Out o c) (To k) h a (subst (λ i. IsNext P t i (To k)) e b) in absurd (cc)
-    halts_once m o c h (later {n = k} a i) n p d e (now b) = let q = next_once m (To k) (Out p d) h a (subst (λ i. IsNext P t i (Out p d)) e b) in absurd (cc)
+    halts_once m o c h (now a) n p d e (now b) = let q = next_once m (Out o c) (Out p d) h a (subst (λ k. IsNextInSearch P t k (Out p d)) e b) in (cc, cc)
+    halts_once m o c h (now a) n p d e (later {n = k} b i) = let q = next_once m (Out o c) (To k) h a (subst (λ i. IsNextInSearch P t i (To k)) e b) in absurd (cc)
+    halts_once m o c h (later {n = k} a i) n p d e (now b) = let q = next_once m (To k) (Out p d) h a (subst (λ i. IsNextInSearch P t i (Out p d)) e b) in absurd (cc)
     halts_once m o c h (later {n = k} a i) n p d e (later {n = l} b j) =
-        let q = next_once m (To k) (To l) h a (subst (λ i. IsNext P t i (To l)) e b) in
+        let q = next_once m (To k) (To l) h a (subst (λ i. IsNextInSearch P t i (To l)) e b) in
         let r : l ≡ k = cc in
         halts_once k o c (next_holds P t m k h a) i l p d r j
 

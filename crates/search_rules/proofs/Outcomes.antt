@@ -13,7 +13,7 @@ use Rattle.simplex_rules.specs.Runs.{looked_once}
 use Rattle.simplex_rules.proofs.Moments.{run_true}
 use Rattle.search_rules.specs.Branching.{Case}
 use Rattle.search_rules.specs.Cuts.{Trial, NoCut, WideCut, Cut}
-use Rattle.search_rules.specs.Search.{Found, SearchMoment, Outcome, Optimal, Infeasible, Out, early, shown_at, reached, StopsBefore, Branches, Takes, TakesPoint, MeetsPoint, GoesFromTrial, GoesFromBest, GoesFrom, Closes, IsNext, Search, IsSearchAnswer, searched, given_up, given_up_after}
+use Rattle.search_rules.specs.Search.{Found, SearchMoment, Outcome, Optimal, Infeasible, Out, early, shown_at, reached, StopsBefore, Branches, Takes, TakesPoint, MeetsPoint, GoesFromTrial, GoesFromBest, GoesFrom, Closes, IsNextInSearch, Search, IsSearchAnswer, searched, given_up, given_up_after}
 use Rattle.search_rules.specs.Outcomes.{CertificateProves, IsShown}
 use Rattle.search_rules.proofs.Cases.{IsOpen, feasible}
 use Rattle.search_rules.proofs.Nodes.{Within}
@@ -134,7 +134,7 @@ outcome_shown P t o d n s = by s.ends
     h : Holds P m
     h = comes_hold P t n m s.comes
 
-    by : IsNext P t m (Out o d) → IsShown P o
+    by : IsNextInSearch P t m (Out o d) → IsShown P o
     by (inl (none, c)) = closes_shown P m h none t o d m.best m.level.later refl refl c
     by (inr (inl (some, b))) = stops_shown P m h t o d b
     by (inr (inr v)) =

@@ -8,7 +8,7 @@ use Rattle.simplex_rules.specs.Runs.{looked_once}
 use Rattle.simplex_rules.specs.declared.columns.Status.{Status}
 use Rattle.search_rules.specs.Branching.{Case}
 use Rattle.search_rules.specs.Cuts.{Trial, NoCut, WideCut, Cut, TriesBasis}
-use Rattle.search_rules.specs.Search.{Found, SearchMoment, To, undivided, next_level_at, Branches, Takes, TakesPoint, GoesFromTrial, GoesFrom, Closes, IsVisit, IsNext, ComesInSearch, begins, goes_on}
+use Rattle.search_rules.specs.Search.{Found, SearchMoment, To, undivided, next_level_at, Branches, Takes, TakesPoint, GoesFromTrial, GoesFrom, Closes, IsVisit, IsNextInSearch, ComesInSearch, begins, goes_on}
 use Rattle.search_rules.specs.Outcomes.{HaveOneRange, IsPlain}
 
 -- the level's own program is still to be searched, or nothing is
@@ -103,7 +103,7 @@ module _ (P : Problem) (t : Terms) (plain : IsPlain P.program) (ranges : HaveOne
           let g = subst (λ r. GoesFrom P t (undivided m.level.program) r (record m { clock = v.clock }) (looked_once m.clock) v.end (To n)) q g in
           goes_plain (record m { clock = v.clock }) h.variables (looked_once m.clock) v.end n g
 
-  pub next_plain : (m n : SearchMoment) → IsPlainMoment P m → IsNext P t m (To n) → IsPlainMoment P n
+  pub next_plain : (m n : SearchMoment) → IsPlainMoment P m → IsNextInSearch P t m (To n) → IsPlainMoment P n
   next_plain m n h (inl (none, c)) = closes_plain m h.variables m.best m.level.later n c
   next_plain m n h (inr (inl (some, inl (limit, e)))) = absurd (cc)
   next_plain m n h (inr (inl (some, inr (within, stop, e)))) = absurd (cc)

@@ -5,8 +5,9 @@ use Rattle.rational.specs.Ratio.{Ratio, whole, IsNumber, IsAtMost}
 use Rattle.evidence.specs.Sums.{none, is_below}
 use Rattle.evidence.specs.Instance.{Range, HasNumbers}
 use Rattle.evidence.specs.Point.{IsBetween, NeverLeaves}
-use Rattle.evidence.specs.Cases.{lesser_end, greater_end, either_low, either_high, both, or_free}
+use Rattle.evidence.specs.Cases.{lesser_end, greater_end, either_low, either_high, both}
 use Rattle.evidence.proofs.Columns.{by_bool, pick}
+use Rattle.evidence.proofs.Branches.{lesser-number, greater-number}
 use Rattle.search_rules.proofs.Nodes.{at_most-trans}
 
 -- what is within r is within s, and r has an end wherever s has one
@@ -33,14 +34,6 @@ is_below-true x y e = grind (arith, ints)
 
 is_below-false : (x y : Ratio) → is_below x y ≡ false → IsAtMost y x
 is_below-false x y e = grind (arith, ints)
-
-lesser-number : (o : Option Ratio) (k : Ratio) → IsNumber k → IfSome o IsNumber → IfSome (lesser_end o k) IsNumber
-lesser-number None k p q = p
-lesser-number (Some u) k p q = pick (λ r. IfSome r IsNumber) (is_below k u) (Some k) (Some u) p q
-
-greater-number : (o : Option Ratio) (k : Ratio) → IsNumber k → IfSome o IsNumber → IfSome (greater_end o k) IsNumber
-greater-number None k p q = p
-greater-number (Some l) k p q = pick (λ r. IfSome r IsNumber) (is_below l k) (Some k) (Some l) p q
 
 lesser-there : (o : Option Ratio) (k : Ratio) → IsSome (lesser_end o k)
 lesser-there None k = refl
@@ -87,17 +80,6 @@ least_inside r k n = record {
 }
 
 -- both of two ranges
-either_low-number : (o p : Option Ratio) → IfSome o IsNumber → IfSome p IsNumber → IfSome (either_low o p) IsNumber
-either_low-number o None h k = h
-either_low-number o (Some l) h k = greater-number o l k h
-
-either_high-number : (o p : Option Ratio) → IfSome o IsNumber → IfSome p IsNumber → IfSome (either_high o p) IsNumber
-either_high-number o None h k = h
-either_high-number o (Some u) h k = lesser-number o u k h
-
-pub both-numbers : (r s : Range) → HasNumbers r → HasNumbers s → HasNumbers (both r s)
-both-numbers r s h k = (either_low-number r.lb s.lb h.0 k.0, either_high-number r.ub s.ub h.1 k.1)
-
 either_low-both : (o p : Option Ratio) (v : Ratio) → IfSome o IsNumber → IfSome p IsNumber → IfSome (either_low o p) (λ l. IsAtMost l v) → IfSome o (λ l. IsAtMost l v) × IfSome p (λ l. IsAtMost l v)
 either_low-both o None v m n h = (h, tt)
 either_low-both o (Some l) v m n h = greater-both o l v n m h
@@ -140,7 +122,3 @@ only_none = record { lb = Some none; ub = Some none }
 
 pub only_none-numbers : HasNumbers only_none
 only_none-numbers = (lit< tt, lit< tt)
-
-pub or_free-numbers : (o : Option Range) → IfSome o HasNumbers → HasNumbers (or_free o)
-or_free-numbers None h = (tt, tt)
-or_free-numbers (Some r) h = h

@@ -11,7 +11,7 @@ use Rattle.evidence.specs.Cases.{Multiplier, Node, ClashAt, FarkasBy, BoundBy, S
 use Rattle.simplex_rules.specs.Ends.{Terms, Clock, End, Clash, Empty, Best, Endless, TurnsOut, TooWide, Stopped, Shown}
 use Rattle.simplex_rules.specs.Runs.{looked_once}
 use Rattle.simplex_rules.proofs.Moments.{run_true}
-use Rattle.search_rules.specs.WholeSearch.{Found, WholeMoment, To, first, closed_by_leaf, branch, IsSplit, MeetsPoint, GoesFrom, IsNext, ComesInSearch, begins, goes_on}
+use Rattle.search_rules.specs.WholeSearch.{Found, WholeMoment, To, first, closed_by_leaf, branch, IsSplit, MeetsPoint, GoesFrom, IsNextInWhole, ComesInSearch, begins, goes_on}
 use Rattle.search_rules.proofs.Nodes.{no_nodes}
 use Rattle.search_rules.proofs.RelaxedPoints.{IsLow, HasNoLow, low_of_bound, no_low}
 use Rattle.search_rules.proofs.Cases.{IsCase, itself, IsOpen, open_most, open_least, objective_of}
@@ -159,7 +159,7 @@ module _ (I J : Instance) (rest : List Instance) (m : WholeMoment) (is : m.waiti
   goes_holds t Stopped n s g = absurd (cc)
 
 module _ (I : Instance) (t : Terms) where
-  next_holds : (m n : WholeMoment) → Holds I m → IsNext I t m (To n) → Holds I n
+  next_holds : (m n : WholeMoment) → Holds I m → IsNextInWhole I t m (To n) → Holds I n
   next_holds m n h (inl (e, f)) = absurd (cc)
   next_holds m n h (inr (inl (e, f, g))) = absurd (cc)
   next_holds m n h (inr (inr (inl (e, f, s, g)))) = absurd (cc)

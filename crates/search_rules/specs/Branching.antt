@@ -39,7 +39,7 @@ pub record IsSplit (I : Instance) (x : List Ratio) (j : ℕ) (k : ℤ) : Type 0 
   pub floor : IsFloor (value_at x j) k
 
 -- j is the least such variable, and its value is neither 0 nor within its further ends
-pub record IsDivided (I : Instance) (x : List Ratio) (j : ℕ) : Type 0 where
+pub record IsDividedAt (I : Instance) (x : List Ratio) (j : ℕ) : Type 0 where
   pub branch : IsZeroBranch I j
   pub below : AreMetBelow I x j
   pub other : IsEither (variable_at I j) (value_at x j) → ⊥

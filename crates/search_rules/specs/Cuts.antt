@@ -24,16 +24,16 @@ pub record IsFractional (I : Instance) (x : List Ratio) (j : ℕ) : Type 0 where
   pub other : IsWhole (value_at x j) → ⊥
 
 -- r is x less the whole number k, in lowest terms
-pub record IsLess (x : Ratio) (k : ℤ) (r : Ratio) : Type 0 where
+pub record IsLessBy (x : Ratio) (k : ℤ) (r : Ratio) : Type 0 where
   pub reduced : IsReduced r
   pub same : IsSame r (sum x (negative (whole k)))
 
 -- what is left of an entry: at the lower end of its column, less its floor; at the upper one, less its ceiling; at 0, all of it
-abbrev pub IsLeft : Status → Ratio → Ratio → Type 0
-IsLeft Basic x r = r ≡ none
-IsLeft Lower x r = (k : ℤ) × IsFloor x k × IsLess x k r
-IsLeft Upper x r = (k : ℤ) × IsCeiling x k × IsLess x k r
-IsLeft Zero x r = r ≡ x
+abbrev pub IsLeftOver : Status → Ratio → Ratio → Type 0
+IsLeftOver Basic x r = r ≡ none
+IsLeftOver Lower x r = (k : ℤ) × IsFloor x k × IsLessBy x k r
+IsLeftOver Upper x r = (k : ℤ) × IsCeiling x k × IsLessBy x k r
+IsLeftOver Zero x r = r ≡ x
 
 -- that difference fits
 abbrev pub LeftFits : Status → Ratio → Type 0
@@ -67,7 +67,7 @@ IsNoCut I ms =
     ⊎ (AreCutForms I ms (width I) × LowFits I none ms × IsWhole (low_sum I none ms))
 
 -- they make this cut, with whole coefficients and a whole lower end, and it rounds
-pub record IsCut (I : Instance) (ms : List Multiplier) (cs : List ℤ) (k : ℤ) : Type 0 where
+pub record MakesCut (I : Instance) (ms : List Multiplier) (cs : List ℤ) (k : ℤ) : Type 0 where
   pub cut : IsRoundingCut I ms cs k
   pub fits : LeafFits I none ms
   pub rounds : IsWhole (low_sum I none ms) → ⊥
@@ -85,7 +85,7 @@ module _ (I : Instance) (ss : List Status) (u : Entries) (j : ℕ) where
   -- the multipliers are what is left of the entries, where it isn't 0, in ascending order of the columns
   pub record AreCutMultipliers (ms : List Multiplier) : Type 0 where
     pub left : ℕ → Ratio
-    pub are : (c : ℕ) → c < goal_column I → IsLeft (status_at ss c) (u j c) (left c)
+    pub are : (c : ℕ) → c < goal_column I → IsLeftOver (status_at ss c) (u j c) (left c)
     pub is : ms ≡ collected left (goal_column I)
 
 -- what comes of trying a cut: none, a number that doesn't fit, or the cut by these multipliers, with its coefficients and its lower end
@@ -97,7 +97,7 @@ pub data Trial : Type 0 where
 -- of its multipliers
 abbrev pub TriesMultipliers : Instance → List Multiplier → Trial → Type 0
 TriesMultipliers I ms trial =
-    (IsNoCut I ms × (trial ≡ NoCut)) ⊎ (IsWideCut I ms × (trial ≡ WideCut)) ⊎ ((cs : List ℤ) × (k : ℤ) × IsCut I ms cs k × (trial ≡ Cut ms cs k))
+    (IsNoCut I ms × (trial ≡ NoCut)) ⊎ (IsWideCut I ms × (trial ≡ WideCut)) ⊎ ((cs : List ℤ) × (k : ℤ) × MakesCut I ms cs k × (trial ≡ Cut ms cs k))
 
 -- of the equation of variable j: the differences come first; then there is no cut where an entry is left at a column that stands at 0
 abbrev pub TriesEquation : Instance → List Status → Entries → ℕ → Trial → Type 0

@@ -26,10 +26,10 @@ abbrev pub CertificateProves : Instance → Certificate → Option Ratio → Typ
 CertificateProves I c z = ProvesAfter I c.rounds c.nodes z
 
 -- a certificate for each level, by which no point that has the values before has a better one of that level's goal; the ends between them fit
-abbrev pub AreProved : Instance → List Goal → List Ratio → List Certificate → Type 0
-AreProved I [] (v ∷ []) (c ∷ []) = CertificateProves I c (Some (minimising I v))
-AreProved I (g ∷ gs) (v ∷ vs) (c ∷ cs) = CertificateProves I c (Some (minimising I v)) × (e : Ratio) × IsReachedEnd I v e × AreProved (next_level I e g) gs vs cs
-AreProved I gs vs cs = ⊥
+abbrev pub AreLevelsProved : Instance → List Goal → List Ratio → List Certificate → Type 0
+AreLevelsProved I [] (v ∷ []) (c ∷ []) = CertificateProves I c (Some (minimising I v))
+AreLevelsProved I (g ∷ gs) (v ∷ vs) (c ∷ cs) = CertificateProves I c (Some (minimising I v)) × (e : Ratio) × IsReachedEnd I v e × AreLevelsProved (next_level I e g) gs vs cs
+AreLevelsProved I gs vs cs = ⊥
 
 -- the same for the first levels, and a ray from x at the level after them
 abbrev pub ProvesEndless : Instance → List Goal → List Ratio → List Certificate → List Ratio → List Ratio → Type 0
@@ -44,7 +44,7 @@ pub record IsPoint (P : Problem) (x vs : List Ratio) : Type 0 where
   pub fits : PointFits P x
 
 abbrev pub IsShown : Problem → Outcome → Type 0
-IsShown P (Optimal x vs cs) = IsPoint P x vs × RoundsAreOfOneGoal P cs × AreProved P.program P.later vs cs
+IsShown P (Optimal x vs cs) = IsPoint P x vs × RoundsAreOfOneGoal P cs × AreLevelsProved P.program P.later vs cs
 IsShown P (Infeasible c) = RoundsAreOfOneGoal P (c ∷ []) × CertificateProves P.program c None
 IsShown P (Unbounded x vs cs r) = IsPoint P x vs × RoundsAreOfOneGoal P cs × ProvesEndless P.program P.later vs cs x r
 IsShown P (BestSoFar x vs c) = IsPoint P x vs

@@ -17,7 +17,7 @@ use Rattle.certificate.specs.declared.causes.Cause.TheVariants.{Killed, NodeLimi
 use Rattle.simplex_rules.specs.declared.columns.Status.{Status}
 use Rattle.simplex_rules.specs.Ends.{Terms, Clock, End, Clash, Empty, Best, Endless, TurnsOut, TooWide, Stopped}
 use Rattle.simplex_rules.specs.Runs.{Run, EndsAtBasis, looked_once}
-use Rattle.search_rules.specs.Branching.{Case, AreMetBelow, IsSplit, IsDivided, IsFirstMoving, NoneMoves, split_cases, divided_cases}
+use Rattle.search_rules.specs.Branching.{Case, AreMetBelow, IsSplit, IsDividedAt, IsFirstMoving, NoneMoves, split_cases, divided_cases}
 use Rattle.search_rules.specs.Cuts.{Trial, NoCut, WideCut, Cut, TriesBasis}
 use Rattle.search_rules.specs.Rays.{IsScaled}
 
@@ -140,7 +140,7 @@ IsStop t m = t.stop ≡ Some (m.clock.looks + 1)
 -- at the least variable whose value at the point isn't as it must be, two cases come in place of case C
 abbrev pub Branches : Case → List Case → SearchMoment → List Ratio → NextOfSearch → Type 0
 Branches C rest m x next =
-    ((j : ℕ) × (k : ℤ) × IsSplit C.program x j k × (next ≡ To (branch m C rest j k))) ⊎ ((j : ℕ) × IsDivided C.program x j × (next ≡ To (divide m C rest j)))
+    ((j : ℕ) × (k : ℤ) × IsSplit C.program x j k × (next ≡ To (branch m C rest j k))) ⊎ ((j : ℕ) × IsDividedAt C.program x j × (next ≡ To (divide m C rest j)))
 
 -- P is searched, within these terms
 module _ (P : Problem) (t : Terms) where
@@ -245,8 +245,8 @@ module _ (P : Problem) (t : Terms) where
   Closes m (Some f) (g ∷ gs) next = AsksNext m f g gs next
 
   -- what comes after a moment, in this order: the level is closed where no case is left; the limit of nodes, or a look, ends the search; or the next case brings it
-  abbrev pub IsNext : SearchMoment → NextOfSearch → Type 0
-  IsNext m next =
+  abbrev pub IsNextInSearch : SearchMoment → NextOfSearch → Type 0
+  IsNextInSearch m next =
       ((m.waiting ≡ []) × Closes m m.best m.level.later next)
       ⊎ ((m.waiting ≡ [] → ⊥) × StopsBefore m next)
       ⊎ IsVisit m next
@@ -254,13 +254,13 @@ module _ (P : Problem) (t : Terms) where
   -- the moments of the search
   pub data ComesInSearch : SearchMoment → Type 0 where
     begins : ComesInSearch (first P)
-    goes_on : {m n : SearchMoment} → ComesInSearch m → IsNext m (To n) → ComesInSearch n
+    goes_on : {m n : SearchMoment} → ComesInSearch m → IsNextInSearch m (To n) → ComesInSearch n
 
   -- the search ends so, with this clock
   pub record Search (o : Outcome) (c : Clock) : Type 0 where
     pub last : SearchMoment
     pub comes : ComesInSearch last
-    pub ends : IsNext last (Out o c)
+    pub ends : IsNextInSearch last (Out o c)
 
   -- what may be answered of the search once the clock is this: its outcome; or want of memory at a moment, or where the run after it has ended, with the moment's best point
   pub data IsSearchAnswer : Outcome → Clock → Type 0 where

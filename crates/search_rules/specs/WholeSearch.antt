@@ -135,8 +135,8 @@ module _ (I : Instance) (t : Terms) where
     pub goes : GoesFrom t I visit.case visit.rest (record m { clock = clock }) end next
 
   -- what comes after a moment, in this order: the end where no case is left, that at the limit of nodes, that by a look, or what the next case brings
-  abbrev pub IsNext : WholeMoment → NextOfWhole → Type 0
-  IsNext m next =
+  abbrev pub IsNextInWhole : WholeMoment → NextOfWhole → Type 0
+  IsNextInWhole m next =
       ((m.waiting ≡ []) × (next ≡ Out (closed m.best m.nodes) m.clock))
       ⊎ ((m.waiting ≡ [] → ⊥) × (t.nodes ≤ length m.nodes) × (next ≡ Out (early m.best (NodeLimit t.nodes)) m.clock))
       ⊎ ((m.waiting ≡ [] → ⊥) × (length m.nodes < t.nodes) × IsStop t m × (next ≡ Out (early m.best Killed) (looked_once m.clock)))
@@ -145,13 +145,13 @@ module _ (I : Instance) (t : Terms) where
   -- the moments of the search
   pub data ComesInSearch : WholeMoment → Type 0 where
     begins : ComesInSearch (first I)
-    goes_on : {m n : WholeMoment} → ComesInSearch m → IsNext m (To n) → ComesInSearch n
+    goes_on : {m n : WholeMoment} → ComesInSearch m → IsNextInWhole m (To n) → ComesInSearch n
 
   -- the search ends so, with this clock
   pub record Search (o : Outcome) (c : Clock) : Type 0 where
     pub last : WholeMoment
     pub comes : ComesInSearch last
-    pub ends : IsNext last (Out o c)
+    pub ends : IsNextInWhole last (Out o c)
 
   -- what may be answered of the search once the clock is this: its outcome; or want of memory at a moment, or where the run after it has ended, with the moment's best point
   pub data IsSearchAnswer : Outcome → Clock → Type 0 where

@@ -1,3 +1,4 @@
+//! Laws of searches.
 ghost use Rattle.std.specs.Prelude.{◌≡◌, ◌⊎◌, [], ◌∷◌, List};
 ghost use Rattle.rational.specs.Ratio.{Ratio};
 ghost use Rattle.evidence.specs.Instance.{Instance, IsInstance, Problem, IsProblem, alone};
