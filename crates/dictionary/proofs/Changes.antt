@@ -17,7 +17,8 @@ use Rattle.evidence.proofs.Fits.{reduced_same, sums_same}
 use Rattle.common_rows.specs.Row.{over}
 use Rattle.common_rows.proofs.Fitting.{term_fits}
 use Rattle.common_rows.proofs.Accumulators.{begun_fits, factored_fits}
-use Rattle.marks.specs.Marks.{is_marked}
+use Rattle.marks.specs.declared.marks.Marks.{Marks}
+use Rattle.marks.specs.Marks.{is_marked, size_of}
 use Rattle.marks.specs.Words.{IsFirst}
 use Rattle.dictionary.specs.Lowest.{lowest}
 use Rattle.dictionary.proofs.Lowest.{lowest-reduced, lowest-same, lowest-≈, replaced}
@@ -36,6 +37,31 @@ either_false false b e = (refl, e)
 pub either_true : (a b : Bool) → (a || b) ≡ true → (a ≡ true) ⊎ (b ≡ true)
 either_true true b e = inl refl
 either_true false b e = inr e
+
+twice : (b : Bool) → (b || b) ≡ b
+twice true = refl
+twice false = refl
+
+-- the columns that change are those that one of two sets has, of which one is chosen
+module _ (m by own : Marks) (adds : Bool) (is : own ≡ cond adds by m) where
+  pub changes_chosen : (c : ℕ) → (is_marked own c || is_marked by c) ≡ changes m by adds c
+  changes_chosen c = ap (λ (s : Marks). is_marked s c || is_marked by c) is ∙ which adds
+    where
+      which : (b : Bool) → (is_marked (cond b by m) c || is_marked by c) ≡ changes m by b c
+      which true = twice (is_marked by c)
+      which false = refl
+
+  pub size_chosen : size_of by ≡ size_of m → size_of by ≡ size_of own
+  size_chosen e = which adds ∙ sym (ap size_of is)
+    where
+      which : (b : Bool) → size_of by ≡ size_of (cond b by m)
+      which true = refl
+      which false = e
+
+-- a column that changes does so however others are marked
+pub changes_same : (m n by : Marks) (adds : Bool) (c : ℕ) → is_marked n c ≡ is_marked m c → changes m by adds c ≡ changes n by adds c
+changes_same m n by true c e = refl
+changes_same m n by false c e = ap (λ (b : Bool). b || is_marked by c) (sym e)
 
 entry_count : {L : _} {G : _} (row : Row L G) (k n c : ℕ) → IsRow k n row → unless_zero (numbers_of row c).num 1 ≡ cond (entries_at row c) 1 0
 entry_count row k n c is = by (entries_at row c) refl
@@ -148,7 +174,7 @@ pub changing_all : {L : _} {G : _} (old by row : Row L G) (s k : ℤ) (from : �
 changing_all old by row s k from m n was is_by i added one none c = by_lt c from (λ h. i.done c h) (λ h. stays old by row s k from m n was is_by i added one c h (none c h))
 
 -- small numbers have small sums
-pub small_parts : (x y a b u v : ℕ) → x ≤ a → y ≤ b → a * u + b * v < 2 ^ 40 → x * u + y * v < 2 ^ 40
+pub small_parts : (x y a b u v : ℕ) → x ≤ a → y ≤ b → a * u + b * v < 2 ^ 60 → x * u + y * v < 2 ^ 60
 small_parts x y a b u v hx hy h =
     let l = mul_le x a u hx in
     let r = mul_le y b v hy in

@@ -9,7 +9,7 @@ use Rattle.rational.specs.Width.{IsReduced}
 use Rattle.rational.specs.Whole.{signed}
 use Rattle.rational.proofs.CommonDivisors.{IsGcd_from_coprime, coprime_quotients}
 use Rattle.rational.proofs.Integers.{neg-times}
-use Rattle.rational.proofs.ReducedForms.{quotient_above, same_reduced}
+use Rattle.rational.proofs.ReducedForms.{parts_cross, quotient_above, same_reduced}
 use Rattle.rational.proofs.Scaling.{IsSame-trans}
 use Rattle.rational.proofs.Signs.{same_form, unsigned_abs-signed}
 use Rattle.evidence.proofs.Numbers.{◌≈◌, ◌⊙◌, ≈-sym, sum-≈, product-≈, sum-number, product-number}
@@ -28,11 +28,6 @@ steps_enough (suc k) a (suc b) h =
 pub is_divisor : (a b : ℕ) → IsGcd a b (divisor_of a b)
 unfolding divisor_of
 is_divisor a b = steps_enough (suc b) a b (omega arith)
-
-parts_cross : (m b g : ℕ) → g ∣ m → g ∣ b → m / g * b ≡ m * (b / g)
-parts_cross m b g gm gb =
-    let e : m / g * (b / g * g) ≡ m / g * g * (b / g) = omega arith in
-    ap (λ x. m / g * x) (sym (div-mul_cancel g gb)) ∙ e ∙ ap (λ x. x * (b / g)) (div-mul_cancel g gm)
 
 -- a number of this sign and size over d, both divided by g
 module _ (s : Bool) (m d : ℕ) (up : 0 < d) (g : ℕ) (is : IsGcd m d g) where

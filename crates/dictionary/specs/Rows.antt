@@ -1,5 +1,5 @@
 -- Rows in either form, by the numbers at their columns.
-use Rattle.std.specs.Prelude.{◌≡◌, ℕ, ◌+◌, ◌*◌, ◌^◌, ◌<◌, ◌≤◌, ◌⊎◌, ◌||◌, ℤ, pos, ◌+ℤ◌, ◌*ℤ◌, neg_ℤ, Bool, true, false, Option, None, Some, MatchOption, List, [], length, slice_index_or, unsigned_abs, get_or, map}
+use Rattle.std.specs.Prelude.{◌≡◌, ℕ, ◌+◌, ◌*◌, ◌^◌, ◌<◌, ◌≤◌, ◌⊎◌, ◌||◌, ℤ, pos, ◌+ℤ◌, ◌*ℤ◌, neg_ℤ, Bool, true, false, Option, None, Some, List, [], length, slice_index_or, unsigned_abs, get_or, map}
 use Rattle.std.specs.Coded.{Coded-set, coded_ℕ, coded_ℤ, coded_bool, le_prop}
 use Rattle.rational.specs.Ratio.{Ratio, whole, sum, product, negative, quotient, IsSame, IsNumber}
 use Rattle.rational.specs.Width.{IsReduced, ReducedFits}
@@ -9,7 +9,6 @@ use Rattle.evidence.specs.Width.{TermFits}
 use Rattle.bases.specs.Dictionary.{Entries}
 use Rattle.marks.specs.declared.marks.Marks.{Marks}
 use Rattle.marks.specs.Marks.{is_marked, size_of}
-use Rattle.marks.specs.Words.{IsFirst, HasNone}
 use Rattle.dictionary.specs.declared.fractions.Item.{Item}
 use Rattle.dictionary.specs.declared.row.Row.{Row}
 use Rattle.dictionary.specs.Row.{entries_of, number_in, room_of, IsSparseRow, IsFrom-prop}
@@ -41,10 +40,6 @@ either_at row by c = is_marked row.marks c || is_marked by.marks c
 abbrev pub changes : Marks → Marks → Bool → ℕ → Bool
 changes m by true c = is_marked by c
 changes m by false c = is_marked m c || is_marked by c
-
--- the first column from a place on that changes, where numbers are only added to if their scale is 1
-abbrev pub IsNextChanged : Marks → Marks → ℤ → ℕ → Option ℕ → Type 0
-IsNextChanged m by s from o = (added : Bool) × (added ≡ true → s ≡ pos 1) × MatchOption o (HasNone (changes m by added) from) (IsFirst (changes m by added) from)
 
 -- a list has the sums of both rows' numerators, each times its part, wherever one of them has an entry
 abbrev pub AreSums : {L : _} {G : _} → Row L G → Row L G → ℤ → ℤ → List ℤ → Type 0

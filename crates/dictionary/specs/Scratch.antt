@@ -1,5 +1,6 @@
 -- Values at columns that are marked.
 use Rattle.std.specs.Prelude.{◌≡◌, ℕ, ◌+◌, ◌<◌, true, cond, length}
+use Rattle.std.specs.Int.{◌∣◌}
 use Rattle.rational.specs.Ratio.{Ratio}
 use Rattle.fraction.specs.Frac.{ratios}
 use Rattle.evidence.specs.Sums.{none}
@@ -16,3 +17,7 @@ found_at s c = cond (is_marked s.found c) (value_at (ratios s.values.items) c) n
 pub record AreFound (s : Scratch) : Type 0 where
   pub inside : (c : ℕ) → is_marked s.found c ≡ true → c + 1 < length s.values.items
   pub nonzero : (c : ℕ) → is_marked s.found c ≡ true → HasNumber (value_at (ratios s.values.items)) c
+
+-- the denominator of each value at a marked column divides a number
+abbrev pub AreDivided : Scratch → ℕ → Type 0
+AreDivided s m = (c : ℕ) → is_marked s.found c ≡ true → (value_at (ratios s.values.items) c).den ∣ m

@@ -1,14 +1,16 @@
 //! Rows of numbers over one denominator, which another one comes into.
-ghost use Rattle.std.specs.Prelude.{◌≡◌, ◌≢◌, ℕ, ◌+◌, ◌*◌, ◌^◌, ◌<◌, ◌≤◌, pos, ◌+ℤ◌, ◌*ℤ◌, ◌<ℤ◌, true, false, length, slice_index_or, unsigned_abs, IfSome};
+ghost use Rattle.std.specs.Prelude.{◌≡◌, ◌≢◌, ℕ, ◌+◌, ◌*◌, ◌^◌, ◌<◌, ◌≤◌, pos, ◌+ℤ◌, ◌*ℤ◌, ◌<ℤ◌, true, false, cond, length, slice_index_or, unsigned_abs, IfSome, MatchOption};
 ghost use Rattle.rational.specs.Ratio.{IsSame};
 ghost use Rattle.rational.specs.Width.{most};
 ghost use Rattle.evidence.specs.Sums.{none};
+ghost use Rattle.marks.specs.Words.{IsFirst, HasNone};
+ghost use Rattle.marks.specs.Walks.{Keeps};
 ghost use Rattle.marks.specs.Marks.{size_of};
 ghost use Rattle.common_rows.specs.Row.{over};
 ghost use Rattle.dictionary.specs.Lowest.{lowest};
 ghost use Rattle.dictionary.specs.Numbers.{ArePartsOf, HasNumber};
 ghost use Rattle.dictionary.specs.Scratch.{found_at, AreFound};
-ghost use Rattle.dictionary.specs.Rows.{numbers_of, numer_at, either_at, changes, IsNextChanged, AreSums, AreSumsLeft, IsRow, IsReplacedBy, ReplacementFits, NonzerosFit, HasRoomFor};
+ghost use Rattle.dictionary.specs.Rows.{numbers_of, numer_at, either_at, changes, AreSums, AreSumsLeft, IsRow, IsReplacedBy, ReplacementFits, NonzerosFit, HasRoomFor};
 ghost use Rattle.dictionary.specs.Steps.{nonzeros};
 
 use crate::row::{Row, reduced};
@@ -17,7 +19,7 @@ use crate::settling::settle;
 use crate::steps::Steps;
 use common_rows::Divisor;
 use fraction::Frac;
-use marks::Marks;
+use marks::{Marks, Walk};
 use std::sync::ledger::Ledger;
 
 /// How a row changes: its numbers times `scale`, and the other one's times `factor`, over its denominator times `scale`.
@@ -46,7 +48,7 @@ fn parts_of(numer: i64, by: i64) -> Parts
 /// A sum of both rows' numbers, which stays small.
 #[inline(always)]
 fn small_sum(x: i64, y: i64, parts: Parts) -> i64
-    requires { unsigned_abs x * unsigned_abs parts.scale + unsigned_abs y * unsigned_abs parts.factor < 2 ^ 40 }
+    requires { unsigned_abs x * unsigned_abs parts.scale + unsigned_abs y * unsigned_abs parts.factor < 2 ^ 60 }
     ensures value { result ≡ x *ℤ parts.scale +ℤ y *ℤ parts.factor }
     ensures small { unsigned_abs result < 2 ^ 63 }
 {
@@ -64,25 +66,38 @@ fn wide_sum(x: i64, y: i64, parts: Parts) -> i128
     x as i128 * parts.scale as i128 + y as i128 * parts.factor as i128
 }
 
-/// The first column from this one on that changes: where the other row has an entry, or, unless all numbers are only added to,
-/// this one.
-#[inline(always)]
-fn next_changed(marks: &Marks, by: &Marks, parts: Parts, from: u32) -> Option<u32>
-    requires { size_of by.now ≡ size_of marks.now }
-    ensures { IsNextChanged marks.now by.now parts.scale from result }
+/// Whether all numbers are only added to.
+fn only_adds(parts: Parts) -> bool
+    ensures { result ≡ true → parts.scale ≡ pos 1 }
 {
-    if parts.scale == 1 {
-        by.next(from)
-    } else {
-        marks.next_of_either(by, from)
-    }
+    parts.scale == 1
+}
+
+/// The first column from this one on that changes: where the other row has an entry, or, unless numbers are only added to, this
+/// one.
+#[inline(always)]
+fn next_changed(marks: &Marks, by: &Marks, adds: bool, walk: &mut Walk, from: u32) -> Option<u32>
+    requires size { size_of by.now ≡ size_of marks.now }
+    requires kept { Keeps (changes marks.now by.now adds) from walk.old }
+    ensures first { MatchOption result (HasNone (changes marks.now by.now adds) from) (IsFirst (changes marks.now by.now adds) from) }
+    ensures kept { IfSome result (λ c. Keeps (changes marks.now by.now adds) (c + 1) walk.new) }
+{
+    chosen(adds, by, marks).next_of_either(by, walk, from)
+}
+
+/// The one set, or the other.
+#[inline(always)]
+fn chosen<'a>(first: bool, one: &'a Marks, other: &'a Marks) -> &'a Marks
+    ensures { result.now ≡ cond first one.now other.now }
+{
+    if first { one } else { other }
 }
 
 /// Changes all numbers, where none becomes great.
 fn change_numbers<L: Ledger>(row: &mut Row<L>, by: &Row<L>, parts: Parts, steps: &mut Steps<L>)
     requires row { (k n : ℕ) × IsRow k n row.old × IsRow k n by.now }
     requires common { (row.old.is_common ≡ true) × (by.now.is_common ≡ true) }
-    requires small { row.old.size * unsigned_abs parts.scale + by.now.size * unsigned_abs parts.factor < 2 ^ 40 }
+    requires small { row.old.size * unsigned_abs parts.scale + by.now.size * unsigned_abs parts.factor < 2 ^ 60 }
     ensures row { (k n : ℕ) → IsRow k n row.old → IsRow k n row.new }
     ensures common { row.new.is_common ≡ true }
     ensures denom { row.new.denom ≡ row.old.denom }
@@ -90,8 +105,10 @@ fn change_numbers<L: Ledger>(row: &mut Row<L>, by: &Row<L>, parts: Parts, steps:
     ensures cost { (k n : ℕ) → IsRow k n row.old → IsRow k n by.now → steps.new ≤ steps.old + 2 * (nonzeros k (numbers_of row.old) + nonzeros k (numbers_of by.now)) }
     ensures counted { steps.old ≤ steps.new }
 {
+    let adds = only_adds(parts);
+    let mut walk = Walk::new();
     let mut from = 0;
-    while let Some(c) = next_changed(&row.marks, &by.marks, parts, from) {
+    while let Some(c) = next_changed(&row.marks, &by.marks, adds, &mut walk, from) {
         let x = row.read(c, steps);
         let y = by.read(c, steps);
         row.write(c, small_sum(x, y, parts), steps);
@@ -103,8 +120,8 @@ fn change_numbers<L: Ledger>(row: &mut Row<L>, by: &Row<L>, parts: Parts, steps:
 fn change_small<L: Ledger>(row: &mut Row<L>, by: &Row<L>, parts: Parts, steps: &mut Steps<L>)
     requires row { (k n : ℕ) × IsRow k n row.old × IsRow k n by.now }
     requires common { (row.old.is_common ≡ true) × (by.now.is_common ≡ true) }
-    requires small { row.old.size * unsigned_abs parts.scale + by.now.size * unsigned_abs parts.factor < 2 ^ 40 }
-    requires denom { unsigned_abs row.old.denom * unsigned_abs parts.scale < 2 ^ 40 }
+    requires small { row.old.size * unsigned_abs parts.scale + by.now.size * unsigned_abs parts.factor < 2 ^ 60 }
+    requires denom { unsigned_abs row.old.denom * unsigned_abs parts.scale < 2 ^ 60 }
     ensures row { (k n : ℕ) → IsRow k n row.old → IsRow k n row.new }
     ensures is { (c : ℕ) → IsSame (numbers_of row.new c) (over (numer_at row.old c *ℤ parts.scale +ℤ numer_at by.now c *ℤ parts.factor) (unsigned_abs row.old.denom * unsigned_abs parts.scale)) }
     ensures cost { (k n : ℕ) → IsRow k n row.old → IsRow k n by.now → steps.new ≤ steps.old + 2 * (nonzeros k (numbers_of row.old) + nonzeros k (numbers_of by.now)) }
@@ -178,8 +195,9 @@ fn write_sums<L: Ledger>(
     ensures counted { steps.old ≤ steps.new }
 {
     let mut all = Content::of(row.denom.unsigned_abs());
+    let mut walk = Walk::new();
     let mut from = 0;
-    while let Some(c) = row.marks.next_of_either(&by.marks, from) {
+    while let Some(c) = row.marks.next_of_either(&by.marks, &mut walk, from) {
         let x = row.read(c, steps);
         let y = by.read(c, steps);
         let sum = wide_sum(x, y, parts);
@@ -223,8 +241,9 @@ fn write_quotients<L: Ledger>(
     ensures counted { steps.old ≤ steps.new }
 {
     let _parts = parts;
+    let mut walk = Walk::new();
     let mut from = 0;
-    while let Some(c) = row.marks.next_of_either(&by.marks, from) {
+    while let Some(c) = row.marks.next_of_either(&by.marks, &mut walk, from) {
         match narrow_quotient(divisor, sums[c as usize]) {
             Some(z) => row.write(c, z, steps),
             None => return false,
@@ -276,8 +295,9 @@ fn reduce_sums(marks: &Marks, by: &Marks, denom: i128, scratch: &mut Scratch)
     ensures none { (c : ℕ) → changes marks.now by.now false c ≡ false → found_at scratch.new c ≡ none }
 {
     scratch.clear();
+    let mut walk = Walk::new();
     let mut from = 0;
-    while let Some(c) = marks.next_of_either(by, from) {
+    while let Some(c) = marks.next_of_either(by, &mut walk, from) {
         let value = reduced(scratch.sums[c as usize], denom);
         scratch.put(c, value);
         from = c + 1;
@@ -287,14 +307,14 @@ fn reduce_sums(marks: &Marks, by: &Marks, denom: i128, scratch: &mut Scratch)
 /// Whether all numbers of a changed row stay small, and its denominator: then no common divisor is looked for.
 fn is_small(row: u64, by: u64, parts: Parts, denom: i128) -> bool
     requires { pos 0 <ℤ denom }
-    ensures { result ≡ true → (row * unsigned_abs parts.scale + by * unsigned_abs parts.factor < 2 ^ 40) × (unsigned_abs denom < 2 ^ 40) }
+    ensures { result ≡ true → (row * unsigned_abs parts.scale + by * unsigned_abs parts.factor < 2 ^ 60) × (unsigned_abs denom < 2 ^ 60) }
 {
     let left = row as u128 * parts.scale.unsigned_abs() as u128;
     let right = by as u128 * parts.factor.unsigned_abs() as u128;
-    if left + right >= 1 << 40 {
+    if left + right >= 1 << 60 {
         return false;
     }
-    denom < 1 << 40
+    denom < 1 << 60
 }
 
 /// Changes a row by sums that are divided by what they have in common.

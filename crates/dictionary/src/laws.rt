@@ -1,3 +1,4 @@
+//! Laws of dictionaries in memory.
 ghost use Rattle.std.specs.Prelude.{◌≡◌, ℕ, ◌+◌, ◌-◌, ◌<◌, Bool, true, false};
 ghost use Rattle.bases.specs.Dictionary.{Entries, IsDictionary};
 ghost use Rattle.bases.specs.Order.{GoesThrough};

@@ -1,5 +1,6 @@
 //! Numbers of 64 bits.
-ghost use Rattle.std.specs.Prelude.{◌≡◌, ◌<◌, ◌≤◌, ◌^◌, pos, ◌<ℤ◌, ◌*ℤ◌, None, unsigned_abs, IfSome};
+ghost use Rattle.std.specs.Prelude.{◌≡◌, ℕ, ◌<◌, ◌≤◌, ◌^◌, pos, ◌<ℤ◌, ◌*ℤ◌, None, unsigned_abs, IfSome};
+ghost use Rattle.rational.specs.Whole.{IsLcm};
 ghost use Rattle.rational.specs.Width.{most};
 ghost use Rattle.fraction.specs.Frac.{ratio};
 ghost use Rattle.dictionary.specs.Numbers.{IsOver, IsNumberOver};
@@ -30,7 +31,9 @@ pub fn joined(all: i64, denom: u128) -> Option<i64>
     requires all { pos 0 <ℤ all }
     requires above { 0 < denom }
     requires within { denom ≤ most }
-    ensures { IfSome result (λ m. pos 0 <ℤ m) }
+    ensures above { IfSome result (λ m. pos 0 <ℤ m) }
+    ensures some { IfSome result (λ m. IsLcm (unsigned_abs all) denom (unsigned_abs m)) }
+    ensures none { result ≡ None → (m : ℕ) → IsLcm (unsigned_abs all) denom m → 2 ^ 63 ≤ m }
 {
     if denom == 1 {
         return Some(all);

@@ -19,7 +19,7 @@ use crate::steps::Steps;
 use common_rows::plus_product;
 use fraction::{Frac, Wide};
 use instance::zero;
-use marks::Marks;
+use marks::{Marks, Walk};
 use std::sync::ledger::Ledger;
 
 /// The value at a column, where it is marked, or 0.
@@ -67,8 +67,9 @@ fn add_values<L: Ledger>(
     ensures wide { OnErr result (((c : ℕ) → c ≢ skip → TermFits (numbers_of row.now c) (ratio factor) (numbers_of by.now c)) → ⊥) }
 {
     scratch.clear();
+    let mut walk = Walk::new();
     let mut from = 0;
-    while let Some(c) = row.marks.next_of_either(&by.marks, from) {
+    while let Some(c) = row.marks.next_of_either(&by.marks, &mut walk, from) {
         let x = value_of(scratch.values.as_slice(), &row.marks, c);
         let y = value_of(scratch.others.as_slice(), &by.marks, c);
         let value = sum_at(c, skip, x, factor, y)?;

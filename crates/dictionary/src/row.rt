@@ -13,7 +13,7 @@ use crate::numbers::number_over;
 use crate::steps::Steps;
 use fraction::Frac;
 use instance::zero;
-use marks::Marks;
+use marks::{Marks, Walk};
 use std::alloc::{AllocError, Global};
 use std::sync::ledger::Ledger;
 
@@ -235,8 +235,9 @@ impl<L: Ledger> Row<L> {
         ensures cost { steps.new ≤ steps.old + nonzeros (length values.old) (numbers_of self.now) }
         ensures counted { steps.old ≤ steps.new }
     {
+        let mut walk = Walk::new();
         let mut from = 0;
-        while let Some(c) = self.marks.next(from) {
+        while let Some(c) = self.marks.next_by(&mut walk, from) {
             values[c as usize] = quotient(self.read(c, steps), self.denom);
             from = c + 1;
         }
@@ -262,8 +263,9 @@ fn clear_numbers(numers: &mut [i64], marks: &Marks)
     ensures zeros { (c : ℕ) → is_marked marks.now c ≡ true → slice_index_or numers.new c (pos 0) ≡ pos 0 }
     ensures others { (c : ℕ) → is_marked marks.now c ≡ false → slice_index_or numers.new c (pos 0) ≡ slice_index_or numers.old c (pos 0) }
 {
+    let mut walk = Walk::new();
     let mut from = 0;
-    while let Some(col) = marks.next(from) {
+    while let Some(col) = marks.next_by(&mut walk, from) {
         numers[col as usize] = 0;
         from = col + 1;
     }
@@ -285,6 +287,7 @@ pub fn reduced(numer: i128, denom: i128) -> Frac
 {
     match Frac::of(numer, denom) {
         Ok(x) => x,
+        // A denominator above 0 and a numerator within the width are never refused.
         Err(_) => zero(),
     }
 }

@@ -17,6 +17,7 @@ use crate::steps::Steps;
 use common_rows::times;
 use fraction::{Frac, Wide};
 use instance::zero;
+use marks::Walk;
 use std::sync::ledger::Ledger;
 
 /// Solves a row in common form for the column `nonbasic`; `basic` comes in for it.
@@ -82,8 +83,9 @@ fn negate<L: Ledger>(row: &mut Row<L>, steps: &mut Steps<L>)
     ensures cost { (k n : ℕ) → IsRow k n row.old → steps.new ≤ steps.old + 2 * nonzeros k (numbers_of row.old) }
     ensures counted { steps.old ≤ steps.new }
 {
+    let mut walk = Walk::new();
     let mut from = 0;
-    while let Some(c) = row.marks.next(from) {
+    while let Some(c) = row.marks.next_by(&mut walk, from) {
         let x = row.read(c, steps);
         row.write(c, -x, steps);
         from = c + 1;
@@ -119,8 +121,9 @@ fn multiply_values<L: Ledger>(
     ensures wide { OnErr result (((c : ℕ) → c ≢ skip → ReducedFits (product (ratio factor) (numbers_of row.now c))) → ⊥) }
 {
     scratch.clear();
+    let mut walk = Walk::new();
     let mut from = 0;
-    while let Some(c) = row.marks.next(from) {
+    while let Some(c) = row.marks.next_by(&mut walk, from) {
         let value = product_at(c, skip, factor, scratch.values[c as usize])?;
         scratch.put(c, value);
         from = c + 1;

@@ -16,6 +16,7 @@ use crate::row::Row;
 use crate::steps::Steps;
 use common_rows::Accumulator;
 use fraction::{Frac, Wide};
+use marks::Walk;
 use std::sync::ledger::Ledger;
 
 /// The sum, from 0, of a row's entries, each times its column's value, in ascending order. Columns of value 0 add nothing.
@@ -48,8 +49,10 @@ fn sum_numbers<L: Ledger>(row: &Row<L>, places: &Places, steps: &mut Steps<L>) -
 {
     let denom = row.denom.unsigned_abs();
     let mut sum = Accumulator::over(denom);
+    let set = places.marks();
+    let mut walk = Walk::new();
     let mut from = 0;
-    while let Some(c) = row.marks.next_of_both(places.marks(), from) {
+    while let Some(c) = row.marks.next_of_both(set, &mut walk, from) {
         let n = row.read(c, steps);
         sum = sum.plus_number(n, denom, places.value(c))?;
         from = c + 1;

@@ -1,6 +1,7 @@
 //! A set of numbers.
 ghost use Rattle.std.specs.Prelude.{◌*◌, ◌≤◌, ◌^◌, length};
 
+use crate::walk::Walk;
 use crate::words::{Both, Either, One, clear, has, next, set};
 use std::alloc::{AllocError, Global};
 
@@ -13,8 +14,9 @@ pub struct Marks {
 
 #[tactic(auto, unfolding(crate::specs::Marks::is_marked, crate::specs::Marks::size_of))]
 impl Marks {
-    ghost use Rattle.std.specs.Prelude.{◌≡◌, ◌≢◌, ℕ, ◌+◌, ◌/◌, ◌<◌, ◌||◌, ◌&&◌, true, false, IfOk, MatchOption};
+    ghost use Rattle.std.specs.Prelude.{◌≡◌, ◌≢◌, ℕ, ◌+◌, ◌/◌, ◌<◌, ◌||◌, ◌&&◌, true, false, IfOk, IfSome, MatchOption};
     ghost use Rattle.marks.specs.Words.{IsFirst, HasNone};
+    ghost use Rattle.marks.specs.Walks.{Keeps};
     ghost use Rattle.marks.specs.Marks.{is_marked, size_of};
 
     /// A set for numbers below `count`, which has none. More than there are numbers of 32 bits find no room.
@@ -93,24 +95,39 @@ impl Marks {
         next(&One { words }, from)
     }
 
-    /// The first number from this one on that one of two sets has.
+    /// The first number from this one on that it has, by a walk that passed those before.
     #[inline(always)]
-    pub fn next_of_either(&self, other: &Marks, from: u32) -> Option<u32>
-        requires { size_of other.now ≡ size_of self.now }
-        ensures { MatchOption result (HasNone (λ k. is_marked self.now k || is_marked other.now k) from) (IsFirst (λ k. is_marked self.now k || is_marked other.now k) from) }
+    pub fn next_by(&self, walk: &mut Walk, from: u32) -> Option<u32>
+        requires { Keeps (is_marked self.now) from walk.old }
+        ensures first { MatchOption result (HasNone (is_marked self.now) from) (IsFirst (is_marked self.now) from) }
+        ensures kept { IfSome result (λ c. Keeps (is_marked self.now) (c + 1) walk.new) }
     {
-        let left = self.words.as_slice();
-        let right = other.words.as_slice();
-        next(&Either { left, right }, from)
+        let words = self.words.as_slice();
+        walk.next(&One { words }, from)
     }
 
-    /// The first number from this one on that two sets have.
+    /// The first number from this one on that one of two sets has, by a walk that passed those before.
     #[inline(always)]
-    pub fn next_of_both(&self, other: &Marks, from: u32) -> Option<u32>
-        ensures { MatchOption result (HasNone (λ k. is_marked self.now k && is_marked other.now k) from) (IsFirst (λ k. is_marked self.now k && is_marked other.now k) from) }
+    pub fn next_of_either(&self, other: &Marks, walk: &mut Walk, from: u32) -> Option<u32>
+        requires size { size_of other.now ≡ size_of self.now }
+        requires kept { Keeps (λ k. is_marked self.now k || is_marked other.now k) from walk.old }
+        ensures first { MatchOption result (HasNone (λ k. is_marked self.now k || is_marked other.now k) from) (IsFirst (λ k. is_marked self.now k || is_marked other.now k) from) }
+        ensures kept { IfSome result (λ c. Keeps (λ k. is_marked self.now k || is_marked other.now k) (c + 1) walk.new) }
     {
         let left = self.words.as_slice();
         let right = other.words.as_slice();
-        next(&Both { left, right }, from)
+        walk.next(&Either { left, right }, from)
+    }
+
+    /// The first number from this one on that two sets have, by a walk that passed those before.
+    #[inline(always)]
+    pub fn next_of_both(&self, other: &Marks, walk: &mut Walk, from: u32) -> Option<u32>
+        requires { Keeps (λ k. is_marked self.now k && is_marked other.now k) from walk.old }
+        ensures first { MatchOption result (HasNone (λ k. is_marked self.now k && is_marked other.now k) from) (IsFirst (λ k. is_marked self.now k && is_marked other.now k) from) }
+        ensures kept { IfSome result (λ c. Keeps (λ k. is_marked self.now k && is_marked other.now k) (c + 1) walk.new) }
+    {
+        let left = self.words.as_slice();
+        let right = other.words.as_slice();
+        walk.next(&Both { left, right }, from)
     }
 }

@@ -1,5 +1,5 @@
 //! Words of 64 bits, and the first bit that is set in them.
-ghost use Rattle.std.specs.Prelude.{◌≡◌, ◌≢◌, ℕ, ◌*◌, ◌<◌, ◌≤◌, ◌^◌, true, false, MatchOption, length, slice_index, bit_and, bit_or};
+ghost use Rattle.std.specs.Prelude.{◌≡◌, ◌≢◌, ℕ, ◌*◌, ◌<◌, ◌≤◌, ◌^◌, true, false, IfSome, MatchOption, length, slice_index, bit_and, bit_or};
 ghost use Rattle.marks.specs.Words.{has_bit, lesser, IsFirst, HasNoneBelow};
 
 /// Words that are read one at a time.
@@ -96,9 +96,11 @@ fn lesser(a: usize, b: usize) -> usize
 }
 
 /// The first bit that is set from word `w` on.
-fn first_from<W: Words>(words: &W, w: usize) -> Option<u32>
+#[inline(always)]
+pub fn first_from<W: Words>(words: &W, w: usize) -> Option<u32>
     requires few { 64 * W.words words.now ≤ 2 ^ 32 }
-    ensures { MatchOption result (HasNoneBelow (64 * W.words words.now) (has_bit (W.word_at words.now)) (64 * w)) (IsFirst (has_bit (W.word_at words.now)) (64 * w)) }
+    ensures first { MatchOption result (HasNoneBelow (64 * W.words words.now) (has_bit (W.word_at words.now)) (64 * w)) (IsFirst (has_bit (W.word_at words.now)) (64 * w)) }
+    ensures inside { IfSome result (λ c. c < 64 * W.words words.now) }
 {
     for k in w..words.count() {
         let word = words.word(k);

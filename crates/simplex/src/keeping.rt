@@ -16,7 +16,7 @@ use crate::ends::Ends;
 use crate::valued::rest_value;
 use dictionary::{Dict, Places, Steps};
 use instance::zero;
-use marks::Marks;
+use marks::{Marks, Walk};
 use simplex_rules::Status;
 use std::sync::ledger::Ledger;
 
@@ -66,8 +66,9 @@ fn forget<L: Ledger>(
     let _statuses = statuses;
     let _goal = goal;
     let basic = dict.basic_columns();
+    let mut walk = Walk::new();
     let mut from = 0;
-    while let Some(c) = basic.next(from) {
+    while let Some(c) = basic.next_by(&mut walk, from) {
         forget_at(dict, unknown, c, moving, steps);
         from = c + 1;
     }

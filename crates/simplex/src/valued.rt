@@ -22,7 +22,7 @@ use crate::finish::Move;
 use dictionary::{Dict, Places, Steps};
 use fraction::{End, Frac, Wide};
 use instance::zero;
-use marks::Marks;
+use marks::{Marks, Walk};
 use simplex_rules::{Status, Way};
 use std::sync::ledger::Ledger;
 
@@ -109,8 +109,9 @@ fn all_values<L: Ledger>(
     ensures counted { steps.old ≤ steps.new }
 {
     let _goal = goal;
+    let mut walk = Walk::new();
     let mut from = 0;
-    while let Some(col) = unknown.next(from) {
+    while let Some(col) = unknown.next_by(&mut walk, from) {
         let c = col as usize;
         let value = value_at(dict, statuses[c], rest, col, steps)?;
         values[c] = value;
@@ -185,8 +186,9 @@ pub fn first_out<L: Ledger>(
     let _statuses = statuses;
     let _goal = goal;
     let basic = dict.basic_columns();
+    let mut walk = Walk::new();
     let mut from = 0;
-    while let Some(c) = basic.next(from) {
+    while let Some(c) = basic.next_by(&mut walk, from) {
         if let Some(way) = misses(&ends[c as usize], &values[c as usize]) {
             return Some(Move { col: c, way });
         }

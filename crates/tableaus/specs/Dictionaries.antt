@@ -6,11 +6,11 @@ use Rattle.tableaus.specs.declared.turning.Turned.{Turned}
 use Rattle.tableaus.specs.declared.turning.Turned.TheVariants.{All, Never, Wide}
 
 -- it is the dictionary of its basis for some rows
-abbrev pub IsHeld : {L : _} {G : _} → Dict L G → Type 0
-IsHeld d = (A : Entries) × Holds A d
+abbrev pub HoldsProgram : {L : _} {G : _} → Dict L G → Type 0
+HoldsProgram d = (A : Entries) × Holds A d
 
 -- it still is, unless a number didn't fit
 abbrev pub KeepsProgram : {L : _} {G : _} → Turned → Dict L G → Type 0
-KeepsProgram All d = IsHeld d
-KeepsProgram (Never k) d = IsHeld d
+KeepsProgram All d = HoldsProgram d
+KeepsProgram (Never k) d = HoldsProgram d
 KeepsProgram (Wide k) d = Unit {0}

@@ -2,7 +2,7 @@
 ghost use Rattle.std.specs.Prelude.{◌≡◌, ℕ, ◌+◌, ◌≤◌, ◌<◌, length, IfOk, IfSome};
 ghost use Rattle.bases.specs.Dictionary.{Entries};
 ghost use Rattle.dictionary.specs.Dict.{width_of, height_of, count_of, IsLoaded, Holds, IsBasic, IsNonbasic};
-ghost use Rattle.tableaus.specs.Dictionaries.{IsHeld, KeepsProgram};
+ghost use Rattle.tableaus.specs.Dictionaries.{HoldsProgram, KeepsProgram};
 
 use crate::reading::Exchange;
 use crate::telling::{Size, is_basic, is_nonbasic, put_dictionary, put_goal, put_number};
@@ -49,7 +49,7 @@ fn load<L: Ledger>(dict: &mut Dict<L>, instance: &Instance, factor: i8, steps: &
     requires height { height_of dict.old ≡ length instance.now.rows }
     ensures width { width_of dict.new ≡ width_of dict.old }
     ensures height { height_of dict.new ≡ height_of dict.old }
-    ensures held { IsHeld dict.new }
+    ensures held { HoldsProgram dict.new }
 {
     let entries = instance.entries();
     let goal = instance.first_goal();
@@ -66,10 +66,10 @@ fn turn<L: Ledger>(
 ) -> Result<bool, Wide>
     requires width { width_of dict.old ≡ size.width }
     requires height { height_of dict.old ≡ size.height }
-    requires held { IsHeld dict.old }
+    requires held { HoldsProgram dict.old }
     ensures width { width_of dict.new ≡ width_of dict.old }
     ensures height { height_of dict.new ≡ height_of dict.old }
-    ensures held { IfOk result (λ _. IsHeld dict.new) }
+    ensures held { IfOk result (λ _. HoldsProgram dict.new) }
 {
     if !is_basic(dict, size, basic) || !is_nonbasic(dict, size, nonbasic) {
         return Ok(false);
@@ -89,7 +89,7 @@ fn turn_all<L: Ledger>(
 ) -> Turned
     requires width { width_of dict.old ≡ size.width }
     requires height { height_of dict.old ≡ size.height }
-    requires held { IsHeld dict.old }
+    requires held { HoldsProgram dict.old }
     ensures width { width_of dict.new ≡ width_of dict.old }
     ensures height { height_of dict.new ≡ height_of dict.old }
     ensures held { KeepsProgram result dict.new }

@@ -2,20 +2,25 @@ use Rattle.std.proofs.Common.{◌≡◌, ℕ, ℤ, ◌+◌, ◌<◌, ◌≤◌, 
 use Rattle.std.specs.Prelude.{unsigned_abs}
 use Rattle.std.proofs.lemmas.Int.{to_z-of_z}
 use Rattle.marks.specs.Marks.{size_of}
-use Rattle.dictionary.specs.Rows.{numbers_of, numer_at, IsRow}
-use Rattle.dictionary.proofs.Changes.{changing_none, changing_next, changing_all, changed_inside, small_parts, counted_mark, counted_to, counted_same, same_numbers, entry_of_either}
+use Rattle.marks.proofs.Walks.{kept_by}
+use Rattle.dictionary.specs.Rows.{numbers_of, numer_at, IsRow, entries_at, changes}
+use Rattle.dictionary.proofs.Changes.{changing_none, changing_next, changing_all, changed_inside, small_parts, counted_mark, counted_to, counted_same, same_numbers, entry_of_either, changes_same}
 use Rattle.dictionary.proofs.changing.change_numbers.Goals as goal
 use Rattle.dictionary.proofs.changing.change_numbers.Goals.{In-Some, After-read-y}
 
 pub loop-c-init : goal.loop-c-init
 loop-c-init g c = record {
+  kept = c.new-walk.ensures (changes c.args.row.now.marks c.args.by.now.marks c.only_adds-adds.result);
   changing = changing_none c.args.row.now c.args.by.now c.args.parts.scale c.args.parts.factor c.requires.common.0;
   cost = λ k n a b. omega arith;
   counted = omega arith;
 }
 
-pub next_changed-requires : goal.next_changed-requires
-next_changed-requires g c =
+pub next_changed-requires-clause-kept : goal.next_changed-requires-clause-kept
+next_changed-requires-clause-kept g c = c.loop-c.invariant.kept
+
+pub next_changed-requires-clause-size : goal.next_changed-requires-clause-size
+next_changed-requires-clause-size g c =
     let r = c.requires.row in
     let i = c.loop-c.invariant.changing in
     let now = i.rows r.0 r.1 r.2 in
@@ -23,7 +28,7 @@ next_changed-requires g c =
 
 -- the column that changes is below the last
 inside : (g : _) (c : In-Some g) (m n : ℕ) → IsRow m n c.args.row.now → IsRow m n c.args.by.now → c.in-Some.c + 1 < m
-inside g c m n a b = changed_inside c.args.row.now c.args.by.now c.loop-c.row c.args.parts.scale c.args.parts.factor c.loop-c.from m n a b c.loop-c.invariant.changing c.in-Some.ensures.0 c.in-Some.c c.in-Some.ensures.2.is
+inside g c m n a b = changed_inside c.args.row.now c.args.by.now c.loop-c.row c.args.parts.scale c.args.parts.factor c.loop-c.from m n a b c.loop-c.invariant.changing c.only_adds-adds.result c.in-Some.c c.in-Some.ensures.first.is
 
 pub read-x-requires : goal.read-x-requires
 read-x-requires g c =
@@ -39,7 +44,7 @@ read-y-requires g c =
 
 -- what was read are the row's number before, and the other one's
 left : (g : _) (c : After-read-y g) → c.read-x.result ≡ numer_at c.args.row.now c.in-Some.c
-left g c = c.read-x.ensures.number ∙ c.loop-c.invariant.changing.rest c.in-Some.c c.in-Some.ensures.2.later
+left g c = c.read-x.ensures.number ∙ c.loop-c.invariant.changing.rest c.in-Some.c c.in-Some.ensures.first.later
 
 pub small_sum-requires : goal.small_sum-requires
 small_sum-requires g c =
@@ -78,12 +83,13 @@ overflow_add-from g c =
     record { fits = omega arith }
 
 pub loop-c-preserved : goal.loop-c-preserved
+unfolding entries_at
 loop-c-preserved g c =
     let r = c.requires.row in
     let row = c.args.row.now in
     let by = c.args.by.now in
     let i = c.loop-c.invariant.changing in
-    let first = c.in-Some.ensures in
+    let first = c.in-Some.ensures.first in
     let x : FitsSigned w64 c.read-x.result = search rules in
     let y : FitsSigned w64 c.read-y.result = search rules in
     let z : FitsSigned w64 c.small_sum.result = search rules in
@@ -93,12 +99,13 @@ loop-c-preserved g c =
     let k : ℤ = c.args.parts.factor in
     let both = told ∙ ap₂ (λ p q. p *ℤ s +ℤ q *ℤ k) c.read-x.ensures.number c.read-y.ensures.number in
     record {
-      changing = changing_next row by c.loop-c.row c.write.new.self s k c.small_sum.result c.loop-c.from c.in-Some.c r.0 r.1 r.2 r.3 i first.0 first.1 first.2 both c.write.ensures.common c.write.ensures.denom c.write.ensures.row own c.write.ensures.rest;
+      kept = kept_by _ _ _ _ _ (λ j a. changes_same c.loop-c.row.marks c.write.new.self.marks by.marks c.only_adds-adds.result j (c.write.ensures.marks j (λ e. omega arith))) c.in-Some.ensures.kept;
+      changing = changing_next row by c.loop-c.row c.write.new.self s k c.small_sum.result c.loop-c.from c.in-Some.c r.0 r.1 r.2 r.3 i c.only_adds-adds.result c.only_adds-adds.ensures first both c.write.ensures.common c.write.ensures.denom c.write.ensures.row own c.write.ensures.rest;
       cost = λ m n a b.
-          let l = first.2.later in
+          let l = first.later in
           let mine = counted_same c.loop-c.row m n c.in-Some.c (numbers_of row) (i.rows m n a) (same_numbers row by c.loop-c.row s k c.loop-c.from m n a b i c.requires.common.0 c.in-Some.c l) in
           let its = counted_mark by m n c.in-Some.c b in
-          let some = entry_of_either row by c.loop-c.row s k c.loop-c.from m n a b i first.0 c.in-Some.c first.2.is in
+          let some = entry_of_either row by c.loop-c.row s k c.loop-c.from m n a b i c.only_adds-adds.result c.in-Some.c first.is in
           let u = counted_to c.loop-c.from c.in-Some.c (numbers_of row) l in
           let v = counted_to c.loop-c.from c.in-Some.c (numbers_of by) l in
           let old = c.loop-c.invariant.cost m n a b in
@@ -115,8 +122,7 @@ returns-clause-row g c = c.loop-c.invariant.changing.rows
 pub returns-clause-changed : goal.returns-clause-changed
 returns-clause-changed g c =
     let r = c.requires.row in
-    let last = c.in_default.ensures in
-    changing_all c.args.row.now c.args.by.now c.loop-c.row c.args.parts.scale c.args.parts.factor c.loop-c.from r.0 r.1 r.2 r.3 c.loop-c.invariant.changing last.0 last.1 last.2
+    changing_all c.args.row.now c.args.by.now c.loop-c.row c.args.parts.scale c.args.parts.factor c.loop-c.from r.0 r.1 r.2 r.3 c.loop-c.invariant.changing c.only_adds-adds.result c.only_adds-adds.ensures c.in_default.ensures.first
 
 pub returns-clause-cost : goal.returns-clause-cost
 returns-clause-cost g c m n a b =

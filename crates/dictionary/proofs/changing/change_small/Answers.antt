@@ -6,7 +6,7 @@ use Rattle.dictionary.proofs.ChangedSums.{both_above, divided_row}
 use Rattle.dictionary.proofs.changing.change_small.Goals as goal
 
 -- the new denominator fits
-denom_fits : (d s : ℤ) → unsigned_abs d * unsigned_abs s < 2 ^ 40 → FitsSigned w64 (d *ℤ s)
+denom_fits : (d s : ℤ) → unsigned_abs d * unsigned_abs s < 2 ^ 60 → FitsSigned w64 (d *ℤ s)
 denom_fits d s l = fits_signed_from_abs w64 (d *ℤ s) (let e = unsigned_abs-mul d s in omega (arith, e))
 
 pub overflow_mul-denom : goal.overflow_mul-denom

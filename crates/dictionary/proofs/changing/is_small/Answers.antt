@@ -43,8 +43,8 @@ overflow_add-left c =
     let u = times_fits c.args.by c.unsigned_abs-2.result m.fits (omega arith) in
     record { fits = omega (arith, t, u) }
 
-size_below : (z : ℤ) → pos 0 <ℤ z → int_lt z (pos (2 ^ 40)) ≡ true → unsigned_abs z < 2 ^ 40
-size_below (pos n) up t = ltb-true n (2 ^ 40) t
+size_below : (z : ℤ) → pos 0 <ℤ z → int_lt z (pos (2 ^ 60)) ≡ true → unsigned_abs z < 2 ^ 60
+size_below (pos n) up t = ltb-true n (2 ^ 60) t
 size_below (negsuc n) up t = absurd (omega (arith, ints))
 
 pub returns : goal.returns
@@ -55,5 +55,5 @@ returns c t =
     let e = simp to_z-of_z at c.unsigned_abs.ensures.value in
     let f = simp to_z-of_z at c.unsigned_abs-2.ensures.value in
     let l = c.if-left-right.false in
-    let small : c.args.row * unsigned_abs c.args.parts.scale + c.args.by * unsigned_abs c.args.parts.factor < 2 ^ 40 = rw (sym e, sym f) (omega arith) in
+    let small : c.args.row * unsigned_abs c.args.parts.scale + c.args.by * unsigned_abs c.args.parts.factor < 2 ^ 60 = rw (sym e, sym f) (omega arith) in
     (small, size_below c.args.denom c.requires (simp to_z-of_z at t))

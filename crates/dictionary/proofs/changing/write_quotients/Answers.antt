@@ -1,9 +1,10 @@
-use Rattle.std.proofs.Common.{ℕ, ℤ, ◌+◌, ◌<◌, pos, length, FitsSigned, w64, rules, arith, sym, ◌∙◌}
+use Rattle.std.proofs.Common.{ℕ, ℤ, ◌+◌, ◌<◌, pos, length, FitsSigned, w64, rules, arith, sym, ◌∙◌, ap, Bool, ◌||◌}
 use mir.Syntax.{w128}
 use Rattle.std.specs.Prelude.{slice_index_or}
 use Rattle.std.proofs.lemmas.Int.{to_z-of_z}
-use Rattle.marks.specs.Marks.{size_of}
-use Rattle.dictionary.specs.Rows.{numbers_of, entries_at, IsRow}
+use Rattle.marks.specs.Marks.{size_of, is_marked}
+use Rattle.marks.proofs.Walks.{kept_by}
+use Rattle.dictionary.specs.Rows.{numbers_of, entries_at, IsRow, either_at}
 use Rattle.dictionary.proofs.Changes.{counted_mark, counted_to, both_to, counted_same, kept_numbers}
 use Rattle.dictionary.proofs.ChangedSums.{either_below, either_one}
 use Rattle.dictionary.proofs.Quotients.{dividing_none, dividing_next, dividing_all, sums_left}
@@ -12,19 +13,23 @@ use Rattle.dictionary.proofs.changing.write_quotients.Goals.{In-Some}
 
 pub loop-c-init : goal.loop-c-init
 loop-c-init g c = record {
+  kept = c.new-walk.ensures (either_at c.args.row.now c.args.by.now);
   dividing = dividing_none c.args.row.now c.args.by.now c.args.parts.scale c.args.parts.factor c.args.divisor.size c.requires.common;
   cost = λ k n a b. omega arith;
   counted = omega arith;
 }
 
-pub next_of_either-requires : goal.next_of_either-requires
-next_of_either-requires g c =
+pub next_of_either-requires-clause-kept : goal.next_of_either-requires-clause-kept
+next_of_either-requires-clause-kept g c = c.loop-c.invariant.kept
+
+pub next_of_either-requires-clause-size : goal.next_of_either-requires-clause-size
+next_of_either-requires-clause-size g c =
     let r = c.requires.rows in
     let now = c.loop-c.invariant.dividing.rows _ r.0 r.1 in
     r.2.columns ∙ sym now.columns
 
 inside : (g : _) (c : In-Some g) (m n : ℕ) → IsRow m n c.args.row.now → IsRow m n c.args.by.now → c.in-Some.c + 1 < m
-inside g c m n a b = either_below c.loop-c.row c.args.by.now m n (c.loop-c.invariant.dividing.rows m n a) b c.in-Some.c c.in-Some.ensures.is
+inside g c m n a b = either_below c.loop-c.row c.args.by.now m n (c.loop-c.invariant.dividing.rows m n a) b c.in-Some.c c.in-Some.ensures.first.is
 
 pub bounds-sums-c : goal.bounds-sums-c
 bounds-sums-c g c = let r = c.requires.rows in let l = inside g (goal.at.bounds-sums-c g c).In-Some _ r.0 r.1 r.2 in omega arith
@@ -62,13 +67,14 @@ loop-c-preserved g c =
     let s : ℤ = c.args.parts.scale in
     let k : ℤ = c.args.parts.factor in
     let i = c.loop-c.invariant in
-    let first = c.in-Some.ensures in
+    let first = c.in-Some.ensures.first in
     let z : FitsSigned w64 c.in-Some-narrow_quotient.z = search rules in
     let x : FitsSigned w128 (slice_index_or c.args.sums.now c.in-Some.c (pos 0)) = search rules in
     let told = simp to_z-of_z at c.in-Some-narrow_quotient.ensures.divided in
     let is = told ∙ c.requires.sums c.in-Some.c (i.dividing.within c.in-Some.c first.is) in
     let own = simp to_z-of_z at c.write.ensures.number in
     record {
+      kept = kept_by _ _ _ _ _ (λ j a. ap (λ (b : Bool). b || is_marked by.marks j) (sym (c.write.ensures.marks j (λ e. omega arith)))) c.in-Some.ensures.kept;
       dividing = dividing_next old by c.loop-c.row c.write.new.self s k c.in-Some-narrow_quotient.z c.args.divisor.size c.loop-c.from c.in-Some.c _ r.0 r.1 r.2 i.dividing first is c.write.ensures.common c.write.ensures.denom c.write.ensures.row own c.write.ensures.rest c.write.ensures.marks;
       cost = λ m n a b.
           let later = first.later in
@@ -110,7 +116,7 @@ returns-clause-common g c = c.loop-c.invariant.dividing.form
 pub returns-clause-divided : goal.returns-clause-divided
 returns-clause-divided g c _ =
     let r = c.requires.rows in
-    dividing_all c.args.row.now c.args.by.now c.loop-c.row c.args.parts.scale c.args.parts.factor c.args.divisor.size c.loop-c.from _ r.0 r.1 r.2 c.loop-c.invariant.dividing c.in_default.ensures
+    dividing_all c.args.row.now c.args.by.now c.loop-c.row c.args.parts.scale c.args.parts.factor c.args.divisor.size c.loop-c.from _ r.0 r.1 r.2 c.loop-c.invariant.dividing c.in_default.ensures.first
 
 pub returns-clause-left : goal.returns-clause-left
 returns-clause-left g c = let r = c.requires.rows in sums_left c.args.row.now c.args.by.now c.loop-c.row c.args.parts.scale c.args.parts.factor c.args.divisor.size c.loop-c.from _ r.0 r.1 r.2 c.loop-c.invariant.dividing

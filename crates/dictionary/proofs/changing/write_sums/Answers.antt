@@ -6,7 +6,7 @@ use Rattle.std.proofs.lemmas.Int.{to_z-of_z}
 use Rattle.evidence.proofs.Columns.{by_lt}
 use Rattle.common_rows.proofs.Sizes.{size_above}
 use Rattle.marks.specs.Marks.{size_of}
-use Rattle.dictionary.specs.Rows.{numbers_of}
+use Rattle.dictionary.specs.Rows.{numbers_of, either_at}
 use Rattle.dictionary.proofs.RowForms.{sized_above}
 use Rattle.dictionary.proofs.Changes.{counted_mark, counted_to, both_to}
 use Rattle.dictionary.proofs.ChangedSums.{either_below, sums_next}
@@ -30,13 +30,16 @@ of-all-requires-clause-small g c =
     omega arith
 
 pub loop-c-init : goal.loop-c-init
-loop-c-init g c = record { told = λ j l h. absurd (omega arith); within = omega arith; cost = omega arith; counted = omega arith }
+loop-c-init g c = record { kept = c.new-walk.ensures (either_at c.args.row.now c.args.by.now); told = λ j l h. absurd (omega arith); within = omega arith; cost = omega arith; counted = omega arith }
 
-pub next_of_either-requires : goal.next_of_either-requires
-next_of_either-requires g c = let r = c.requires.rows in r.2.columns ∙ sym r.1.columns
+pub next_of_either-requires-clause-kept : goal.next_of_either-requires-clause-kept
+next_of_either-requires-clause-kept g c = c.loop-c.invariant.kept
+
+pub next_of_either-requires-clause-size : goal.next_of_either-requires-clause-size
+next_of_either-requires-clause-size g c = let r = c.requires.rows in r.2.columns ∙ sym r.1.columns
 
 inside : (g : _) (c : In-Some g) → c.in-Some.c + 1 < length c.args.sums.now
-inside g c = let r = c.requires.rows in either_below c.args.row.now c.args.by.now _ r.0 r.1 r.2 c.in-Some.c c.in-Some.ensures.is
+inside g c = let r = c.requires.rows in either_below c.args.row.now c.args.by.now _ r.0 r.1 r.2 c.in-Some.c c.in-Some.ensures.first.is
 
 pub read-x-requires : goal.read-x-requires
 read-x-requires g c = let r = c.requires.rows in let l = inside g (goal.at.read-x-requires g c).In-Some in (_, r.0, r.1, omega arith)
@@ -82,7 +85,7 @@ loop-c-preserved g c =
     let row = c.args.row.now in
     let by = c.args.by.now in
     let i = c.loop-c.invariant in
-    let first = c.in-Some.ensures in
+    let first = c.in-Some.ensures.first in
     let x : FitsSigned w64 c.read-x.result = search rules in
     let y : FitsSigned w64 c.read-y.result = search rules in
     let z : FitsSigned w128 c.wide_sum-sum.result = search rules in
@@ -94,6 +97,7 @@ loop-c-preserved g c =
     let a = c.loop-c.auto.sums in
     let next = sums_next row by s k c.wide_sum-sum.result c.loop-c.from c.in-Some.c c.loop-c.sums (omega arith) first both i.told in
     record {
+      kept = c.in-Some.ensures.kept;
       told = simp to_z-of_z next;
       within = omega arith;
       cost =
@@ -109,7 +113,7 @@ loop-c-preserved g c =
     }
 
 pub returns-clause-sums : goal.returns-clause-sums
-returns-clause-sums g c j h = by_lt j c.loop-c.from (λ l. c.loop-c.invariant.told j l h) (λ l. absurd (false≢true (sym (c.in_default.ensures j l) ∙ h)))
+returns-clause-sums g c j h = by_lt j c.loop-c.from (λ l. c.loop-c.invariant.told j l h) (λ l. absurd (false≢true (sym (c.in_default.ensures.first j l) ∙ h)))
 
 pub returns-clause-cost : goal.returns-clause-cost
 returns-clause-cost g c = let i = c.loop-c.invariant in both_to c.loop-c.from _ (numbers_of c.args.row.now) (numbers_of c.args.by.now) c.loop-c.steps c.args.steps.now i.within i.cost

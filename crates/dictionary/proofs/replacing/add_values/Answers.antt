@@ -14,26 +14,30 @@ use Rattle.dictionary.proofs.replacing.add_values.Goals.{In-Some, After-value_of
 
 pub loop-c-init : goal.loop-c-init
 loop-c-init g c = record {
+  kept = c.new-walk.ensures (either_at c.args.row.now c.args.by.now);
   filled = filled_none c.clear.new.self _ _ c.clear.ensures.none c.clear.ensures.found;
   count = c.clear.ensures.count;
   others = c.clear.ensures.rest;
   values = λ j l. ap (λ (xs : List Frac). value_at (ratios xs) j) c.clear.ensures.values;
 }
 
-pub next_of_either-requires : goal.next_of_either-requires
-next_of_either-requires g c = let r = c.requires.rows in r.2.columns ∙ sym r.1.columns
+pub next_of_either-requires-clause-kept : goal.next_of_either-requires-clause-kept
+next_of_either-requires-clause-kept g c = c.loop-c.invariant.kept
+
+pub next_of_either-requires-clause-size : goal.next_of_either-requires-clause-size
+next_of_either-requires-clause-size g c = let r = c.requires.rows in r.2.columns ∙ sym r.1.columns
 
 inside : (g : _) (c : In-Some g) → c.in-Some.c + 1 < length c.loop-c.scratch.values.items
 inside g c =
     let r = c.requires.rows in
-    let l = either_below c.args.row.now c.args.by.now _ r.0 r.1 r.2 c.in-Some.c c.in-Some.ensures.is in
+    let l = either_below c.args.row.now c.args.by.now _ r.0 r.1 r.2 c.in-Some.c c.in-Some.ensures.first.is in
     let n = c.loop-c.invariant.count in
     omega arith
 
 pub value_of-x-requires-clause-marks : goal.value_of-x-requires-clause-marks
 value_of-x-requires-clause-marks g c =
     let r = c.requires.rows in
-    let l = either_below c.args.row.now c.args.by.now _ r.0 r.1 r.2 c.in-Some.c c.in-Some.ensures.is in
+    let l = either_below c.args.row.now c.args.by.now _ r.0 r.1 r.2 c.in-Some.c c.in-Some.ensures.first.is in
     let columns = r.1.columns in
     omega arith
 
@@ -46,7 +50,7 @@ value_of-x-requires-clause-values g c =
 pub value_of-y-requires-clause-marks : goal.value_of-y-requires-clause-marks
 value_of-y-requires-clause-marks g c =
     let r = c.requires.rows in
-    let l = either_below c.args.row.now c.args.by.now _ r.0 r.1 r.2 c.in-Some.c c.in-Some.ensures.is in
+    let l = either_below c.args.row.now c.args.by.now _ r.0 r.1 r.2 c.in-Some.c c.in-Some.ensures.first.is in
     let columns = r.2.columns in
     omega arith
 
@@ -69,7 +73,7 @@ overflow_add-from g c =
     let m = by.marks in
     let few = m.few in
     let columns = r.2.columns in
-    let l = either_below c.args.row.now by _ r.0 r.1 r.2 c.in-Some.c c.in-Some.ensures.is in
+    let l = either_below c.args.row.now by _ r.0 r.1 r.2 c.in-Some.c c.in-Some.ensures.first.is in
     record { fits = omega arith }
 
 -- the values that were read are the rows'
@@ -79,7 +83,7 @@ left g c =
     let s = c.loop-c.scratch in
     let j = c.in-Some.c in
     spread_value c.args.row.now _ r.0 j (ratio c.value_of-x.result) (value_at (ratios c.as_slice.result.now) j) (value_at (ratios c.args.scratch.now.values.items) j) r.1 c.value_of-x.ensures
-    (ap (λ (xs : List Frac). value_at (ratios xs) j) c.as_slice.ensures.value ∙ c.loop-c.invariant.values j c.in-Some.ensures.later) (c.requires.values j)
+    (ap (λ (xs : List Frac). value_at (ratios xs) j) c.as_slice.ensures.value ∙ c.loop-c.invariant.values j c.in-Some.ensures.first.later) (c.requires.values j)
 
 right : (g : _) (c : After-value_of-y g) → ratio c.value_of-y.result ≡ numbers_of c.args.by.now c.in-Some.c
 right g c =
@@ -95,11 +99,12 @@ loop-c-preserved g c =
     let by = c.args.by.now in
     let f = c.args.factor in
     let i = c.loop-c.invariant in
-    let first = c.in-Some.ensures in
+    let first = c.in-Some.ensures.first in
     let at' = (goal.at.loop-c-preserved g c).After-value_of-y in
     let v = c.in_ok-value.ensures in
     let told = sum_told (numbers_of row) (numbers_of by) f c.in_ok-value.value c.value_of-x.result c.value_of-y.result c.args.skip c.in-Some.c (left g at') (right g at') v.gone v.is v.fits in
     record {
+      kept = c.in-Some.ensures.kept;
       filled = filled_next c.loop-c.scratch (either_at row by) (IsSumAt (numbers_of row) (numbers_of by) (ratio f) c.args.skip) c.loop-c.from i.filled (sum_none row by _ r.0 r.1 r.2 (ratio f) c.args.skip) c.put.new.self c.in-Some.c (ratio c.in_ok-value.value) first c.put.ensures.own c.put.ensures.others c.put.ensures.found told;
       count = c.put.ensures.count ∙ i.count;
       others = c.put.ensures.rest ∙ i.others;
@@ -131,7 +136,7 @@ returns-clause-gone g c =
     let row = c.args.row.now in
     let by = c.args.by.now in
     let f = c.args.factor in
-    let all = filled_all c.loop-c.scratch (either_at row by) (IsSumAt (numbers_of row) (numbers_of by) (ratio f) c.args.skip) c.loop-c.from c.loop-c.invariant.filled (sum_none row by _ r.0 r.1 r.2 (ratio f) c.args.skip) c.in_default.ensures c.args.skip in
+    let all = filled_all c.loop-c.scratch (either_at row by) (IsSumAt (numbers_of row) (numbers_of by) (ratio f) c.args.skip) c.loop-c.from c.loop-c.invariant.filled (sum_none row by _ r.0 r.1 r.2 (ratio f) c.args.skip) c.in_default.ensures.first c.args.skip in
     all.0 refl
 
 pub returns-clause-is : goal.returns-clause-is
@@ -140,7 +145,7 @@ returns-clause-is g c j d =
     let row = c.args.row.now in
     let by = c.args.by.now in
     let f = c.args.factor in
-    let all = filled_all c.loop-c.scratch (either_at row by) (IsSumAt (numbers_of row) (numbers_of by) (ratio f) c.args.skip) c.loop-c.from c.loop-c.invariant.filled (sum_none row by _ r.0 r.1 r.2 (ratio f) c.args.skip) c.in_default.ensures j in
+    let all = filled_all c.loop-c.scratch (either_at row by) (IsSumAt (numbers_of row) (numbers_of by) (ratio f) c.args.skip) c.loop-c.from c.loop-c.invariant.filled (sum_none row by _ r.0 r.1 r.2 (ratio f) c.args.skip) c.in_default.ensures.first j in
     (all.1 d).0
 
 pub returns-clause-fits : goal.returns-clause-fits
@@ -149,7 +154,7 @@ returns-clause-fits g c j d =
     let row = c.args.row.now in
     let by = c.args.by.now in
     let f = c.args.factor in
-    let all = filled_all c.loop-c.scratch (either_at row by) (IsSumAt (numbers_of row) (numbers_of by) (ratio f) c.args.skip) c.loop-c.from c.loop-c.invariant.filled (sum_none row by _ r.0 r.1 r.2 (ratio f) c.args.skip) c.in_default.ensures j in
+    let all = filled_all c.loop-c.scratch (either_at row by) (IsSumAt (numbers_of row) (numbers_of by) (ratio f) c.args.skip) c.loop-c.from c.loop-c.invariant.filled (sum_none row by _ r.0 r.1 r.2 (ratio f) c.args.skip) c.in_default.ensures.first j in
     (all.1 d).1
 
 pub returns-clause-stands : goal.returns-clause-stands

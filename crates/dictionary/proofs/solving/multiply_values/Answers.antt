@@ -14,13 +14,17 @@ use Rattle.dictionary.proofs.solving.multiply_values.Goals.{In-Some, After-index
 
 pub loop-c-init : goal.loop-c-init
 loop-c-init g c = record {
+  kept = c.new-walk.ensures (is_marked c.args.row.now.marks);
   filled = filled_none c.clear.new.self _ _ c.clear.ensures.none c.clear.ensures.found;
   count = c.clear.ensures.count;
   values = λ j l. ap (λ (xs : List Frac). value_at (ratios xs) j) c.clear.ensures.values;
 }
 
+pub next_by-requires : goal.next_by-requires
+next_by-requires g c = c.loop-c.invariant.kept
+
 inside : (g : _) (c : In-Some g) → c.in-Some.c + 1 < length c.loop-c.scratch.values.items
-inside g c = let r = c.requires.row in let l = r.1.inside c.in-Some.c c.in-Some.ensures.is in let n = c.loop-c.invariant.count in omega arith
+inside g c = let r = c.requires.row in let l = r.1.inside c.in-Some.c c.in-Some.ensures.first.is in let n = c.loop-c.invariant.count in omega arith
 
 pub index-requires : goal.index-requires
 index-requires g c = let l = inside g (goal.at.index-requires g c).In-Some in let s = c.loop-c.scratch in let v = s.values in let e = v.ok.0 in omega arith
@@ -36,7 +40,7 @@ overflow_add-from g c =
     let m = row.marks in
     let few = m.few in
     let columns = r.1.columns in
-    let l = r.1.inside c.in-Some.c c.in-Some.ensures.is in
+    let l = r.1.inside c.in-Some.c c.in-Some.ensures.first.is in
     record { fits = omega arith }
 
 -- the value that was read is the row's
@@ -45,7 +49,7 @@ unfolding entries_at
 value g c =
     let r = c.requires.row in
     let s = c.loop-c.scratch in
-    let first = c.in-Some.ensures in
+    let first = c.in-Some.ensures.first in
     let l = r.1.inside c.in-Some.c first.is in
     let n = c.loop-c.invariant.count in
     sym (read s.values.items c.in-Some.c c.index.result.now (omega arith) c.index.ensures) ∙ c.loop-c.invariant.values c.in-Some.c first.later ∙ c.requires.values c.in-Some.c (marked_has c.args.row.now _ r.0 r.1 c.in-Some.c first.is)
@@ -56,9 +60,10 @@ loop-c-preserved g c =
     let row = c.args.row.now in
     let f = c.args.factor in
     let i = c.loop-c.invariant in
-    let first = c.in-Some.ensures in
+    let first = c.in-Some.ensures.first in
     let told = product_told (numbers_of row) f c.in_ok-value.value c.index.result.now c.args.skip c.in-Some.c (value g (goal.at.loop-c-preserved g c).After-index) c.in_ok-value.ensures.gone c.in_ok-value.ensures.is in
     record {
+      kept = c.in-Some.ensures.kept;
       filled = filled_next c.loop-c.scratch (is_marked row.marks) (IsProductAt (numbers_of row) (ratio f) c.args.skip) c.loop-c.from i.filled (product_none row _ r.0 r.1 (ratio f) f.above c.args.skip) c.put.new.self c.in-Some.c (ratio c.in_ok-value.value) first c.put.ensures.own c.put.ensures.others c.put.ensures.found told;
       count = c.put.ensures.count ∙ i.count;
       values = λ j l. c.put.ensures.values j (λ e. omega arith) ∙ i.values j (let h = first.later in omega arith);
@@ -87,7 +92,7 @@ returns-clause-gone g c =
     let r = c.requires.row in
     let row = c.args.row.now in
     let f = c.args.factor in
-    let all = filled_all c.loop-c.scratch (is_marked row.marks) (IsProductAt (numbers_of row) (ratio f) c.args.skip) c.loop-c.from c.loop-c.invariant.filled (product_none row _ r.0 r.1 (ratio f) f.above c.args.skip) c.in_default.ensures c.args.skip in
+    let all = filled_all c.loop-c.scratch (is_marked row.marks) (IsProductAt (numbers_of row) (ratio f) c.args.skip) c.loop-c.from c.loop-c.invariant.filled (product_none row _ r.0 r.1 (ratio f) f.above c.args.skip) c.in_default.ensures.first c.args.skip in
     all.0 refl
 
 pub returns-clause-is : goal.returns-clause-is
@@ -95,7 +100,7 @@ returns-clause-is g c j d =
     let r = c.requires.row in
     let row = c.args.row.now in
     let f = c.args.factor in
-    let all = filled_all c.loop-c.scratch (is_marked row.marks) (IsProductAt (numbers_of row) (ratio f) c.args.skip) c.loop-c.from c.loop-c.invariant.filled (product_none row _ r.0 r.1 (ratio f) f.above c.args.skip) c.in_default.ensures j in
+    let all = filled_all c.loop-c.scratch (is_marked row.marks) (IsProductAt (numbers_of row) (ratio f) c.args.skip) c.loop-c.from c.loop-c.invariant.filled (product_none row _ r.0 r.1 (ratio f) f.above c.args.skip) c.in_default.ensures.first j in
     (all.1 d).0
 
 pub returns-clause-fits : goal.returns-clause-fits
@@ -103,5 +108,5 @@ returns-clause-fits g c j d =
     let r = c.requires.row in
     let row = c.args.row.now in
     let f = c.args.factor in
-    let all = filled_all c.loop-c.scratch (is_marked row.marks) (IsProductAt (numbers_of row) (ratio f) c.args.skip) c.loop-c.from c.loop-c.invariant.filled (product_none row _ r.0 r.1 (ratio f) f.above c.args.skip) c.in_default.ensures j in
+    let all = filled_all c.loop-c.scratch (is_marked row.marks) (IsProductAt (numbers_of row) (ratio f) c.args.skip) c.loop-c.from c.loop-c.invariant.filled (product_none row _ r.0 r.1 (ratio f) f.above c.args.skip) c.in_default.ensures.first j in
     (all.1 d).1

@@ -2,7 +2,8 @@ use Rattle.std.proofs.Common.{◌≡◌, ℕ, ◌+◌, ◌<◌, ◌≤◌, ◌^�
 use Rattle.std.specs.Prelude.{unsigned_abs}
 use Rattle.std.proofs.lemmas.Int.{to_z-of_z}
 use Rattle.evidence.proofs.Columns.{by_eq, by_lt}
-use Rattle.marks.specs.Marks.{size_of}
+use Rattle.marks.specs.Marks.{size_of, is_marked}
+use Rattle.marks.proofs.Walks.{kept_by}
 use Rattle.dictionary.specs.Rows.{numbers_of, numer_at, entries_at, IsRow}
 use Rattle.dictionary.proofs.SolvedNumbers.{abs_neg, neg_word}
 use Rattle.dictionary.proofs.Changes.{counted_same, counted_to, kept_numbers}
@@ -11,6 +12,7 @@ use Rattle.dictionary.proofs.solving.negate.Goals.{In-Some, After-read-x}
 
 pub loop-c-init : goal.loop-c-init
 loop-c-init g c = record {
+  kept = c.new-walk.ensures (is_marked c.args.row.now.marks);
   form = c.requires.common;
   denom = refl;
   rows = λ k n is. is;
@@ -21,13 +23,16 @@ loop-c-init g c = record {
   counted = omega arith;
 }
 
+pub next_by-requires : goal.next_by-requires
+next_by-requires g c = c.loop-c.invariant.kept
+
 now : (g : _) (c : In-Some g) (k n : ℕ) → IsRow k n c.args.row.now → c.in-Some.c + 1 < k
-now g c k n is = let r = c.loop-c.invariant.rows k n is in r.inside c.in-Some.c c.in-Some.ensures.is
+now g c k n is = let r = c.loop-c.invariant.rows k n is in r.inside c.in-Some.c c.in-Some.ensures.first.is
 
 -- an entry stands there: its reading is a step
 entry_one : (g : _) (c : In-Some g) → ◌≡◌ {A = ℕ} (cond (entries_at c.loop-c.row c.in-Some.c) 1 0) 1
 unfolding entries_at
-entry_one g c = rw c.in-Some.ensures.is
+entry_one g c = rw c.in-Some.ensures.first.is
 
 pub read-x-requires : goal.read-x-requires
 read-x-requires g c = let r = c.requires.row in let l = now g (goal.at.read-x-requires g c).In-Some r.0 r.1 r.2 in (r.0, r.1, c.loop-c.invariant.rows r.0 r.1 r.2, omega arith)
@@ -66,10 +71,11 @@ overflow_add-from g c =
     record { fits = omega arith }
 
 pub loop-c-preserved : goal.loop-c-preserved
+unfolding entries_at
 loop-c-preserved g c =
     let r = c.requires.row in
     let i = c.loop-c.invariant in
-    let first = c.in-Some.ensures in
+    let first = c.in-Some.ensures.first in
     let old = c.args.row.now in
     let row = c.loop-c.row in
     let x : FitsSigned w64 c.read-x.result = search rules in
@@ -78,6 +84,7 @@ loop-c-preserved g c =
     let told = simp to_z-of_z at c.write.ensures.number in
     let own = told ∙ neg_word c.read-x.result (small g (goal.at.loop-c-preserved g c).After-read-x) in
     record {
+      kept = kept_by _ _ _ _ _ (λ j a. sym (c.write.ensures.marks j (λ e. omega arith))) c.in-Some.ensures.kept;
       form = c.write.ensures.common;
       denom = c.write.ensures.denom ∙ i.denom;
       rows = λ k n h. c.write.ensures.row k n (i.rows k n h) (let a = h.count in let b = r.2.count in omega arith);
@@ -108,7 +115,7 @@ returns-clause-negated g c j =
     let r = c.requires.row in
     let i = c.loop-c.invariant in
     let is = i.rows r.0 r.1 r.2 in
-    by_lt j c.loop-c.from (λ h. i.done j h) (λ h. let zero = is.empty j (c.in_default.ensures j h) in zero ∙ ap neg_ℤ (sym zero ∙ i.rest j h))
+    by_lt j c.loop-c.from (λ h. i.done j h) (λ h. let zero = is.empty j (c.in_default.ensures.first j h) in zero ∙ ap neg_ℤ (sym zero ∙ i.rest j h))
 
 pub returns-clause-cost : goal.returns-clause-cost
 returns-clause-cost g c k n is =

@@ -21,4 +21,4 @@ returns g c =
     let words : ℕ → ℕ = g.W.Words.word_at c.args.words.now in
     let none : HasNoneBelow (64 * (c.args.from / 64 + 1)) (has_bit words) c.args.from = none_here words c.args.from _ (ap (λ (n : ℕ). n / 2 ^ (c.args.from % 64)) c.word.ensures) (omega (arith, c.word.ensures, c.word.type_inv)) c.if-rest-ne0.false in
     let later : c.args.from ≤ 64 * (c.args.from / 64 + 1) = omega arith in
-    answer_after c.first_from.result (has_bit words) c.args.from (64 * (c.args.from / 64 + 1)) (64 * g.W.Words.words c.args.words.now) later none c.first_from.ensures
+    answer_after c.first_from.result (has_bit words) c.args.from (64 * (c.args.from / 64 + 1)) (64 * g.W.Words.words c.args.words.now) later none c.first_from.ensures.first

@@ -5,7 +5,7 @@ use Rattle.std.proofs.lemmas.Int.{to_z-of_z}
 use Rattle.fraction.specs.Frac.{ratio, ratios}
 use Rattle.evidence.specs.Point.{value_at}
 use Rattle.evidence.proofs.Columns.{by_eq, by_lt}
-use Rattle.marks.specs.Marks.{size_of}
+use Rattle.marks.specs.Marks.{size_of, is_marked}
 use Rattle.dictionary.specs.Lowest.{lowest}
 use Rattle.dictionary.specs.Numbers.{HasNumber}
 use Rattle.dictionary.specs.Rows.{numbers_of, entries_at}
@@ -16,13 +16,16 @@ use Rattle.dictionary.proofs.row.Row.spread_numbers.Goals as goal
 use Rattle.dictionary.proofs.row.Row.spread_numbers.Goals.{After-quotient}
 
 pub loop-c-init : goal.loop-c-init
-loop-c-init g c = record { done = λ j l h. absurd (omega arith); within = omega arith; cost = omega arith; counted = omega arith }
+loop-c-init g c = record { kept = c.new-walk.ensures (is_marked c.args.self.now.marks); done = λ j l h. absurd (omega arith); within = omega arith; cost = omega arith; counted = omega arith }
+
+pub next_by-requires : goal.next_by-requires
+next_by-requires g c = c.loop-c.invariant.kept
 
 pub read-requires : goal.read-requires
-read-requires g c = let r = c.requires.row in (_, r.0, r.1, let l = r.1.inside c.in-Some.c c.in-Some.ensures.is in omega arith)
+read-requires g c = let r = c.requires.row in (_, r.0, r.1, let l = r.1.inside c.in-Some.c c.in-Some.ensures.first.is in omega arith)
 
 pub bounds-values-c : goal.bounds-values-c
-bounds-values-c g c = let r = c.requires.row in let l = r.1.inside c.in-Some.c c.in-Some.ensures.is in let s = c.loop-c.auto.values in omega arith
+bounds-values-c g c = let r = c.requires.row in let l = r.1.inside c.in-Some.c c.in-Some.ensures.first.is in let s = c.loop-c.auto.values in omega arith
 
 pub overflow_add-from : goal.overflow_add-from
 unfolding size_of
@@ -31,7 +34,7 @@ overflow_add-from g c =
     let m = c.args.self.now.marks in
     let few = m.few in
     let columns = r.1.columns in
-    let l = r.1.inside c.in-Some.c c.in-Some.ensures.is in
+    let l = r.1.inside c.in-Some.c c.in-Some.ensures.first.is in
     record { fits = omega arith }
 
 value : (g : _) (c : After-quotient g) → ratio c.quotient.result ≡ numbers_of c.args.self.now c.in-Some.c
@@ -47,7 +50,7 @@ skipped : (g : _) (c : After-quotient g) (j : ℕ) → c.loop-c.from ≤ j → j
 unfolding entries_at
 skipped g c j a l h =
     let r = c.requires.row in
-    let first = c.in-Some.ensures in
+    let first = c.in-Some.ensures.first in
     false≢true (sym (first.first j a l) ∙ has_marked c.args.self.now _ r.0 r.1 j h)
 
 pub loop-c-preserved : goal.loop-c-preserved
@@ -56,10 +59,11 @@ loop-c-preserved g c =
     let r = c.requires.row in
     let i = c.loop-c.invariant in
     let at' = (goal.at.loop-c-preserved g c).After-quotient in
-    let first = c.in-Some.ensures in
+    let first = c.in-Some.ensures.first in
     let l = r.1.inside c.in-Some.c first.is in
     let s = c.loop-c.auto.values in
     record {
+      kept = c.in-Some.ensures.kept;
       done = λ j b h. by_eq j c.in-Some.c
           (λ e. ap (λ k. value_at (ratios (set c.loop-c.values c.in-Some.c c.quotient.result)) k) e ∙ set_own c.loop-c.values c.in-Some.c c.quotient.result (omega arith) ∙ value g at' ∙ sym (ap (numbers_of row) e))
           (λ d. set_other c.loop-c.values c.in-Some.c j c.quotient.result d ∙ by_lt j c.loop-c.from (λ k. i.done j k h) (λ k. absurd (skipped g at' j k (omega arith) h)));
@@ -77,7 +81,7 @@ pub returns-clause-spread : goal.returns-clause-spread
 unfolding entries_at
 returns-clause-spread g c j h =
     let r = c.requires.row in
-    by_lt j c.loop-c.from (λ l. c.loop-c.invariant.done j l h) (λ l. absurd (false≢true (sym (c.in_default.ensures j l) ∙ has_marked c.args.self.now _ r.0 r.1 j h)))
+    by_lt j c.loop-c.from (λ l. c.loop-c.invariant.done j l h) (λ l. absurd (false≢true (sym (c.in_default.ensures.first j l) ∙ has_marked c.args.self.now _ r.0 r.1 j h)))
 
 pub returns-clause-cost : goal.returns-clause-cost
 returns-clause-cost g c =
