@@ -22,7 +22,7 @@ use Rattle.case_tree.specs.declared.cuts.Cut.{Cut}
 use Rattle.case_tree.specs.Cuts.{cut}
 use Rattle.cert_checker.proofs.Widths.{cut-instance}
 use Rattle.search_rules.specs.Branching.{Case}
-use Rattle.search_rules.specs.Search.{SearchMoment, Outcome, To, Out, NextOfSearch, GoesFrom, IsCaseRun, IsNext, early, nodes_so_far, ComesInSearch, goes_on, IsSearchAnswer, searched, given_up_after}
+use Rattle.search_rules.specs.Search.{SearchMoment, Outcome, To, Out, NextOfSearch, GoesFrom, IsCaseRun, IsNextInSearch, early, nodes_so_far, ComesInSearch, goes_on, IsSearchAnswer, searched, given_up_after}
 use Rattle.branch_bound.specs.declared.ended.Ended.{Ended}
 use Rattle.branch_bound.specs.declared.level.Level.{Level}
 use Rattle.branch_bound.specs.declared.limits.Limits.{Limits}
@@ -97,7 +97,7 @@ module _ (P : Problem) (t : Terms) (m : SearchMoment) (comes : ComesInSearch P t
         visited : IsCaseRun P t m e (clock_of turns (m.clock.looks + suc k))
         visited = case_run e (m.clock.looks + suc k) (not_now m.clock.looks k t.stop after) (m.clock.looks + 1 + k) (omega arith) run
 
-        next_on : (next : NextOfSearch) → GoesFrom P t C rest (record m { clock = clock }) (looked_once m.clock) e next → IsNext P t m next
+        next_on : (next : NextOfSearch) → GoesFrom P t C rest (record m { clock = clock }) (looked_once m.clock) e next → IsNextInSearch P t m next
         unfolding visited case_run
         next_on next goes = inr (inr (record { end = e; clock = clock; visit = visited; goes = goes }))
 

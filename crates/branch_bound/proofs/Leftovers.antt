@@ -21,12 +21,12 @@ use Rattle.simplex_rules.proofs.Facts.{HasPlace}
 use Rattle.simplex_rules.proofs.Soundness.{IsPlaced}
 use Rattle.simplex_rules.proofs.MultiplierLists.{collected_all, collected_ascending}
 use Rattle.simplex.proofs.ValueLists.{collected_alike}
-use Rattle.search_rules.specs.Cuts.{IsLess, IsLeft, LeftFits, AreLeftWithin, NoneIsLeftAtZero, AreCutMultipliers}
+use Rattle.search_rules.specs.Cuts.{IsLessBy, IsLeftOver, LeftFits, AreLeftWithin, NoneIsLeftAtZero, AreCutMultipliers}
 
 -- of the first n entries of an equation x: what is left of them, in multipliers; and whether something is left at a column that stands at 0
 pub record AreLeft (ss : List Status) (x : ℕ → Ratio) (n : ℕ) (ms : List Multiplier) (at_zero : Bool) : Type 0 where
   pub left : ℕ → Ratio
-  pub are : (c : ℕ) → c < n → IsLeft (status_at ss c) (x c) (left c)
+  pub are : (c : ℕ) → c < n → IsLeftOver (status_at ss c) (x c) (left c)
   pub fits : (c : ℕ) → c < n → LeftFits (status_at ss c) (x c)
   pub is : ms ≡ collected left n
   pub clear : at_zero ≡ false → (c : ℕ) → c < n → status_at ss c ≡ Zero → (x c).num ≡ pos 0
@@ -43,7 +43,7 @@ left_none ss x = record {
 }
 
 -- at 0 all of the entry is left
-whole_left : (s : Status) (x r : Ratio) → s ≡ Zero → IsLeft s x r → r ≡ x
+whole_left : (s : Status) (x r : Ratio) → s ≡ Zero → IsLeftOver s x r → r ≡ x
 whole_left Basic x r e h = absurd (cc)
 whole_left Lower x r e h = absurd (cc)
 whole_left Upper x r e h = absurd (cc)
@@ -51,7 +51,7 @@ whole_left Zero x r e h = h
 
 module _ (ss : List Status) (x : ℕ → Ratio) (n : ℕ) (ms : List Multiplier) (old : Bool) (are : AreLeft ss x n ms old) where
   -- one column more
-  module _ (v : Ratio) (new : Bool) (is : IsLeft (status_at ss n) (x n) v) (fits : LeftFits (status_at ss n) (x n)) (yes : new ≡ true → (old ≡ true) ⊎ ((status_at ss n ≡ Zero) × (v.num ≡ pos 0 → ⊥))) (no : new ≡ false → (old ≡ false) × (status_at ss n ≡ Zero → v.num ≡ pos 0)) where
+  module _ (v : Ratio) (new : Bool) (is : IsLeftOver (status_at ss n) (x n) v) (fits : LeftFits (status_at ss n) (x n)) (yes : new ≡ true → (old ≡ true) ⊎ ((status_at ss n ≡ Zero) × (v.num ≡ pos 0 → ⊥))) (no : new ≡ false → (old ≡ false) × (status_at ss n ≡ Zero → v.num ≡ pos 0)) where
     abbrev more : ℕ → Ratio
     more c = cond (nat_eq c n) v (are.left c)
 
@@ -66,8 +66,8 @@ module _ (ss : List Status) (x : ℕ → Ratio) (n : ℕ) (ms : List Multiplier)
       left = more;
       are = λ c h.
           by_lt c n
-          (λ l. subst (IsLeft (status_at ss c) (x c)) (sym (other c l)) (are.are c l))
-          (λ l. let e : n ≡ c = omega arith in subst (IsLeft (status_at ss c) (x c)) (sym (own c e)) (subst (λ i. IsLeft (status_at ss i) (x i) v) e is));
+          (λ l. subst (IsLeftOver (status_at ss c) (x c)) (sym (other c l)) (are.are c l))
+          (λ l. let e : n ≡ c = omega arith in subst (IsLeftOver (status_at ss c) (x c)) (sym (own c e)) (subst (λ i. IsLeftOver (status_at ss i) (x i) v) e is));
       fits = λ c h. by_lt c n (are.fits c) (λ l. let e : n ≡ c = omega arith in subst (λ i. LeftFits (status_at ss i) (x i)) e fits);
       is =
           ap₂ (λ (ns : List Multiplier) (w : Ratio). ns ++ one_of n w.num w) (are.is ∙ sym (collected_alike n more are.left other)) (sym (own n refl))
@@ -117,7 +117,7 @@ not_over r s e d h =
     let z = zero-*ℤ (pos r.den) in
     most-from_times r.num (pos 0) s.den d (omega (arith, ints))
 
-module _ (x r : Ratio) (k : ℤ) (number : IsNumber x) (less : IsLess x k r) where
+module _ (x r : Ratio) (k : ℤ) (number : IsNumber x) (less : IsLessBy x k r) where
   below_den : 0 < (sum x (negative (whole k))).den
   below_den = omega arith
 
@@ -137,7 +137,7 @@ module _ (x r : Ratio) (k : ℤ) (number : IsNumber x) (less : IsLess x k r) whe
       not_over r (sum x (negative (whole k))) less.same below_den (omega (arith, ints))
 
 -- what is left has a number, and an end on its side
-left_number : (s : Status) (x r : Ratio) → IsNumber x → IsLeft s x r → IsNumber r
+left_number : (s : Status) (x r : Ratio) → IsNumber x → IsLeftOver s x r → IsNumber r
 left_number Basic x r n e = subst IsNumber (sym e) none-number
 left_number Lower x r n (k, f, l) = let a = l.reduced in a.0
 left_number Upper x r n (k, f, l) = let a = l.reduced in a.0
@@ -152,7 +152,7 @@ down_end (pos zero) g h nonzero s = absurd (nonzero refl)
 down_end (pos (suc n)) g h nonzero s = absurd (omega (arith, ints))
 down_end (negsuc n) g h nonzero s = s
 
-left_end : (s : Status) (g : Range) (x r : Ratio) → IsNumber x → HasPlace g s → IsLeft s x r → (s ≡ Zero → x.num ≡ pos 0) → (r.num ≡ pos 0 → ⊥) → IsSome (end_by r.num g)
+left_end : (s : Status) (g : Range) (x r : Ratio) → IsNumber x → HasPlace g s → IsLeftOver s x r → (s ≡ Zero → x.num ≡ pos 0) → (r.num ≡ pos 0 → ⊥) → IsSome (end_by r.num g)
 left_end Basic g x r n place e zeros nonzero = absurd (nonzero (ap (λ (q : Ratio). q.num) e))
 left_end Lower g x r n place (k, f, l) zeros nonzero = up_end r.num g (less_floor x r k n l f) place
 left_end Upper g x r n place (k, f, l) zeros nonzero = down_end r.num g (less_ceiling x r k n l f) nonzero place.0

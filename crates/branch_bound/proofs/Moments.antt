@@ -24,7 +24,7 @@ use Rattle.branch_bound.specs.declared.walk.Walk.{Walk}
 use Rattle.branch_bound.specs.Walks.{best, found, case, rest, rest_by, waiting, node_by, divided_cases_by, IsClosedBy, IsDividedBy}
 use Rattle.branch_bound.specs.Divisions.{IsOpenAt}
 use Rattle.branch_bound.specs.Levels.{level, moment}
-use Rattle.branch_bound.specs.Trials.{IsFresh}
+use Rattle.branch_bound.specs.Trials.{IsFreshWalk}
 
 -- one more node
 pub node_more : (ns ms : List Own.Node) (n : Node) → Means.nodes ms ≡ Means.nodes ns ++ n ∷ [] → length ms ≡ length ns + 1
@@ -58,7 +58,7 @@ module _ (p : Parts) (L D : Instance) (v : Level) (c : Clock) (w : Walk) (d : �
   branches x Zero j point opened at = inr (j, opened, ap To (divides x Zero j at))
 
   -- the first case of a level is to be searched anew with a cut
-  module _ (E : Instance) (u : Level) (ms : List Multiplier) (cs : List ℤ) (k : ℤ) (fresh : IsFresh p w) (at : w.next ≡ Some d) (variables : D.variables ≡ (program p).variables) (is : E ≡ derive D cs k) where
+  module _ (E : Instance) (u : Level) (ms : List Multiplier) (cs : List ℤ) (k : ℤ) (fresh : IsFreshWalk p w) (at : w.next ≡ Some d) (variables : D.variables ≡ (program p).variables) (is : E ≡ derive D cs k) where
     same_case : cut E w.cuts.items ≡ derive (cut D w.cuts.items) cs k
     same_case =
         ap (λ (J : Instance). cut J w.cuts.items) is

@@ -27,7 +27,7 @@ use Rattle.case_tree.specs.Cuts.{cut_variable, AreBranches}
 use Rattle.instance.specs.declared.parts.Goal.{Goal as Own}
 use Rattle.instance.specs.declared.parts.Sense.{Sense}
 use Rattle.search_rules.specs.Branching.{Case}
-use Rattle.search_rules.specs.Search.{Found, SearchMoment, Outcome, NextOfSearch, Out, undivided, begun_at, shown_at, reached, nodes_with, nodes_so_far, early, IsStop, StopsBefore, Closes, AsksNext, IsNext, ComesInSearch, IsSearchAnswer, given_up}
+use Rattle.search_rules.specs.Search.{Found, SearchMoment, Outcome, NextOfSearch, Out, undivided, begun_at, shown_at, reached, nodes_with, nodes_so_far, early, IsStop, StopsBefore, Closes, AsksNext, IsNextInSearch, ComesInSearch, IsSearchAnswer, given_up}
 use Rattle.simplex_rules.specs.Ends.{Terms, Clock}
 use Rattle.simplex_rules.specs.Looks.{AgreesWith}
 use Rattle.simplex_rules.specs.Runs.{looked_once}
@@ -39,7 +39,7 @@ use Rattle.branch_bound.specs.declared.found.Found as Best
 use Rattle.branch_bound.specs.Walks.{case, ray, found, best, waiting, IsWalk}
 use Rattle.branch_bound.specs.Levels.{level, moment, IsAtLevel}
 use Rattle.branch_bound.specs.Asking.{turned_by}
-use Rattle.branch_bound.specs.Trials.{IsFresh}
+use Rattle.branch_bound.specs.Trials.{IsFreshWalk}
 
 -- the best value of a level's goal without the goal's constant, each turned
 module _ (g : Own) (v a b : Frac) (left : ratio a ≡ minimising_by (sense g.sense) (ratio v)) (right : ratio b ≡ minimising_by (sense g.sense) (ratio g.constant)) (L : Instance) (is : L.goal ≡ goal g) where
@@ -90,7 +90,7 @@ nodes_more [] c n = refl
 nodes_more (d ∷ cs) c n = ap (λ k. length d.nodes + k) (nodes_more cs c n)
 
 -- before its first case the walk is at the level's program itself
-module _ (p : Parts) (K : Instance) (v : Level) (w : Walk) (c : Clock) (fresh : IsFresh p w) (no_ray : w.ray ≡ None) (vars : K.variables ≡ (program p).variables) where
+module _ (p : Parts) (K : Instance) (v : Level) (w : Walk) (c : Clock) (fresh : IsFreshWalk p w) (no_ray : w.ray ≡ None) (vars : K.variables ≡ (program p).variables) where
   case_is : case K w 0 ≡ undivided K
   case_is = ap₂ (λ vs (r : Option (List Ratio)). record { program = record K { variables = vs }; divided = []; ray = r }) (fresh.uncut ∙ sym vars) (ap ray no_ray)
 
@@ -101,7 +101,7 @@ module _ (p : Parts) (K : Instance) (v : Level) (w : Walk) (c : Clock) (fresh : 
       ∙ ap (λ rs. record { level = level p K v; rounds = rs; waiting = undivided K ∷ []; nodes = []; clock = c; best = best w.best }) (ap Means.rounds none_derived)
 
 -- and it is a walk
-pub fresh_walk : (p : Parts) (w : Walk) → IsFresh p w → w.ray ≡ None → IsWalk (length p.vars) w
+pub fresh_walk : (p : Parts) (w : Walk) → IsFreshWalk p w → w.ray ≡ None → IsWalk (length p.vars) w
 fresh_walk p w fresh no_ray = record {
   width = sym (length-map w.cuts.items cut_variable) ∙ ap length fresh.uncut ∙ length-map p.vars variable;
   room = subst (λ o. IfSome o (λ d. d ≤ length w.branches.items)) (sym fresh.next) (omega arith);
@@ -130,7 +130,7 @@ module _ (p : Parts) (v : Level) (w : Walk) (L D : Instance) (c : Clock) (t : Te
   abbrev pub after : List Goal
   after = drop (u + 1) (goals p.goals)
 
-  pub asks : (next : NextOfSearch) → AsksNext (problem p) t here (found f) asked after next → IsNext (problem p) t here next
+  pub asks : (next : NextOfSearch) → AsksNext (problem p) t here (found f) asked after next → IsNextInSearch (problem p) t here next
   asks next a =
       let later : drop (v.goal + 1) (goals p.goals) ≡ asked ∷ after = ap (λ n. drop n (goals p.goals)) (sym next_one) ∙ at_drop_more (λ l. l) (goals p.goals) u no_goal (let n = length-map p.goals goal in omega arith) in
       inl (

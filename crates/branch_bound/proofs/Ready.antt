@@ -18,7 +18,7 @@ use Rattle.branch_bound.specs.declared.relaxation.Relaxation.{Relaxation}
 use Rattle.branch_bound.specs.declared.walk.Walk.{Walk}
 use Rattle.branch_bound.specs.Walks.{IsWalk, IsAt}
 use Rattle.branch_bound.specs.Levels.{AsksGoal, level, IsGiven, IsAtLevel}
-use Rattle.branch_bound.specs.Cases.{HasSize, SuitsLevel, AreWithin, HaveValues, IsWalkReady, GoesFurther, HasGoneOn}
+use Rattle.branch_bound.specs.Cases.{HasSize, SuitsLevel, AreNodesWithin, HaveValues, IsWalkReady, GoesFurther, HasGoneOn}
 
 -- at a case the walk is a walk
 pub at_walk : (n d : ℕ) (w : Walk) → IsAt n w d → IsWalk n w
@@ -84,10 +84,10 @@ module _ (l : Limits) (v u : Level) (w x : Walk) (further : GoesFurther l v u w 
   abbrev left : Level → Walk → ℕ
   left y z = (l.nodes - (y.before + length z.nodes)) + (l.rounds - length y.rounds)
 
-  pub further_within : AreWithin l u x
+  pub further_within : AreNodesWithin l u x
   further_within = by further.one
     where
-      by : ((length x.nodes ≡ length w.nodes + 1) × (length u.rounds ≡ length v.rounds)) ⊎ ((length x.nodes ≡ length w.nodes) × (length u.rounds ≡ length v.rounds + 1) × (length v.rounds < l.rounds)) → AreWithin l u x
+      by : ((length x.nodes ≡ length w.nodes + 1) × (length u.rounds ≡ length v.rounds)) ⊎ ((length x.nodes ≡ length w.nodes) × (length u.rounds ≡ length v.rounds + 1) × (length v.rounds < l.rounds)) → AreNodesWithin l u x
       by (inl (one, same)) = let low = further.within in let b = further.level.1 in omega arith
       by (inr (same, more, fewer)) = let low = further.within in let b = further.level.1 in omega arith
 

@@ -15,7 +15,7 @@ use Rattle.case_tree.specs.declared.cuts.Division.TheVariants.{Split, Zero}
 use Rattle.case_tree.specs.Cuts.{cut, cut_variable, HasNext}
 use Rattle.search_rules.specs.Branching.{IsWholeBelow, IsMet, AreMetBelow}
 use Rattle.search_rules.specs.Cuts.{IsFractional}
-use Rattle.branch_bound.specs.Divisions.{IsDivision, IsOpenAt}
+use Rattle.branch_bound.specs.Divisions.{NeedsDivision, IsOpenAt}
 use Rattle.branch_bound.proofs.Floors.{floor_within}
 
 some_where : {T : Type 0} (o : Option T) (P : T → Type 0) → (IfSome o P → ⊥) → IsSome o
@@ -32,12 +32,12 @@ module _ (I : Of.Instance) (cs : List Cut) (point : List Ratio) (j : ℕ) (c : C
       let own : cut_variable c ≡ Of.variable_at (cut I cs) j = ap cut_variable is ∙ sym (get_or-map cut_variable cs j c Of.no_variable low) in
       subst (λ v. P v (value_at point j)) own (subst (P (cut_variable c)) (sym here) p)
 
-  pub open_at : (by : Division) → IsDivision (cut_variable c) (ratio x) by → AreMetBelow (cut I cs) point j → IsOpenAt (cut I cs) point j by
+  pub open_at : (by : Division) → NeedsDivision (cut_variable c) (ratio x) by → AreMetBelow (cut I cs) point j → IsOpenAt (cut I cs) point j by
   open_at (Split k) d below =
       let den : x.denom ≢ 1 = λ e. d.2 (over_one_whole (ratio x) e) in
       let two : 2 ≤ x.denom = let a = x.above in omega (arith, den) in
       let within = floor_within (ratio x) k two x.numer_within d.3 in
-      let h = held (λ v y. IsDivision v y (Split k)) d in
+      let h = held (λ v y. NeedsDivision v y (Split k)) d in
       record {
         branch = record { variable = inside; whole = h.1; low = within.0; high = within.1 };
         below = below;
@@ -46,7 +46,7 @@ module _ (I : Of.Instance) (cs : List Cut) (point : List Ratio) (j : ℕ) (c : C
         floor = h.3;
       }
   open_at Zero d below =
-      let h = held (λ v y. IsDivision v y Zero) d in
+      let h = held (λ v y. NeedsDivision v y Zero) d in
       record {
         branch = record { variable = inside; further = some_where (Of.variable_at (cut I cs) j).unless_zero (λ r. IsZeroOr r (value_at point j)) h };
         below = below;

@@ -12,7 +12,7 @@ use Rattle.evidence.specs.Rounds.{IsCeiling}
 use Rattle.evidence.proofs.UniqueRows.{low-number}
 use Rattle.cert_checker.specs.Programs.{MayRound, numerators}
 use Rattle.cert_checker.specs.RoundRefusals.{WholeFormsBelow, IsFirstPart, IsWideRound}
-use Rattle.search_rules.specs.Cuts.{IsCutFormBy, AreCutForms, IsWideCut, IsNoCut, IsCut}
+use Rattle.search_rules.specs.Cuts.{IsCutFormBy, AreCutForms, IsWideCut, IsNoCut, MakesCut}
 
 -- a sum as a round's must be is as a cut's must be
 cut_form : (b : Bool) (x : Ratio) → IsWhole x × ((IsTrue b → ⊥) → IsSame x none) → IsCutFormBy b x
@@ -43,7 +43,7 @@ module _ (I : Instance) (ms : List Multiplier) where
       record { number = w.number; same = IsSame-trans (low_sum I none ms) (ratio s) (whole w.number) s.above (sym may.same) w.same },
     )
 
-    pub is_cut : (k : ℤ) → IsInstance I → AreLegal I ms → (IsWhole (ratio s) → ⊥) → IsCeiling (ratio s) k → neg_ℤ (pos most) ≤ℤ k → IsCut I ms (numerators slots) k
+    pub is_cut : (k : ℤ) → IsInstance I → AreLegal I ms → (IsWhole (ratio s) → ⊥) → IsCeiling (ratio s) k → neg_ℤ (pos most) ≤ℤ k → MakesCut I ms (numerators slots) k
     is_cut k good legal isnt ceiling low =
         let m = may.makes k ceiling low in
         record {

@@ -29,7 +29,7 @@ EndsWide P t m next =
     StopsBefore P t m next ⊎ (Begins P t m × (next ≡ Out (early m.best (Wide (record { node = 1; turn = m.clock.turns; step = Values }))) (looked_once m.clock)))
 
 -- after level v, whose walk was w, the one of program K has begun, and shows what was shown and what showed level v
-pub record HasBegun {M : _} {G : _} (p : Parts) (v : Level) (w : Walk) (K : Instance) (r : Relaxation M G) (u : Level) (x : Walk) : Type 0 where
+pub record HasBegunLevel {M : _} {G : _} (p : Parts) (v : Level) (w : Walk) (K : Instance) (r : Relaxation M G) (u : Level) (x : Walk) : Type 0 where
   pub at : IsAtLevel p r u K K
   pub shown : Means.certificates u.certs ≡ Means.certificates v.certs ++ record { rounds = Means.rounds v.rounds; nodes = Means.nodes w.nodes } ∷ []
   pub begins : (c : Clock) → moment p K K u x c ≡ begun_at (level p K u) c (best w.best)

@@ -26,7 +26,7 @@ use Rattle.branch_bound.specs.declared.walk.Walk.{Walk}
 use Rattle.branch_bound.specs.Claims.{is_kill}
 use Rattle.branch_bound.specs.Walks.{best, case, rest, IsWalk, IsAt}
 use Rattle.branch_bound.specs.Levels.{moment, IsGiven, IsAtLevel}
-use Rattle.branch_bound.specs.Trials.{IsFresh}
+use Rattle.branch_bound.specs.Trials.{IsFreshWalk}
 
 abbrev pub terms : Limits → Option ℕ → Terms
 terms l stop = record { nodes = l.nodes; turns = l.turns; rounds = l.rounds; stop = stop }
@@ -61,8 +61,8 @@ pub record SuitsLevel {L : _} {G : _} (p : Parts) (r : Relaxation L G) (v : Leve
   pub one : length p.goals ≡ 1 → IsGiven p r.ends (with_rows (program p) r.rows.items) × (length r.rows.items ≡ length r.ends.rows)
 
 -- no more nodes stand than the limit, on all levels
-abbrev pub AreWithin : Limits → Level → Walk → Type 0
-AreWithin l v w = v.before + length w.nodes ≤ l.nodes
+abbrev pub AreNodesWithin : Limits → Level → Walk → Type 0
+AreNodesWithin l v w = v.before + length w.nodes ≤ l.nodes
 
 -- the best point has a value for each goal
 abbrev pub HaveValues : Parts → Option Best.Found → Type 0
@@ -70,7 +70,7 @@ HaveValues p best = (f : Best.Found) → best ≡ Some f → length f.values ≡
 
 -- before a level's first node the walk is at the first case
 abbrev pub StartsFresh : Parts → Walk → Type 0
-StartsFresh p w = w.nodes ≡ [] → IsFresh p w
+StartsFresh p w = w.nodes ≡ [] → IsFreshWalk p w
 
 -- and the walk is at a case whose node may be begun
 pub record IsWalkReady {L : _} {G : _} (p : Parts) (l : Limits) (r : Relaxation L G) (v : Level) (w : Walk) (d : ℕ) : Type 0 where

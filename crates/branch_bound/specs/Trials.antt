@@ -65,7 +65,7 @@ pub record RanTo {L : _} {G : _} (J : Instance) (e : End) (w : Work L G) : Type 
   pub dictionary : HasDictionary J false (statuses_in w) (entries_in w)
 
 -- a level none of whose nodes was begun: the case at hand is the first one
-pub record IsFresh (p : Parts) (w : Walk) : Type 0 where
+pub record IsFreshWalk (p : Parts) (w : Walk) : Type 0 where
   pub nodes : w.nodes ≡ []
   pub uncut : AreUncut (program p) w.cuts.items
   pub next : w.next ≡ Some 0

@@ -16,9 +16,9 @@ ghost use Rattle.search_rules.specs.Search.{SearchMoment, Out, nodes_so_far};
 ghost use Rattle.branch_bound.specs.declared.found.Found as points;
 ghost use Rattle.branch_bound.specs.Walks.{best as best_of, IsWalk};
 ghost use Rattle.branch_bound.specs.Levels.{IsGiven, IsAtLevel};
-ghost use Rattle.branch_bound.specs.Trials.{IsFresh};
-ghost use Rattle.branch_bound.specs.Cases.{terms, HasSize, SuitsLevel, outcome_of, was_killed, clock_at, is_killed_by, StartsFresh, AreWithin, CarriesOn, HaveValues};
-ghost use Rattle.branch_bound.specs.Asking.{turned_by, EndsWide, HasBegun};
+ghost use Rattle.branch_bound.specs.Trials.{IsFreshWalk};
+ghost use Rattle.branch_bound.specs.Cases.{terms, HasSize, SuitsLevel, outcome_of, was_killed, clock_at, is_killed_by, StartsFresh, AreNodesWithin, CarriesOn, HaveValues};
+ghost use Rattle.branch_bound.specs.Asking.{turned_by, EndsWide, HasBegunLevel};
 
 use crate::claims::give_up;
 use crate::ended::Ended;
@@ -123,11 +123,11 @@ fn ask_next<L: Ledger>(
     requires few { level.old.before + length walk.old.nodes < 2 ^ 64 }
     requires few_goals { length instance.now.goals ≤ 8 }
     ensures suits { IfOk result (λ _. SuitsLevel instance.now relaxation.new level.new) }
-    ensures fresh { IfOk result (λ _. IsFresh instance.now walk.new) }
+    ensures fresh { IfOk result (λ _. IsFreshWalk instance.now walk.new) }
     ensures walk { IfOk result (λ _. IsWalk (length instance.now.vars) walk.new) }
     ensures goal { IfOk result (λ _. level.new.goal ≡ level.old.goal + 1) }
     ensures before { IfOk result (λ _. level.new.before ≡ level.old.before + length walk.old.nodes) }
-    ensures begun { IfOk result (λ _. (L D : Of.Instance) → IsAtLevel instance.now relaxation.old level.old L D → HasBegun instance.now level.old walk.old (next_level L (ratio end) (get_or (goals instance.now.goals) level.new.goal Of.no_goal)) relaxation.new level.new walk.new) }
+    ensures begun { IfOk result (λ _. (L D : Of.Instance) → IsAtLevel instance.now relaxation.old level.old L D → HasBegunLevel instance.now level.old walk.old (next_level L (ratio end) (get_or (goals instance.now.goals) level.new.goal Of.no_goal)) relaxation.new level.new walk.new) }
     ensures best { walk.new.best ≡ walk.old.best }
     ensures turns { relaxation.new.turns ≡ relaxation.old.turns }
 {
@@ -185,14 +185,14 @@ pub fn next_goal<W: Watch, L: Ledger>(
     watch: &mut W,
 ) -> Result<(), Ended>
     requires suits { SuitsLevel instance.now relaxation.old level.old }
-    requires within { AreWithin limits level.old walk.old }
+    requires within { AreNodesWithin limits level.old walk.old }
     requires later { level.old.goal + 1 < length instance.now.goals }
     requires width { length walk.old.cuts.items ≡ length instance.now.vars }
     requires closed { walk.old.next ≡ None }
     requires value { (f : points.Found) × (walk.old.best ≡ Some f) × (value_at (ratios f.values) level.old.goal ≡ ratio value) }
     requires stops { W.stops watch.old < 2 ^ 64 - 1 }
     ensures suits { IfOk result (λ _. SuitsLevel instance.now relaxation.new level.new) }
-    ensures within { IfOk result (λ _. AreWithin limits level.new walk.new) }
+    ensures within { IfOk result (λ _. AreNodesWithin limits level.new walk.new) }
     ensures fresh { IfOk result (λ _. StartsFresh instance.now walk.new) }
     ensures goal { IfOk result (λ _. level.new.goal ≡ level.old.goal + 1) }
     ensures turns { relaxation.new.turns ≡ relaxation.old.turns }

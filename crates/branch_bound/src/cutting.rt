@@ -13,7 +13,7 @@ ghost use Rattle.simplex_rules.specs.declared.columns.Status.TheVariants.{Zero};
 ghost use Rattle.simplex_rules.specs.Statuses.{status_at, basic_in};
 ghost use Rattle.simplex.specs.Answers.{side_of};
 ghost use Rattle.simplex.specs.Memory.{width_in, height_in, point_of, statuses_in, entries_in, IsAtBasis};
-ghost use Rattle.search_rules.specs.Cuts.{IsFractional, IsLeft, LeftFits, TriesMultipliers, TriesEquation, TriesBasis};
+ghost use Rattle.search_rules.specs.Cuts.{IsFractional, IsLeftOver, LeftFits, TriesMultipliers, TriesEquation, TriesBasis};
 ghost use Rattle.search_rules.specs.Branching.{IsWholeBelow};
 ghost use Rattle.branch_bound.specs.Trials.{status_of, tried, LeavesOf, HoldsCut, RanTo};
 
@@ -63,7 +63,7 @@ fn first_fractional<L: Ledger>(work: &Work<L>, cuts: &[Cut]) -> Option<u32>
 
 /// What is left of an entry: at the lower end of its column, less its floor; at the upper one, less its ceiling; at 0, all of it.
 fn left_of(side: Side, entry: Frac) -> Result<Frac, Wide>
-    ensures ok { IfOk result (λ left. IsLeft (status_of side) (ratio entry) (ratio left)) }
+    ensures ok { IfOk result (λ left. IsLeftOver (status_of side) (ratio entry) (ratio left)) }
     ensures fits { IfOk result (λ _. LeftFits (status_of side) (ratio entry)) }
     ensures wide { OnErr result (LeftFits (status_of side) (ratio entry) → ⊥) }
 {
@@ -87,7 +87,7 @@ fn left_beside<L: Ledger>(
     requires column { col < width_in work.now + height_in work.now }
     requires basic { basic_in (statuses_in work.now) variable ≡ true }
     requires side { Some side ≡ side_of (status_at (statuses_in work.now) col) }
-    ensures ok { IfOk result (λ left. IsLeft (status_at (statuses_in work.now) col) (entries_in work.now variable col) (ratio left)) }
+    ensures ok { IfOk result (λ left. IsLeftOver (status_at (statuses_in work.now) col) (entries_in work.now variable col) (ratio left)) }
     ensures fits { IfOk result (λ _. LeftFits (status_at (statuses_in work.now) col) (entries_in work.now variable col)) }
     ensures wide { OnErr result (LeftFits (status_at (statuses_in work.now) col) (entries_in work.now variable col) → ⊥) }
     ensures counted { steps.old ≤ steps.new }
@@ -109,7 +109,7 @@ fn left_at<L: Ledger>(
     requires row { variable < width_in work.now + height_in work.now }
     requires column { col < width_in work.now + height_in work.now }
     requires basic { basic_in (statuses_in work.now) variable ≡ true }
-    ensures ok { IfOk result (λ left. IsLeft (status_at (statuses_in work.now) col) (entries_in work.now variable col) (ratio left)) }
+    ensures ok { IfOk result (λ left. IsLeftOver (status_at (statuses_in work.now) col) (entries_in work.now variable col) (ratio left)) }
     ensures fits { IfOk result (λ _. LeftFits (status_at (statuses_in work.now) col) (entries_in work.now variable col)) }
     ensures wide { OnErr result (LeftFits (status_at (statuses_in work.now) col) (entries_in work.now variable col) → ⊥) }
     ensures counted { steps.old ≤ steps.new }

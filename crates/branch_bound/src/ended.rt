@@ -1,3 +1,5 @@
+//! The early ends of a search.
+
 use crate::found::Found;
 use certificate::{Cause, Ray};
 

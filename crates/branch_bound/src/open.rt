@@ -6,7 +6,7 @@ ghost use Rattle.evidence.specs.Instance as Of;
 ghost use Rattle.case_tree.specs.Cuts.{cut, cut_variable};
 ghost use Rattle.simplex.specs.Memory.{width_in, point_of};
 ghost use Rattle.search_rules.specs.Branching.{IsMet, AreMetBelow};
-ghost use Rattle.branch_bound.specs.Divisions.{IsDivision, IsOpenAt};
+ghost use Rattle.branch_bound.specs.Divisions.{NeedsDivision, IsOpenAt};
 
 use crate::points::coordinate;
 use case_tree::{Cut, Division};
@@ -33,7 +33,7 @@ pub fn is_fractional(var: Var, value: Frac) -> bool
 /// How a variable's value divides its case: it is neither 0 nor within the variable's own ends, or it isn't whole. None where it is
 /// as it must be.
 fn division_at(cut: &Cut, value: Frac) -> Option<Division>
-    ensures { MatchOption result (IsMet (cut_variable cut.now) (ratio value)) (IsDivision (cut_variable cut.now) (ratio value)) }
+    ensures { MatchOption result (IsMet (cut_variable cut.now) (ratio value)) (NeedsDivision (cut_variable cut.now) (ratio value)) }
 {
     let var = cut.var;
     if var.zero && value.numer != 0 && !is_between(var.lb, var.ub, value) {

@@ -28,7 +28,7 @@ ghost use Rattle.branch_bound.specs.declared.limits.Limits as limits;
 ghost use Rattle.branch_bound.specs.Walks.{case, rest, IsAt};
 ghost use Rattle.branch_bound.specs.Divisions.{IsOpenAt};
 ghost use Rattle.branch_bound.specs.Levels.{moment, IsGiven, IsAtLevel};
-ghost use Rattle.branch_bound.specs.Trials.{tried, HoldsCut, RanTo, IsFresh, TriesAt};
+ghost use Rattle.branch_bound.specs.Trials.{tried, HoldsCut, RanTo, IsFreshWalk, TriesAt};
 ghost use Rattle.branch_bound.specs.Cases.{outcome_of, was_killed, HasSize, SuitsLevel, IsWalkReady, HasGoneOn, clock_at, OrMemory, ImprovesAt, HaveValues};
 
 use crate::claims::{branch, give_up, too_wide};
@@ -197,7 +197,7 @@ fn go_on<L: Ledger>(
     requires at { IsAt (length instance.now.vars) walk.old depth }
     requires few { length walk.old.nodes < 2 ^ 32 - 1 }
     requires one { length instance.now.goals ≡ 1 }
-    requires fresh { IsFresh instance.now walk.old }
+    requires fresh { IsFreshWalk instance.now walk.old }
     requires divides { (D : Of.Instance) → IsOpenAt (cut D walk.old.cuts.items) (point_of relaxation.old.work) at.col at.by }
     requires holds { HoldsCut (length instance.now.vars) trial relaxation.old.slots.items }
     requires values { HaveValues instance.now walk.old.best }
@@ -235,7 +235,7 @@ fn cut_or_branch<L: Ledger>(
     requires at { IsAt (length instance.now.vars) walk.old depth }
     requires few { length walk.old.nodes < 2 ^ 32 - 1 }
     requires one { length instance.now.goals ≡ 1 }
-    requires fresh { IsFresh instance.now walk.old }
+    requires fresh { IsFreshWalk instance.now walk.old }
     requires divides { (D : Of.Instance) → IsOpenAt (cut D walk.old.cuts.items) (point_of relaxation.old.work) at.col at.by }
     requires stands { IsAtBasis relaxation.old.work }
     requires ran { (e : runs.End) × ((D : Of.Instance) → IsGiven instance.now relaxation.old.ends D → RanTo (cut D walk.old.cuts.items) e relaxation.old.work) }
@@ -269,7 +269,7 @@ pub fn improve<L: Ledger>(
     requires at { IsAt (length instance.now.vars) walk.old depth }
     requires few { length walk.old.nodes < 2 ^ 32 - 1 }
     requires one { length instance.now.goals ≡ 1 }
-    requires fresh { IsFresh instance.now walk.old }
+    requires fresh { IsFreshWalk instance.now walk.old }
     requires ray { walk.old.ray ≡ None }
     requires stands { IsAtBasis relaxation.old.work }
     requires ran { (b : Ratio) × ((D : Of.Instance) → IsGiven instance.now relaxation.old.ends D → RanTo (cut D walk.old.cuts.items) (Best b (point_of relaxation.old.work) (Means.multipliers mults)) relaxation.old.work) }

@@ -12,9 +12,9 @@ ghost use Rattle.search_rules.specs.Outcomes.{IsPlain, HaveOneRange};
 ghost use Rattle.no_cycles.specs.Beginning.{BeginsFeasible};
 ghost use Rattle.branch_bound.specs.Claims.{ClaimTells, claimed_cause, is_killed};
 ghost use Rattle.branch_bound.specs.Walks.{IsWalk, IsAt};
-ghost use Rattle.branch_bound.specs.Trials.{IsFresh};
+ghost use Rattle.branch_bound.specs.Trials.{IsFreshWalk};
 ghost use Rattle.branch_bound.specs.declared.found.Found as points;
-ghost use Rattle.branch_bound.specs.Cases.{terms, HasSize, SuitsLevel, StartsFresh, AreWithin, HasGoneOn, CarriesOn, clock_at, is_killed_by, HaveValues};
+ghost use Rattle.branch_bound.specs.Cases.{terms, HasSize, SuitsLevel, StartsFresh, AreNodesWithin, HasGoneOn, CarriesOn, clock_at, is_killed_by, HaveValues};
 
 use crate::asking::{next_goal, value_to_reach};
 use crate::claims::{all_closed, claim_of, give_up};
@@ -64,7 +64,7 @@ fn step<W: Watch, L: Ledger>(
     requires most { relaxation.old.turns.most ≡ limits.turns }
     requires at { IsAt (length instance.now.vars) walk.old depth }
     requires fresh { StartsFresh instance.now walk.old }
-    requires within { AreWithin limits level.old walk.old }
+    requires within { AreNodesWithin limits level.old walk.old }
     requires stops { W.stops watch.old < 2 ^ 64 - 1 }
     requires values { HaveValues instance.now walk.old.best }
     ensures on { IfOk result (λ _. HasGoneOn instance.now limits level.old walk.old relaxation.new level.new walk.new) }
@@ -110,7 +110,7 @@ fn search_level<W: Watch, L: Ledger>(
     requires most { relaxation.old.turns.most ≡ limits.turns }
     requires walk { IsWalk (length instance.now.vars) walk.old }
     requires fresh { StartsFresh instance.now walk.old }
-    requires within { AreWithin limits level.old walk.old }
+    requires within { AreNodesWithin limits level.old walk.old }
     requires values { HaveValues instance.now walk.old.best }
     requires stops { W.stops watch.old < 2 ^ 64 - 1 }
     ensures suits { IfOk result (λ _. SuitsLevel instance.now relaxation.new level.new) }
@@ -118,7 +118,7 @@ fn search_level<W: Watch, L: Ledger>(
     ensures walk { IfOk result (λ _. IsWalk (length instance.now.vars) walk.new) }
     ensures closed { IfOk result (λ _. walk.new.next ≡ None) }
     ensures values { IfOk result (λ _. HaveValues instance.now walk.new.best) }
-    ensures within { IfOk result (λ _. AreWithin limits level.new walk.new) }
+    ensures within { IfOk result (λ _. AreNodesWithin limits level.new walk.new) }
     ensures goal { IfOk result (λ _. level.new.goal ≡ level.old.goal) }
     ensures moments { (n : ℕ) × (killed : Bool) × (is_killed_by result ≡ killed) × W.came watch.old watch.new (answers n killed) × CarriesOn instance.now limits relaxation.old level.old walk.old relaxation.new level.new walk.new n killed result }
     ensures counted { steps.old ≤ steps.new }
@@ -148,7 +148,7 @@ fn search_next<W: Watch, L: Ledger>(
 ) -> Result<(), Ended>
     requires suits { SuitsLevel instance.now relaxation.old level.old }
     requires most { relaxation.old.turns.most ≡ limits.turns }
-    requires within { AreWithin limits level.old walk.old }
+    requires within { AreNodesWithin limits level.old walk.old }
     requires walk { IsWalk (length instance.now.vars) walk.old }
     requires later { level.old.goal + 1 < length instance.now.goals }
     requires closed { walk.old.next ≡ None }
@@ -157,7 +157,7 @@ fn search_next<W: Watch, L: Ledger>(
     requires stops { W.stops watch.old < 2 ^ 64 - 1 }
     ensures suits { IfOk result (λ _. SuitsLevel instance.now relaxation.new level.new) }
     ensures most { relaxation.new.turns.most ≡ limits.turns }
-    ensures within { IfOk result (λ _. AreWithin limits level.new walk.new) }
+    ensures within { IfOk result (λ _. AreNodesWithin limits level.new walk.new) }
     ensures walk { IfOk result (λ _. IsWalk (length instance.now.vars) walk.new) }
     ensures closed { IfOk result (λ _. walk.new.next ≡ None) }
     ensures values { IfOk result (λ _. HaveValues instance.now walk.new.best) }
@@ -188,7 +188,7 @@ fn search_later<W: Watch, L: Ledger>(
 ) -> Result<(), Ended>
     requires suits { SuitsLevel instance.now relaxation.old level.old }
     requires most { relaxation.old.turns.most ≡ limits.turns }
-    requires within { AreWithin limits level.old walk.old }
+    requires within { AreNodesWithin limits level.old walk.old }
     requires walk { IsWalk (length instance.now.vars) walk.old }
     requires closed { walk.old.next ≡ None }
     requires values { HaveValues instance.now walk.old.best }
@@ -223,7 +223,7 @@ fn search_levels<W: Watch, L: Ledger>(
 ) -> Result<(), Ended>
     requires suits { SuitsLevel instance.now relaxation.old level.old }
     requires most { relaxation.old.turns.most ≡ limits.turns }
-    requires within { AreWithin limits level.old walk.old }
+    requires within { AreNodesWithin limits level.old walk.old }
     requires walk { IsWalk (length instance.now.vars) walk.old }
     requires fresh { StartsFresh instance.now walk.old }
     requires values { HaveValues instance.now walk.old.best }
@@ -259,7 +259,7 @@ fn explore<W: Watch, L: Ledger>(
     requires rows { relaxation.old.rows.items ≡ [] }
     requires turns { relaxation.old.turns ≡ record { done = 0; most = limits.turns } }
     requires walk { IsWalk (length instance.now.vars) walk }
-    requires fresh { IsFresh instance.now walk }
+    requires fresh { IsFreshWalk instance.now walk }
     requires first { (walk.best ≡ None) × (walk.ray ≡ None) }
     requires stops { W.stops watch.old < 2 ^ 64 - 1 }
     ensures answer { (n : ℕ) × (o : Outcome) × ClaimTells result o × W.came watch.old watch.new (answers n (is_killed o)) × ((stop : Option ℕ) → AgreesWith stop 0 n (is_killed o) → IsSearchAnswer (problem instance.now) (terms limits stop) o (clock_at relaxation.new (looks_after 0 n (is_killed o)))) }
@@ -323,7 +323,7 @@ fn uncut_all(alloc: Global, vars: &[Var]) -> Result<Vec<Cut>, AllocError>
 /// The walk before its first case, which is the instance itself.
 fn begin(alloc: Global, instance: &Instance) -> Result<Walk, AllocError>
     ensures walk { IfOk result (λ w. IsWalk (length instance.now.vars) w) }
-    ensures fresh { IfOk result (λ w. IsFresh instance.now w) }
+    ensures fresh { IfOk result (λ w. IsFreshWalk instance.now w) }
     ensures first { IfOk result (λ w. (w.best ≡ None) × (w.ray ≡ None)) }
 {
     Ok(Walk {

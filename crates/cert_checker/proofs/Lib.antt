@@ -19,7 +19,7 @@ pub mod EachCert
 pub mod Values
 pub mod Refusals
 pub mod AddedLeads
-pub mod Climbing
+pub mod NextLevel
 pub mod Certificates
 pub mod OneReason
 pub mod WidthRefusals

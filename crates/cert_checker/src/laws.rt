@@ -1,3 +1,4 @@
+//! Laws of what is accepted, and of what is refused.
 ghost use Rattle.std.specs.Prelude.{◌≡◌, None, List, ◌∷◌, []};
 ghost use Rattle.rational.specs.Ratio.{Ratio};
 ghost use Rattle.evidence.specs.Instance.{Problem, IsProblem};

@@ -1,7 +1,7 @@
 use Rattle.std.proofs.Common.{◌≡◌, ◌<◌, ◌≤◌, true, false, length, refl, arith, subst}
 use Rattle.std.specs.List.{Contains}
 use Rattle.branch_bound.specs.Walks.{divided}
-use Rattle.branch_bound.proofs.Divided.{divided_more, divided_here}
+use Rattle.branch_bound.proofs.ZeroBranches.{divided_more, divided_here}
 use Rattle.branch_bound.proofs.along.was_divided.Goals as goal
 
 pub loop-e-init : goal.loop-e-init

@@ -13,7 +13,7 @@ use Rattle.simplex.specs.Cuts.{Cutting, Suits}
 use Rattle.branch_bound.specs.declared.level.Level.{Level}
 use Rattle.branch_bound.specs.Walks.{best}
 use Rattle.branch_bound.specs.Levels.{level, IsGiven}
-use Rattle.branch_bound.specs.Trials.{IsFresh}
+use Rattle.branch_bound.specs.Trials.{IsFreshWalk}
 use Rattle.branch_bound.specs.Cases.{HasSize}
 use Rattle.branch_bound.proofs.NextGoal.{goal_is, fresh_walk, fresh_moment, next-instance, goal-numbers, nodes_more}
 use Rattle.branch_bound.proofs.GivenRows.{given_goal}
@@ -21,7 +21,7 @@ use Rattle.branch_bound.proofs.asking.ask_next.Goals as goal
 use Rattle.branch_bound.proofs.asking.ask_next.Goals.{After-begin_again}
 
 -- the level begins afresh
-fresh : (g : _) (c : After-begin_again g) → IsFresh c.args.instance.now c.begin_again.new.walk
+fresh : (g : _) (c : After-begin_again g) → IsFreshWalk c.args.instance.now c.begin_again.new.walk
 fresh g c = record { nodes = c.begin_again.ensures.nodes ∙ c.replace-nodes.ensures.after ∙ c.new.ensures; uncut = c.begin_again.ensures.uncut; next = c.begin_again.ensures.next }
 
 size : (g : _) (c : After-begin_again g) → HasSize c.args.instance.now (record c.add_goal_row.new.relaxation { ends = c.ask.new.self })

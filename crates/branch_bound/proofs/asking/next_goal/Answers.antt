@@ -9,7 +9,7 @@ use Rattle.instance.specs.Program.{goal as goal_of, goals, problem}
 use Rattle.instance.specs.declared.parts.Goal.{Goal as Own}
 use Rattle.certificate.specs.Meanings as Means
 use Rattle.certificate.specs.declared.causes.Cause.TheVariants.{Memory}
-use Rattle.search_rules.specs.Search.{SearchMoment, To, Out, reached, goes_on, searched, early, IsNext}
+use Rattle.search_rules.specs.Search.{SearchMoment, To, Out, reached, goes_on, searched, early, IsNextInSearch}
 use Rattle.simplex_rules.specs.Ends.{Clock}
 use Rattle.simplex.specs.declared.answer.Turns.{Turns}
 use Rattle.simplex_rules.specs.Looks.{looks_after}
@@ -77,7 +77,7 @@ returns-in-Ok-ask_next-clause-moments g c = (
       let step = asks p v w L D c0 t f c.requires.closed is_best u.goal e.goal (omega arith) (To n) (inl (ratio c.in-Ok.end, end, ap To (begun_is p K L D v u w x c0 c1 (found f) (begun.begins c1) begun.shown clock (ap best is_best)))) in
       record {
         at = n;
-        comes = goes_on stands.comes (subst (λ (m : SearchMoment). IsNext (problem p) t m (To n)) (sym stands.stands.is) step);
+        comes = goes_on stands.comes (subst (λ (m : SearchMoment). IsNextInSearch (problem p) t m (To n)) (sym stands.stands.is) step);
         stands = record { program = K; cut = K; at = begun.at; is = refl };
       },
 )
@@ -127,5 +127,5 @@ returns-in-Err-clause-moments g c =
             λ fits. c.in-Err.ensures.wide L own (subst (λ (y : Ratio). SumFits (minimising L y) (negative (minimising L L.goal.constant))) same fits),
             q.4 (problem p) (moment p L D v w c0) looks stop (Means.certificates v.certs) refl refl (count_is p r v w L D at' c.requires.width c0) tells,
           )) in
-          searched (record { last = stands.at; comes = stands.comes; ends = subst (λ (m : SearchMoment). IsNext (problem p) t m out) (sym stands.stands.is) step }),
+          searched (record { last = stands.at; comes = stands.comes; ends = subst (λ (m : SearchMoment). IsNextInSearch (problem p) t m out) (sym stands.stands.is) step }),
     )

@@ -4,15 +4,15 @@ use Rattle.fraction.specs.Frac.{ratio}
 use Rattle.simplex_rules.specs.declared.columns.Status.{Status}
 use Rattle.simplex_rules.specs.Statuses.{status_at}
 use Rattle.simplex.specs.Memory.{statuses_in}
-use Rattle.search_rules.specs.Cuts.{IsLeft, LeftFits}
+use Rattle.search_rules.specs.Cuts.{IsLeftOver, LeftFits}
 use Rattle.branch_bound.proofs.Sides.{side_status, side_other}
 use Rattle.branch_bound.proofs.cutting.left_beside.Goals as goal
 
 pub returns-in-Some-clause-ok : goal.returns-in-Some-clause-ok
 returns-in-Some-clause-ok g c =
     let s = status_at (statuses_in c.args.work.now) c.args.col in
-    subst (λ (x : Ratio). IfOk c.left_of.result (λ left. IsLeft s x (ratio left))) c.in-Some.ensures.entry.1
-    (subst (λ (t : Status). IfOk c.left_of.result (λ left. IsLeft t (ratio c.in-Some.entry) (ratio left))) (sym (side_status s c.args.side c.requires.side)) c.left_of.ensures.ok)
+    subst (λ (x : Ratio). IfOk c.left_of.result (λ left. IsLeftOver s x (ratio left))) c.in-Some.ensures.entry.1
+    (subst (λ (t : Status). IfOk c.left_of.result (λ left. IsLeftOver t (ratio c.in-Some.entry) (ratio left))) (sym (side_status s c.args.side c.requires.side)) c.left_of.ensures.ok)
 
 pub returns-in-Some-clause-fits : goal.returns-in-Some-clause-fits
 returns-in-Some-clause-fits g c =

@@ -8,7 +8,7 @@ use Rattle.rational.specs.Width.{most}
 use Rattle.evidence.specs.Rounds.{IsCeiling}
 use Rattle.search_rules.proofs.OneCut.{one_floor, one_ceiling}
 use Rattle.branch_bound.proofs.Floors.{floor_low}
-use Rattle.branch_bound.proofs.Left.{left_ok, left_fits, left_wide}
+use Rattle.branch_bound.proofs.WholeParts.{left_ok, left_fits, left_wide}
 use Rattle.branch_bound.proofs.cutting.left_of.Goals as goal
 
 pub whole-requires : goal.whole-requires

@@ -7,7 +7,7 @@ use Rattle.cert_checker.specs.Programs.{with_rows}
 use Rattle.simplex_rules.specs.Statuses.{status_at}
 use Rattle.simplex.specs.Memory.{point_of, statuses_in, entries_in}
 use Rattle.branch_bound.proofs.Sides.{some_side, no_side}
-use Rattle.branch_bound.proofs.Tried.{all_whole, one_fractional}
+use Rattle.branch_bound.proofs.CutProgram.{all_whole, one_fractional}
 use Rattle.branch_bound.proofs.cutting.try_cut.Goals as goal
 
 pub returns-in-None-clause-tries : goal.returns-in-None-clause-tries

@@ -6,7 +6,7 @@ use Rattle.branch_bound.specs.declared.cutting.Left.{Left}
 use Rattle.branch_bound.specs.Trials.{LeavesOf}
 use Rattle.simplex.specs.Memory.{statuses_in, entries_in}
 use Rattle.branch_bound.proofs.Leftovers.{legal}
-use Rattle.branch_bound.proofs.Tried.{columns_are, ran_placed}
+use Rattle.branch_bound.proofs.CutProgram.{columns_are, ran_placed}
 use Rattle.branch_bound.proofs.cutting.try_equation.Goals as goal
 
 pub returns-in-Ok-Wide-clause-tries : goal.returns-in-Ok-Wide-clause-tries

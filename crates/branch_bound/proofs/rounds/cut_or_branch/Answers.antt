@@ -17,7 +17,7 @@ use Rattle.branch_bound.specs.Cases.{SuitsLevel, outcome_of}
 use Rattle.case_tree.specs.Cuts.{cut}
 use Rattle.branch_bound.proofs.Ready.{at_as, suits_as, size_as, same_point}
 use Rattle.branch_bound.proofs.PointSteps.{if_err, or_memory}
-use Rattle.branch_bound.proofs.Tried.{uncut_is, first_case_is}
+use Rattle.branch_bound.proofs.CutProgram.{uncut_is, first_case_is}
 use Rattle.branch_bound.proofs.rounds.cut_or_branch.Goals as goal
 use Rattle.branch_bound.proofs.rounds.cut_or_branch.Goals.{In-Ok}
 

@@ -11,7 +11,7 @@ use Rattle.branch_bound.specs.Claims.{is_killed}
 use Rattle.branch_bound.specs.Walks.{best, waiting}
 use Rattle.branch_bound.specs.Levels.{moment}
 use Rattle.branch_bound.specs.Cases.{terms, clock_at, outcome_of}
-use Rattle.branch_bound.proofs.Beginning.{begun_suits, begun_stands}
+use Rattle.branch_bound.proofs.FirstLevel.{begun_suits, begun_stands}
 use Rattle.branch_bound.proofs.ClaimsAtEnd.{killed_is, told_closed}
 use Rattle.branch_bound.proofs.searching.explore.Goals as goal
 

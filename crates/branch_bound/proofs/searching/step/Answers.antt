@@ -5,7 +5,7 @@ use Rattle.simplex_rules.specs.Ends as Ended
 use Rattle.simplex_rules.specs.Looks.{went_on}
 use Rattle.branch_bound.proofs.Ready.{suits_as}
 use Rattle.branch_bound.proofs.CaseSteps.{stopped_is, not_killed}
-use Rattle.branch_bound.proofs.Carrying.{limit_carries, look_carries, stop_carries, ran_to, visit_carries}
+use Rattle.branch_bound.proofs.CaseMoments.{limit_carries, look_carries, stop_carries, ran_to, visit_carries}
 use Rattle.branch_bound.proofs.searching.step.Goals as goal
 
 pub returns-then-level-len-clause-moments : goal.returns-then-level-len-clause-moments

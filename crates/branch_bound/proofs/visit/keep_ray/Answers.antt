@@ -9,7 +9,7 @@ use Rattle.search_rules.specs.Search.{Outcome, To, Out, MeetsPoint}
 use Rattle.branch_bound.specs.Walks as Walks
 use Rattle.branch_bound.specs.Levels.{moment}
 use Rattle.branch_bound.specs.Cases.{clock_at, outcome_of}
-use Rattle.branch_bound.proofs.Waiting.{own_ray_alone}
+use Rattle.branch_bound.proofs.PendingCases.{own_ray_alone}
 use Rattle.branch_bound.proofs.PointSteps.{if_err, or_memory}
 use Rattle.branch_bound.proofs.visit.keep_ray.Goals as goal
 

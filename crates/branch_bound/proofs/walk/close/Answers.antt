@@ -3,7 +3,7 @@ use Rattle.std.proofs.lemmas.List.{with_items_is}
 use Rattle.case_tree.specs.declared.cuts.Cut.{Cut}
 use Rattle.case_tree.specs.declared.path.Branch.{Branch}
 use Rattle.branch_bound.specs.Walks.{waiting_by, rest_by}
-use Rattle.branch_bound.proofs.Waiting.{closed_waiting}
+use Rattle.branch_bound.proofs.PendingCases.{closed_waiting}
 use Rattle.branch_bound.proofs.walk.close.Goals as goal
 
 pub returns-clause-waiting : goal.returns-clause-waiting

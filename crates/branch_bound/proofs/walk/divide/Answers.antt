@@ -3,7 +3,7 @@ use Rattle.std.proofs.lemmas.List.{with_items_is}
 use Rattle.case_tree.specs.declared.cuts.Cut.{Cut}
 use Rattle.case_tree.specs.declared.path.Branch.{Branch}
 use Rattle.branch_bound.specs.Walks.{waiting_by}
-use Rattle.branch_bound.proofs.Waiting.{divided_waiting}
+use Rattle.branch_bound.proofs.PendingCases.{divided_waiting}
 use Rattle.branch_bound.proofs.walk.divide.Goals as goal
 
 pub returns-clause-waiting : goal.returns-clause-waiting

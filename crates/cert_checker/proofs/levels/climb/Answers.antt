@@ -12,7 +12,7 @@ use Rattle.certificate.specs.declared.nodes.Cert.{Cert}
 use Rattle.cert_checker.specs.Reached.{at_level, TreeIsRefused}
 use Rattle.cert_checker.specs.LevelRefusals.{LeadsUp}
 use Rattle.cert_checker.proofs.AddedLeads.{wide_with}
-use Rattle.cert_checker.proofs.Climbing.{leads_first, climb_refused, climb_wide, climb_next}
+use Rattle.cert_checker.proofs.NextLevel.{leads_first, climb_refused, climb_wide, climb_next}
 use Rattle.cert_checker.proofs.levels.climb.Goals as goal
 
 pub loop-level-init : goal.loop-level-init

@@ -15,7 +15,7 @@ use Rattle.cert_checker.specs.Programs.{with_rows, numerators, MakesRound}
 use Rattle.cert_checker.specs.RoundRefusals.{RoundRefuses}
 use Rattle.cert_checker.proofs.AddedLeads.{wide_with}
 use Rattle.cert_checker.proofs.HandRows.{rows_width}
-use Rattle.cert_checker.proofs.Climbing.{rounds_first, round_refused, round_next, rounds_last}
+use Rattle.cert_checker.proofs.NextLevel.{rounds_first, round_refused, round_next, rounds_last}
 use Rattle.cert_checker.proofs.rounds.check_rounds.Goals as goal
 
 pub loop-i-init : goal.loop-i-init

@@ -16,7 +16,7 @@ use Rattle.branch_bound.specs.declared.relaxation.Relaxation.{Relaxation}
 use Rattle.branch_bound.specs.declared.walk.Walk.{Walk}
 use Rattle.branch_bound.specs.Walks.{best}
 use Rattle.branch_bound.specs.Levels.{level, moment, IsGiven, IsAtLevel}
-use Rattle.branch_bound.specs.Trials.{IsFresh}
+use Rattle.branch_bound.specs.Trials.{IsFreshWalk}
 use Rattle.branch_bound.specs.Cases.{HasSize, SuitsLevel, StandsIn, clock_at}
 use Rattle.branch_bound.proofs.GivenRows.{given_first}
 use Rattle.branch_bound.proofs.NextGoal.{fresh_moment}
@@ -52,7 +52,7 @@ module _ {M : _} {G : _} (p : Parts) (r : Relaxation M G) (ks : List Cert) (rs :
     one = λ e. is_rows;
   }
 
-  module _ (t : Terms) (w : Walk) (fresh : IsFresh p w) (no_ray : w.ray ≡ None) (no_point : w.best ≡ None) (turns : r.turns.done ≡ 0) where
+  module _ (t : Terms) (w : Walk) (fresh : IsFreshWalk p w) (no_ray : w.ray ≡ None) (no_point : w.best ≡ None) (turns : r.turns.done ≡ 0) where
     is_first : first (problem p) ≡ moment p (program p) (program p) (begun_level ks rs) w (clock_at r 0)
     is_first = sym (
         fresh_moment p (program p) (begun_level ks rs) w (clock_at r 0) fresh no_ray refl rounds

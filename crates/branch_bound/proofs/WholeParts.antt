@@ -4,11 +4,11 @@ use Rattle.rational.specs.Ratio.{Ratio, whole, sum, negative, IsSame}
 use Rattle.rational.specs.Width.{SumFits}
 use Rattle.fraction.specs.Frac.{ratio}
 use Rattle.fraction.specs.declared.frac.Frac.{Frac}
-use Rattle.search_rules.specs.Cuts.{IsLess}
+use Rattle.search_rules.specs.Cuts.{IsLessBy}
 
 -- the number is less that whole one of which P holds, which is the only such
 module _ {E : Type 0} (x w : Ratio) (k : ℤ) (P : ℤ → Type 0) (p : P k) (is : w ≡ whole k) where
-  pub left_ok : (r : Result Frac E) → IfOk r (λ q. IsSame (ratio q) (sum x (negative w))) → IfOk r (λ q. (l : ℤ) × P l × IsLess x l (ratio q))
+  pub left_ok : (r : Result Frac E) → IfOk r (λ q. IsSame (ratio q) (sum x (negative w))) → IfOk r (λ q. (l : ℤ) × P l × IsLessBy x l (ratio q))
   left_ok (Ok q) same = (k, p, record { reduced = (q.above, q.reduced); same = subst (λ (v : Ratio). IsSame (ratio q) (sum x (negative v))) is same })
   left_ok (Err e) same = tt
 
