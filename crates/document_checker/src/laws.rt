@@ -1,3 +1,4 @@
+//! Laws of documents that are checked.
 ghost use Rattle.std.specs.Prelude.{◌≡◌, ℕ, Some, Result, MatchResult, List};
 ghost use Rattle.evidence.specs.Claim.{IsTrueOf};
 ghost use Rattle.instance.specs.Parts.{Parts};

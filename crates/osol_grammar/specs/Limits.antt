@@ -14,8 +14,12 @@ pub record LimitRow : Type 0 where
 abbrev pub all : List Limit
 all = Nodes ∷ Turns ∷ Rounds ∷ []
 
+-- the most rows that rounds add
+abbrev pub most_rounds : ℕ
+most_rounds = 100
+
 -- nodes of the tree of cases, turns of the simplex method, and rows that rounds add
 abbrev pub limit_row : Limit → LimitRow
 limit_row Nodes = record { name = codes "nodeLimit"; least = 1; most = 1000000; default = 10000; always = true }
 limit_row Turns = record { name = codes "pivotLimit"; least = 1; most = 100000000; default = 1000000; always = true }
-limit_row Rounds = record { name = codes "rounds"; least = 0; most = 100; default = 0; always = false }
+limit_row Rounds = record { name = codes "rounds"; least = 0; most = most_rounds; default = 0; always = false }

@@ -11,22 +11,22 @@
 #![tactic(auto)]
 
 mod amounts;
-mod document;
 mod fault;
 mod laws;
 mod limit;
 mod options;
 mod place;
+mod reading;
 mod standing;
 mod texts;
 mod writing;
 
-pub use document::decode;
 pub use fault::{OsolFault, Refusal};
 pub use laws::{
     comes_back, document_has_one_refusal, document_says_one, options_are_not_refused,
     options_have_names, read_options_come_back,
 };
 pub use options::Options;
+pub use reading::decode;
 pub use texts::refusal_text;
 pub use writing::encode;

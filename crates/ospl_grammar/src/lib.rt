@@ -10,22 +10,22 @@
 //! tag) leaves of what is asked, and of the parts of statistics. A reader goes from mark to mark and holds no tree.
 #![tactic(auto)]
 
-mod document;
 mod fault;
 mod laws;
 mod parts;
 mod place;
 mod process;
+mod reading;
 mod standing;
 mod texts;
 mod words;
 mod writing;
 
-pub use document::decode;
 pub use fault::OsplFault;
 pub use laws::{
     comes_back, document_has_one_process, document_has_one_refusal, process_is_not_refused,
 };
 pub use process::{JobState, JobStates, Process, StatedJob};
+pub use reading::decode;
 pub use texts::refusal_text;
 pub use writing::encode;
