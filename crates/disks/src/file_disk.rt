@@ -52,10 +52,27 @@ impl FileDisk {
     pub fn open<R: fs::Files<File = fs::File>>(system: &R, name: &str) -> io::Result<FileDisk>
         ensures { IfOk result (λ d. ⟦<FileDisk as Disk>⟧.faults d ≡ 0) }
     {
+        FileDisk::open_or_make(system, name, true)
+    }
+
+    /// The same, but it fails where there is no such file, and makes none.
+    pub fn find<R: fs::Files<File = fs::File>>(system: &R, name: &str) -> io::Result<FileDisk>
+        ensures { IfOk result (λ d. ⟦<FileDisk as Disk>⟧.faults d ≡ 0) }
+    {
+        FileDisk::open_or_make(system, name, false)
+    }
+
+    fn open_or_make<R: fs::Files<File = fs::File>>(
+        system: &R,
+        name: &str,
+        makes: bool,
+    ) -> io::Result<FileDisk>
+        ensures { IfOk result (λ d. ⟦<FileDisk as Disk>⟧.faults d ≡ 0) }
+    {
         let file = OpenOptions::new()
             .read(true)
             .write(true)
-            .create(true)
+            .create(makes)
             .open(system, name)?;
         lock(&file)?;
         // A file's name stands in its folder, which is brought to rest by itself.

@@ -1,11 +1,13 @@
 //! A disk in memory, by its name.
 
-ghost use Rattle.std.specs.Prelude.{◌≡◌, [], true, refl, Some, IfOk};
+ghost use Rattle.std.specs.Prelude.{◌≡◌, ℕ, List, [], true, refl, Some, IfOk};
 ghost use Rattle.std.proofs.Common.{inl};
 ghost use Rattle.std.specs.Option.{option_copied};
 ghost use Rattle.disks.specs.Memory.{disk_bytes};
+ghost use Rattle.os_io.specs.Files.{CountsFiles};
 ghost use Rattle.disks.specs.MemStores.{disk_of, held_by, bytes_kept, last_kept};
 ghost use Rattle.disks.specs.Past.{only_bytes};
+ghost use Rattle.disks.specs.Stores.{IsHeld};
 
 use crate::disk::Disk;
 use crate::mem_disk::MemDisk;
@@ -94,6 +96,22 @@ impl MemStores {
         })
     }
 
+    /// Lends the disk, where it has this name and wasn't opened yet.
+    fn lend(&mut self, name: &str) -> Result<MemStore, FileFault>
+        ensures opened { IfOk result (λ s. IsHeld (held_by self.old.name self.old.home name.now) true (disk_bytes (disk_of s))) }
+        ensures back { self.new.back ≡ self.old.back }
+        ensures others { (other : List ℕ) → (other ≡ name.now → ⊥) → held_by self.new.name self.new.home other ≡ held_by self.old.name self.old.home other }
+        ensures counted { CountsFiles result self.old.faults self.new.faults }
+    {
+        if self.name.as_slice() == name.as_bytes() {
+            if let Some(store) = self.home.take() {
+                return Ok(store);
+            }
+        }
+        count_fault(&mut self.faults);
+        Err(FileFault::Failed)
+    }
+
     /// What the one has that was given back last, if there is one.
     pub fn last_back(&self) -> Option<&[u8]>
         ensures { option_copied result ≡ last_kept self.now.back }
@@ -115,13 +133,11 @@ impl Stores for MemStores {
     ghost faults = { λ s. s.faults };
 
     fn open_store(&mut self, name: &str) -> Result<MemStore, FileFault> {
-        if self.name.as_slice() == name.as_bytes() {
-            if let Some(store) = self.home.take() {
-                return Ok(store);
-            }
-        }
-        count_fault(&mut self.faults);
-        Err(FileFault::Failed)
+        self.lend(name)
+    }
+
+    fn find_store(&mut self, name: &str) -> Result<MemStore, FileFault> {
+        self.lend(name)
     }
 
     fn done_store(&mut self, store: MemStore) {

@@ -27,6 +27,13 @@ pub trait Stores {
         ensures back { back self.new ≡ back self.old }
         ensures counted { CountsFiles result (faults self.old) (faults self.new) };
 
+    /// Opens the one of this name where there is one, and makes none. Where its bytes are told, it tells them.
+    fn find_store(&mut self, name: &str) -> Result<Self::Store, FileFault>
+        ensures opened { IfOk result (λ disk. IsHeld (held self.old name.now) (Self.Store.told disk) (Self.Store.seen disk)) }
+        ensures back { back self.new ≡ back self.old }
+        ensures others { (other : List ℕ) → (other ≡ name.now → ⊥) → held self.new other ≡ held self.old other }
+        ensures counted { CountsFiles result (faults self.old) (faults self.new) };
+
     /// Takes one back.
     fn done_store(&mut self, store: Self::Store)
         ensures back { IsBack (back self.old) (back self.new) (Self.Store.seen store) }

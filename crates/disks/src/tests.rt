@@ -37,10 +37,12 @@ fn a_disk_in_memory_is_opened_once_and_given_back(rt: HostRuntime) -> Result<(),
     let disk = MemDisk::new(alloc, b"seven bytes", &[], u64::MAX)?;
     let mut stores = MemStores::new(alloc, "journal", disk)?;
     assert!(rt; stores.open_store("other").is_err());
+    assert!(rt; stores.find_store("other").is_err());
     assert!(rt; stores.last_back().is_none());
     match stores.open_store("journal") {
         Ok(mut store) => {
             assert!(rt; stores.open_store("journal").is_err());
+            assert!(rt; stores.find_store("journal").is_err());
             assert_eq!(rt; store.write_at(0, b"SE"), Ok(()));
             stores.done_store(store);
         }
@@ -67,6 +69,26 @@ fn a_file_of_the_system_is_opened_by_its_name(rt: HostRuntime) -> Result<(), Fai
         }
     }
     assert_eq!(rt; fs::read(&rt, name.as_str())?.as_slice(), b"a".as_slice());
+    fs::remove_file(&rt, name.as_str())?;
+    Ok(())
+}
+
+#[test]
+fn a_file_that_is_not_there_is_not_found_and_not_made(rt: HostRuntime) -> Result<(), Fail> {
+    let mut name = env::temp_dir(&rt)?;
+    name.push("disks_a_store_that_is_found")?;
+    let _ = fs::remove_file(&rt, name.as_str());
+    let mut stores = FileStores::new(&rt);
+    assert!(rt; stores.find_store(name.as_str()).is_err());
+    assert!(rt; fs::read(&rt, name.as_str()).is_err());
+    fs::write(&rt, name.as_str(), b"abc")?;
+    match stores.find_store(name.as_str()) {
+        Ok(mut disk) => {
+            assert_eq!(rt; disk.len(), Ok(3));
+            stores.done_store(disk);
+        }
+        Err(_) => assert!(rt; false),
+    }
     fs::remove_file(&rt, name.as_str())?;
     Ok(())
 }
