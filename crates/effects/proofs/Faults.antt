@@ -40,7 +40,7 @@ broken_as res b c both = (λ is. to (both.0 is), λ some. both.1 (back some))
 -- a store that never fails, isn't broken, and calls nothing too long, stores each effect
 module _ {S : Type 0} (keeps : S → List Deed → Type 0) where
   abbrev Never : Option Deed → S → Option NotStored → S → Type 0
-  Never due old fault new = PutsIf keeps (λ _ _ _. false) (λ _. false) (λ _. 0) due old fault new
+  Never due old fault new = PutsIf keeps (λ _ _ _ _. Unit {0}) (λ _ _ _. false) (λ _. false) (λ _. 0) due old fault new
 
   pub never_refused : (due : Option Deed) (old new : S) (fault : NotStored) → Never due old (Some fault) new → ⊥
   never_refused None old new fault puts = let wrong = puts.0 in cc

@@ -1,5 +1,5 @@
 -- What effects leave, in order: jobs with their numbers, with which number these begin, and how many were given.
-use Rattle.std.specs.Prelude.{◌≡◌, ℕ, ◌+◌, nat_le, nat_lt, nat_eq, Bool, true, false, ◌||◌, ◌&&◌, List, [], ◌∷◌, ◌++◌, length, Option, Some, None, if◌then◌else◌}
+use Rattle.std.specs.Prelude.{ℕ, ◌+◌, nat_le, nat_lt, nat_eq, ◌||◌, ◌&&◌, List, [], ◌∷◌, ◌++◌, length, Option, Some, None, if◌then◌else◌}
 use Rattle.std.specs.Map.{lookup, set_value, remove_entry}
 use Rattle.effects.specs.Limits.{most_jobs, last_number, most_first}
 use Rattle.effects.specs.Records.{Deed, Issue, Send, Enter, Finish, Killed, Marked, GivenUp, Begin}
@@ -99,22 +99,3 @@ abbrev pub osil_in : Option Stage → Option (List ℕ)
 osil_in (Some (Sent osil osol)) = Some osil
 osil_in (Some (Asked osil osol)) = Some osil
 osil_in _ = None
-
-module _ (accepts : List ℕ → List ℕ → Bool) where
-  abbrev pub accepts_for : Option (List ℕ) → List ℕ → Bool
-  accepts_for (Some osil) document = accepts osil document
-  accepts_for None document = false
-
-  -- a document that a finish brings is accepted for the text of the job's instance
-  abbrev pub passes : Ledger → Deed → Bool
-  passes l (Finish n (Some document)) = accepts_for (osil_in (stage_of n l)) document
-  passes l _ = true
-
-  -- what an effect leaves whose document is accepted
-  abbrev pub step : Deed → Ledger → Option Ledger
-  step d l = if passes l d then after d l else None
-
-  -- effects lead from one ledger to another
-  abbrev pub Folds : Ledger → List Deed → Ledger → Type 0
-  Folds old [] new = new ≡ old
-  Folds old (d ∷ deeds) new = (mid : Ledger) × (step d old ≡ Some mid) × Folds mid deeds new

@@ -15,12 +15,14 @@ abbrev pub CountsDisk : Option NotStored → ℕ → ℕ → Type 0
 CountsDisk (Some Disk) before after = HasRisen before after
 CountsDisk _ before after = after ≡ before
 
-module _ {S : Type 0} (keeps : S → List Deed → Type 0) (too_long : S → List Deed → Deed → Bool) (broken : S → Bool) (faults : S → ℕ) where
+module _ {S : Type 0} (keeps : S → List Deed → Type 0) (passes : S → S → List Deed → Deed → Type 0) (too_long : S → List Deed → Deed → Bool) (broken : S → Bool) (faults : S → ℕ) where
   -- the effect was put, and stored or not
   pub record Puts (d : Deed) (old : S) (fault : Option NotStored) (new : S) : Type 0 where
     -- where it was stored it is kept behind those before, and else what was kept stays
     pub stored : IfNone fault ((deeds : List Deed) → keeps old deeds → keeps new (deeds ++ d ∷ []))
     pub stays : IfSome fault (λ _. (deeds : List Deed) → keeps old deeds → keeps new deeds)
+    -- a crash at any moment between leaves what was kept, or that and the effect behind it
+    pub any_moment : (deeds : List Deed) → keeps old deeds → passes old new deeds d
     pub counts : CountsDisk fault (faults old) (faults new)
     -- Broken is answered exactly behind a Disk, and Long exactly where it is too long
     pub breaks : (broken new ≡ true) ↔ ((broken old ≡ true) ⊎ (fault ≡ Some Disk))

@@ -1,6 +1,6 @@
 //! Effects, made again.
 
-ghost use Rattle.std.specs.Prelude.{◌≡◌, Some, None, if◌then◌else◌, IfOk};
+ghost use Rattle.std.specs.Prelude.{◌≡◌, Some, None, is_some, if◌then◌else◌, IfOk};
 ghost use Rattle.std.specs.Option.{option_copied};
 ghost use Rattle.effects.specs.Records.{deed_of};
 ghost use Rattle.effects.specs.Fold.{Ledger, after, osil_in, stage_of};
@@ -20,4 +20,8 @@ pub trait Replay {
     /// The text of the instance of a job that a finish may name.
     fn osil(&self, number: u64) -> Option<&[u8]>
         ensures { option_copied result ≡ osil_in (stage_of number (holds self.now)) };
+
+    /// Whether it has a job of that number.
+    fn has_job(&self, number: u64) -> bool
+        ensures { result ≡ is_some (stage_of number (holds self.now)) };
 }

@@ -22,6 +22,9 @@ pub trait Store {
     /// It keeps these effects, in this order. More than one list may be so where it doesn't tell which.
     ghost keeps: { Self → List Deed → Type 0 };
 
+    /// A crash at any moment between the two leaves these effects, or these and that one behind them.
+    ghost passes: { Self → Self → List Deed → Deed → Type 0 };
+
     /// Whether an effect is too long to be stored once these more are.
     ghost too_long: { Self → List Deed → Deed → Bool };
 
@@ -33,7 +36,7 @@ pub trait Store {
 
     /// Stores an effect behind those that are kept. At an error what was kept stays.
     fn put(&mut self, effect: &Effect) -> Result<(), NotStored>
-        ensures { Puts keeps too_long broken faults (deed_of effect.now) self.old (fault_of result) self.new };
+        ensures { Puts keeps passes too_long broken faults (deed_of effect.now) self.old (fault_of result) self.new };
 }
 
 /// Keeps nothing, and says that it stored each effect.
@@ -44,6 +47,8 @@ impl Store for NoStore {
     ghost use Rattle.std.specs.Prelude.{false};
 
     ghost keeps = { λ _ _. Unit {0} };
+
+    ghost passes = { λ _ _ _ _. Unit {0} };
 
     ghost too_long = { λ _ _ _. false };
 
