@@ -1,5 +1,5 @@
 -- What a file that is opened stands for, and where it is damaged.
-use Rattle.std.specs.Prelude.{◌≡◌, ℕ, ◌<◌, Bool, List, [], ◌∷◌, ◌++◌, length, Option, Some, None, Result, Ok, Err}
+use Rattle.std.specs.Prelude.{◌≡◌, ℕ, ◌<◌, Bool, true, false, List, [], ◌∷◌, ◌++◌, length, drop, Option, Some, None, Result, Ok, Err}
 use Rattle.effects.specs.Records.{Deed, Finish, body, records, Fits, AllFit, EndsBehindGate}
 use Rattle.effects.specs.Fold.{Ledger, nothing, osil_in, stage_of}
 use Rattle.effects.specs.Fold as fold
@@ -83,11 +83,15 @@ module _ (accepted : List ℕ → List ℕ → Type 0) where
   TakesRecord bytes old (Some after) new = CutsRecord bytes old after new
   TakesRecord bytes old None new = (d : Deed) (gate : ℕ) (after : List ℕ) → Fits d → bytes ≡ body d ++ gate ∷ after → StepsTo d old None
 
-  -- what a scan answers where it gives no place
-  abbrev pub ScanFits : List ℕ → OpenFault → Type 0
-  ScanFits bytes (Damaged place) = IsDamaged bytes place
-  ScanFits bytes Memory = Unit {0}
-  ScanFits bytes _ = ⊥
+  -- the effect of the record behind the open gate at that place was made, and the next gate is at the other place; or the gate isn't open
+  abbrev pub TakesOn : List ℕ → ℕ → Ledger → Bool → ℕ → Ledger → Type 0
+  TakesOn file place old true next new = (behind : List ℕ) × (drop place file ≡ 1 ∷ behind) × CutsRecord behind old (drop next file) new
+  TakesOn file place old false next new = (next ≡ place) × (new ≡ old) × ((behind : List ℕ) → drop place file ≡ 1 ∷ behind → ⊥)
+
+  -- where Damaged is answered at that place, its gate is open, and no record stands behind it with a gate behind it that is possible and accepted
+  abbrev pub StopsAt : List ℕ → ℕ → Ledger → OpenFault → Type 0
+  StopsAt file place old (Damaged at) = (at ≡ place) × ((behind : List ℕ) × (drop place file ≡ 1 ∷ behind) × TakesRecord behind old None old)
+  StopsAt file place old _ = Unit {0}
 
   -- where the opening of a file that is told answers Damaged, it is
   abbrev pub DamagedIn : List ℕ → OpenFault → Type 0
@@ -120,6 +124,11 @@ abbrev pub IsReadingFault : OpenFault → Type 0
 IsReadingFault ReadFault = Unit {0}
 IsReadingFault Memory = Unit {0}
 IsReadingFault _ = ⊥
+
+-- where that is answered nothing was written
+abbrev pub LeavesFile : OpenFault → Type 0
+LeavesFile WriteFault = ⊥
+LeavesFile _ = Unit {0}
 
 -- the fault isn't one of the file
 abbrev pub IsUnfound : OpenFault → Type 0

@@ -1,6 +1,6 @@
 //! The end of a file, repaired.
 
-ghost use Rattle.std.specs.Prelude.{◌≡◌, ◌<◌, ◌≤◌, ◌+◌, ◌-◌, ◌^◌, [], List, ℕ, true, length, OnOk};
+ghost use Rattle.std.specs.Prelude.{◌≡◌, ◌<◌, ◌≤◌, ◌+◌, ◌-◌, ◌^◌, ◌∷◌, [], List, ℕ, true, length, OnOk};
 ghost use Rattle.os_io.specs.Streams.{Counts};
 ghost use Rattle.disks.specs.Disks.{LeavesOnly, Only};
 ghost use Rattle.effects.specs.Records.{Deed, records, EndsBehindGate};
@@ -12,6 +12,7 @@ use os_io::Failed;
 /// Begins a file of at most one byte anew.
 pub(crate) fn begin<D: Disk>(disk: &mut D) -> Result<(), Failed>
     ensures begun { OnOk result (D.told disk.old ≡ true → length (D.seen disk.old) ≤ 1 → FileRests D.seen D.may_leave disk.new 0 []) }
+    ensures closed { OnOk result (D.told disk.old ≡ true → length (D.seen disk.old) ≤ 1 → D.seen disk.new ≡ 0 ∷ []) }
     ensures any_moment { D.told disk.old ≡ true → length (D.seen disk.old) ≤ 1 → Only (D.seen disk.old) (D.may_leave disk.old) → LeavesOnly D.moment D.left_since disk.old disk.new (FileStandsFor []) }
     ensures told { D.told disk.new ≡ D.told disk.old }
     ensures cause { Counts result (D.faults disk.old) (D.faults disk.new) }

@@ -1,11 +1,14 @@
 //! The records of a file, read.
 
-ghost use Rattle.std.specs.Prelude.{◌≡◌, ◌↔◌, ◌<◌, ◌≤◌, ◌-◌, ◌∷◌, List, ℕ, true, Some, None, if◌then◌else◌, length, IfOk, IfErr, IfSome, IfNone};
+ghost use Rattle.std.specs.Prelude.{◌≡◌, ◌↔◌, ◌<◌, ◌≤◌, ◌+◌, ◌-◌, ◌^◌, ◌∷◌, List, ℕ, true, false, Some, None, if◌then◌else◌, length, IfOk, IfErr, IfSome, IfNone};
 ghost use Rattle.effects.specs.Records.{deed_of};
 ghost use Rattle.effects.specs.Fold.{nothing};
-ghost use Rattle.job_journal.specs.Opening.{IsAdmitted, ReadsRecords, ScanFits, StepsTo, TakesRecord};
+ghost use Rattle.job_journal.specs.Ahead.{StandsAhead};
+ghost use Rattle.job_journal.specs.Opening.{Calm, CountsFault, DamagedIn, IsAdmitted, ReadsRecords, StepsTo, StopsAt, TakesOn, TakesRecord, WasMade};
 ghost use Rattle.std.specs.Option.{option_copied};
 
+use crate::pieces::Ahead;
+use disks::Disk;
 use effects::{Document, Effect, Replay, decode};
 use os_io::Memory;
 
@@ -68,7 +71,7 @@ fn admit<R: Replay, S: Sieve>(table: &mut R, sieve: &mut S, effect: &Effect) -> 
 }
 
 /// What stands behind an open gate.
-fn behind_open(bytes: &[u8]) -> Option<&[u8]>
+pub(crate) fn behind_open(bytes: &[u8]) -> Option<&[u8]>
     ensures some { IfSome result (λ behind. bytes.now ≡ 1 ∷ behind.now) }
     ensures none { IfNone result ((behind : List ℕ) → bytes.now ≡ 1 ∷ behind → ⊥) }
 {
@@ -76,6 +79,14 @@ fn behind_open(bytes: &[u8]) -> Option<&[u8]>
         [1, behind @ ..] => Some(behind),
         _ => None,
     }
+}
+
+/// How many bytes a gate and the record behind it have, before what follows them.
+pub(crate) fn gate_and_record(behind: &[u8], after: &[u8]) -> usize
+    requires { length after.now ≤ length behind.now }
+    ensures { result ≡ 1 + (length behind.now - length after.now) }
+{
+    1 + (behind.len() - after.len())
 }
 
 /// Makes the effect of the record that the bytes begin with, which has a gate behind it, and gives what follows the record; None
@@ -102,28 +113,65 @@ fn take_record<'a, R: Replay, S: Sieve>(
     }
 }
 
+/// Makes the effect of the record behind the gate at this place of the file, and goes on behind the record; false where that gate isn't
+/// open.
+fn pass_record<D: Disk, R: Replay, S: Sieve>(
+    disk: &mut D,
+    ahead: &mut Ahead,
+    table: &mut R,
+    sieve: &mut S,
+) -> Result<bool, OpenFault>
+    requires { D.told disk.old ≡ true → StandsAhead (D.seen disk.old) ahead.old }
+    ensures takes { IfOk result (λ passed. D.told disk.old ≡ true → TakesOn S.accepted (D.seen disk.old) ahead.old.place (R.holds table.old) passed ahead.new.place (R.holds table.new)) }
+    ensures err { IfErr result (λ fault. D.told disk.old ≡ true → StopsAt S.accepted (D.seen disk.old) ahead.old.place (R.holds table.old) fault) }
+    ensures made { IfOk result (λ passed. WasMade S.accepted (R.holds table.old) → WasMade S.accepted (R.holds table.new)) }
+    ensures ahead { IfOk result (λ passed. D.told disk.old ≡ true → StandsAhead (D.seen disk.old) ahead.new) }
+    ensures less { IfOk result (λ passed. passed ≡ true → ahead.old.place < ahead.new.place) }
+    ensures within { IfOk result (λ passed. passed ≡ true → ahead.new.place < ahead.new.len) }
+    ensures stays { IfOk result (λ passed. passed ≡ false → ahead.new.place ≡ ahead.old.place) }
+    ensures no_longer { ahead.new.len ≤ ahead.old.len }
+    ensures calm { Calm D.told D.seen D.may_leave D.moment D.left_since disk.old disk.new }
+    ensures cause { CountsFault result (D.faults disk.old) (D.faults disk.new) }
+{
+    match ahead.read_on(disk) {
+        Ok(()) => {}
+        Err(fault) => return Err(fault),
+    }
+    match behind_open(ahead.rest()) {
+        None => Ok(false),
+        Some(behind) => match take_record(behind, table, sieve) {
+            Ok(Some(after)) => {
+                let size = gate_and_record(behind, after);
+                ahead.pass(size);
+                Ok(true)
+            }
+            Ok(None) => Err(OpenFault::Damaged { at: ahead.place() }),
+            Err(_) => Err(OpenFault::Memory),
+        },
+    }
+}
+
 /// Makes the effects of the records up to the first gate that isn't 1, and gives that gate's place.
-pub(crate) fn scan<R: Replay, S: Sieve>(
-    bytes: &[u8],
+pub(crate) fn scan<D: Disk, R: Replay, S: Sieve>(
+    disk: &mut D,
+    ahead: &mut Ahead,
     table: &mut R,
     sieve: &mut S,
 ) -> Result<u64, OpenFault>
-    requires long { 1 < length bytes.now }
     requires empty { R.holds table.old ≡ nothing }
-    ensures ok { IfOk result (λ place. ReadsRecords S.accepted bytes.now place (R.holds table.new)) }
-    ensures err { IfErr result (ScanFits S.accepted bytes.now) }
+    requires front { (ahead.old.place ≡ 0) × (D.told disk.old ≡ true → (1 < length (D.seen disk.old)) × StandsAhead (D.seen disk.old) ahead.old) }
+    ensures ok { IfOk result (λ place. D.told disk.old ≡ true → ReadsRecords S.accepted (D.seen disk.old) place (R.holds table.new)) }
+    ensures made { IfOk result (λ _. WasMade S.accepted (R.holds table.new)) }
+    ensures small { IfOk result (λ place. place < 2 ^ 64 - 1) }
+    ensures err { IfErr result (λ fault. D.told disk.old ≡ true → DamagedIn S.accepted (D.seen disk.old) fault) }
+    ensures calm { Calm D.told D.seen D.may_leave D.moment D.left_since disk.old disk.new }
+    ensures cause { CountsFault result (D.faults disk.old) (D.faults disk.new) }
 {
-    let mut rest = bytes;
-    while let Some(behind) = behind_open(rest) {
-        match take_record(behind, table, sieve) {
-            Ok(Some(after)) => rest = after,
-            Ok(None) => {
-                return Err(OpenFault::Damaged {
-                    at: (bytes.len() - rest.len()) as u64,
-                });
-            }
-            Err(_) => return Err(OpenFault::Memory),
+    loop {
+        match pass_record(disk, ahead, table, sieve) {
+            Ok(true) => {}
+            Ok(false) => return Ok(ahead.place()),
+            Err(fault) => return Err(fault),
         }
     }
-    Ok((bytes.len() - rest.len()) as u64)
 }

@@ -17,6 +17,7 @@ returns g c =
           (λ t f le left. g.met.D.Disk.counts_now new.disk t f le left) e.any_moment
           (λ is. (ap (λ j. j.disk) (e.same_broken is), ap (λ j. j.end) (e.same_broken is), ap (λ j. j.broken) (e.same_broken is)))
           (λ is. (ap (λ j. j.disk) (e.same_long is), ap (λ j. j.end) (e.same_long is), ap (λ j. j.broken) (e.same_long is))));
+      any_moment = λ deeds keeps t intact. e.any_moment deeds t (keeps.at_rest t intact);
       counts = e.cause;
       breaks = broken_as c.put.result old.broken new.broken e.breaks;
       when_broken = as_fault c.put.result Broken _ e.broken;
