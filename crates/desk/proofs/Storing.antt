@@ -126,7 +126,7 @@ abbrev stored_deeds : Option Deed → Option NotStored → List Deed
 stored_deeds due None = listed due
 stored_deeds due (Some f) = []
 
-module _ {S : Type 0} (keeps : S → List Deed → Type 0) (too_long : S → List Deed → Deed → Bool) (broken : S → Bool) (faults : S → ℕ) where
+module _ {S : Type 0} (keeps : S → List Deed → Type 0) (passes : S → S → List Deed → Deed → Type 0) (too_long : S → List Deed → Deed → Bool) (broken : S → Bool) (faults : S → ℕ) where
   -- what one move does to the store, where these effects of it were stored
   record Turns (fault : Option NotStored) (done : List Deed) (old new : S) : Type 0 where
     kept : (deeds : List Deed) → keeps old deeds → keeps new (deeds ++ done)
@@ -134,7 +134,7 @@ module _ {S : Type 0} (keeps : S → List Deed → Type 0) (too_long : S → Lis
     breaks : (broken new ≡ true) ↔ ((broken old ≡ true) ⊎ (fault ≡ Some Disk))
     long : (more : List Deed) (d : Deed) → too_long new more d ≡ too_long old (done ++ more) d
 
-  turns : (due : Option Deed) (fault : Option NotStored) (old new : S) → PutsIf keeps too_long broken faults due old fault new → Turns fault (stored_deeds due fault) old new
+  turns : (due : Option Deed) (fault : Option NotStored) (old new : S) → PutsIf keeps passes too_long broken faults due old fault new → Turns fault (stored_deeds due fault) old new
   turns None None old new (none, same) = record {
     kept = λ deeds k. subst (λ (z : S × List Deed). keeps z.0 z.1) (λ i. (sym same i, sym (append-nil deeds) i)) k;
     counts = ap faults same;
@@ -150,7 +150,7 @@ module _ {S : Type 0} (keeps : S → List Deed → Type 0) (too_long : S → Lis
     long = puts.as_long;
   }
 
-  answers_made : (due : Option Deed) (reply : Reply) (old new : S) → was_made reply ≡ true → PutsIf keeps too_long broken faults due old None new
+  answers_made : (due : Option Deed) (reply : Reply) (old new : S) → was_made reply ≡ true → PutsIf keeps passes too_long broken faults due old None new
       → AnsweredSo due (broken old) (too_long old []) reply
   answers_made None reply old new made puts = made
   answers_made (Some d) reply old new made puts = (
@@ -158,7 +158,7 @@ module _ {S : Type 0} (keeps : S → List Deed → Type 0) (too_long : S → Lis
     (λ is. absurd (made_not reply Long made is), λ was. let wrong = puts.when_long.1 was in absurd cc),
   )
 
-  answers_refused : (due : Option Deed) (f : NotStored) (old new : S) → PutsIf keeps too_long broken faults due old (Some f) new
+  answers_refused : (due : Option Deed) (f : NotStored) (old new : S) → PutsIf keeps passes too_long broken faults due old (Some f) new
       → AnsweredSo due (broken old) (too_long old []) (replies.NotStored f)
   answers_refused None f old new (none, same) = absurd cc
   answers_refused (Some d) f old new puts = (
@@ -175,7 +175,7 @@ module _ {S : Type 0} (keeps : S → List Deed → Type 0) (too_long : S → Lis
       disk : (fault ≡ Some Disk) ↔ (says_disk e.reply ≡ true)
       answered : AnsweredSo (planned e.table_move old.0) (broken old.1) (too_long old.1 []) e.reply
 
-    goes : (e : SeatEntry) (old new : Register × S) → Moves right keeps too_long broken faults old e.table_move e.reply new → Goes e old new
+    goes : (e : SeatEntry) (old new : Register × S) → Moves right keeps passes too_long broken faults old e.table_move e.reply new → Goes e old new
     goes e old new (inl m) =
         let made = fitting_made e.table_move e.reply m.fitting in
         let due = planned e.table_move old.0 in record {
@@ -230,7 +230,7 @@ module _ {S : Type 0} (keeps : S → List Deed → Type 0) (too_long : S → Lis
         → ((b ≡ a) × (says ≡ false)) ⊎ (HasRisen a b × (says ≡ true))
     says_so fault says a b both c = says_by fault says a b (counted fault a b c) both
 
-    led : (log : List SeatEntry) (start held : Register × S) → LeadsStored right keeps too_long broken faults start log held
+    led : (log : List SeatEntry) (start held : Register × S) → LeadsStored right keeps passes too_long broken faults start log held
         → Led start.0 start.1 log held.0 held.1
     led [] start held same = record {
       table_is = ap (λ (h : Register × S). h.0) same;
@@ -261,12 +261,12 @@ module _ {S : Type 0} (keeps : S → List Deed → Type 0) (too_long : S → Lis
         }
 
     -- each move is answered as the effects before it say
-    answered_each : (log : List SeatEntry) (start held : Register × S) → broken start.1 ≡ false → LeadsStored right keeps too_long broken faults start log held
+    answered_each : (log : List SeatEntry) (start held : Register × S) → broken start.1 ≡ false → LeadsStored right keeps passes too_long broken faults start log held
         → (before : List SeatEntry) (e : SeatEntry) (behind : List SeatEntry) → log ≡ before ++ e ∷ behind
         → AnsweredSo (planned e.table_move (after_entries start.0 before)) (has_disk before) (too_long start.1 (deeds_of start.0 before)) e.reply
     answered_each log start held sound leads before e behind is =
-        let (mid, first, last) = makes_split (Moves right keeps too_long broken faults) start held before (e ∷ behind)
-        (subst (λ (es : List SeatEntry). LeadsStored right keeps too_long broken faults start es held) is leads) in
+        let (mid, first, last) = makes_split (Moves right keeps passes too_long broken faults) start held before (e ∷ behind)
+        (subst (λ (es : List SeatEntry). LeadsStored right keeps passes too_long broken faults start es held) is leads) in
         let l = led before start mid first in
         let g = goes e mid last.0 last.1 in
         let same : broken mid.1 ≡ has_disk before = same_bools (broken mid.1) (has_disk before)
@@ -276,7 +276,7 @@ module _ {S : Type 0} (keeps : S → List Deed → Type 0) (too_long : S → Lis
         answered_as (planned e.table_move mid.0) (planned e.table_move (after_entries start.0 before)) (broken mid.1) (has_disk before) (too_long mid.1 []) (too_long start.1 (deeds_of start.0 before)) e.reply
         (ap (λ (r : Register). planned e.table_move r) l.table_is) same tests g.answered
 
-    pub stores_so : (log : List SeatEntry) (start held : Register × S) → LeadsStored right keeps too_long broken faults start log held → broken start.1 ≡ false
+    pub stores_so : (log : List SeatEntry) (start held : Register × S) → LeadsStored right keeps passes too_long broken faults start log held → broken start.1 ≡ false
         → StoresSo keeps too_long faults start.0 start.1 log held.1
     stores_so log start held leads sound =
         let l = led log start held leads in record {
@@ -287,14 +287,14 @@ module _ {S : Type 0} (keeps : S → List Deed → Type 0) (too_long : S → Lis
         }
 
 -- the moves that were made lead from table to table
-module _ {S : Type 0} (right : List ℕ → List ℕ → Bool → Option (List ℕ) → Type 0) (keeps : S → List Deed → Type 0) (too_long : S → List Deed → Deed → Bool) (broken : S → Bool) (faults : S → ℕ) where
+module _ {S : Type 0} (right : List ℕ → List ℕ → Bool → Option (List ℕ) → Type 0) (keeps : S → List Deed → Type 0) (passes : S → S → List Deed → Deed → Type 0) (too_long : S → List Deed → Deed → Bool) (broken : S → Bool) (faults : S → ℕ) where
   -- and all moves, of which those that weren't made leave it
-  pub all_lead : (log : List SeatEntry) (start held : Register × S) → LeadsStored right keeps too_long broken faults start log held → LeadsOn right start.0 (moves_in log) held.0
+  pub all_lead : (log : List SeatEntry) (start held : Register × S) → LeadsStored right keeps passes too_long broken faults start log held → LeadsOn right start.0 (moves_in log) held.0
   all_lead [] start held same = ap (λ (h : Register × S). h.0) same
   all_lead (e ∷ es) start held (next, inl m, rest) = (next.0, inl m.step, all_lead es next held rest)
   all_lead (e ∷ es) start held (next, inr r, rest) = (next.0, inr (r.fault, r.says, r.may, r.stays), all_lead es next held rest)
 
-  pub made_lead : (log : List SeatEntry) (start held : Register × S) → LeadsStored right keeps too_long broken faults start log held
+  pub made_lead : (log : List SeatEntry) (start held : Register × S) → LeadsStored right keeps passes too_long broken faults start log held
       → LeadsStepwise right start.0 (made_moves log) held.0
   made_lead [] start held same = ap (λ (h : Register × S). h.0) same
   made_lead (e ∷ es) start held (next, inl m, rest) =
@@ -305,37 +305,37 @@ module _ {S : Type 0} (right : List ℕ → List ℕ → Bool → Option (List �
       (subst (λ (t : Register). LeadsStepwise right t (made_moves es) held.0) r.stays (made_lead es next held rest))
 
   -- a desk at which nobody made a move
-  pub closes_nothing : (first : Register) (start : S) → ClosesStored right keeps too_long broken faults first start [] first start
+  pub closes_nothing : (first : Register) (start : S) → ClosesStored right keeps passes too_long broken faults first start [] first start
   closes_nothing first start = record {
     leads = refl;
     moves = refl;
     made = refl;
-    stores = λ sound. stores_so keeps too_long broken faults right [] (first, start) (first, start) refl sound;
+    stores = λ sound. stores_so keeps passes too_long broken faults right [] (first, start) (first, start) refl sound;
   }
 
 -- what a move that is made behind the put of its effect makes of a table and its store
-module _ {A S : Type 0} (right : List ℕ → List ℕ → Bool → Option (List ℕ) → Type 0) (keeps : S → List Deed → Type 0) (too_long : S → List Deed → Deed → Bool) (broken : S → Bool) (faults : S → ℕ)
+module _ {A S : Type 0} (right : List ℕ → List ℕ → Bool → Option (List ℕ) → Type 0) (keeps : S → List Deed → Type 0) (passes : S → S → List Deed → Deed → Type 0) (too_long : S → List Deed → Deed → Bool) (broken : S → Bool) (faults : S → ℕ)
     (said : A → Option Reply) (move : TableMove) where
   moves_by : (o : Option Reply) (old new : Register × S) → IfSome o (λ reply. Step right old.0 move reply new.0) → IfSome o (λ reply. fits move reply ≡ true)
-      → KeptBy keeps too_long broken faults (planned move old.0) old.1 o new.1 → IfSome o (λ reply. Moves right keeps too_long broken faults old move reply new)
+      → KeptBy keeps passes too_long broken faults (planned move old.0) old.1 o new.1 → IfSome o (λ reply. Moves right keeps passes too_long broken faults old move reply new)
   moves_by None old new stp fit kept = tt
   moves_by (Some reply) old new stp fit kept = inl record { fitting = fit; step = stp; puts = kept }
 
   pub moves_of : May right move → (res : Result A NotStored) (old new : Register × S) → IfOk res (λ answer. IfSome (said answer) (λ reply. Step right old.0 move reply new.0))
       → IfOk res (λ answer. IfSome (said answer) (λ reply. fits move reply ≡ true))
-      → IfOk res (λ answer. KeptBy keeps too_long broken faults (planned move old.0) old.1 (said answer) new.1)
-      → IfErr res (λ fault. (new.0 ≡ old.0) × PutsIf keeps too_long broken faults (planned move old.0) old.1 (Some fault) new.1)
-      → IfSome (said_in said res) (λ reply. Moves right keeps too_long broken faults old move reply new)
+      → IfOk res (λ answer. KeptBy keeps passes too_long broken faults (planned move old.0) old.1 (said answer) new.1)
+      → IfErr res (λ fault. (new.0 ≡ old.0) × PutsIf keeps passes too_long broken faults (planned move old.0) old.1 (Some fault) new.1)
+      → IfSome (said_in said res) (λ reply. Moves right keeps passes too_long broken faults old move reply new)
   moves_of may (Ok answer) old new stp fit kept refused = moves_by (said answer) old new stp fit kept
   moves_of may (Err fault) old new stp fit kept refused = inr record { fault = fault; says = refl; may = may; stays = refused.0; puts = refused.1 }
 
-  both_stay : {J : Type 0} (o : Option Reply) (due : Option Deed) (old new : Stored J S) → IfNone o (new.table ≡ old.table) → KeptBy keeps too_long broken faults due old.store o new.store
+  both_stay : {J : Type 0} (o : Option Reply) (due : Option Deed) (old new : Stored J S) → IfNone o (new.table ≡ old.table) → KeptBy keeps passes too_long broken faults due old.store o new.store
       → IfNone o (new ≡ old)
   both_stay None due old new table store = λ i. record { table = table i; store = store i }
   both_stay (Some reply) due old new table store = tt
 
   pub stays_of : {J : Type 0} (res : Result A NotStored) (due : Option Deed) (old new : Stored J S) → IfOk res (λ answer. IfNone (said answer) (new.table ≡ old.table))
-      → IfOk res (λ answer. KeptBy keeps too_long broken faults due old.store (said answer) new.store) → IfNone (said_in said res) (new ≡ old)
+      → IfOk res (λ answer. KeptBy keeps passes too_long broken faults due old.store (said answer) new.store) → IfNone (said_in said res) (new ≡ old)
   stays_of (Ok answer) due old new table store = both_stay (said answer) due old new table store
   stays_of (Err fault) due old new table store = tt
 
@@ -362,15 +362,15 @@ no_effect asks.Knock r none = refl
 no_effect asks.Enlist r none = refl
 no_effect asks.Leave r none = refl
 
-module _ {S : Type 0} (keeps : S → List Deed → Type 0) (too_long : S → List Deed → Deed → Bool) (broken : S → Bool) (faults : S → ℕ) where
+module _ {S : Type 0} (keeps : S → List Deed → Type 0) (passes : S → S → List Deed → Deed → Type 0) (too_long : S → List Deed → Deed → Bool) (broken : S → Bool) (faults : S → ℕ) where
   -- only a move that may have one is refused
-  refused_may : (move : TableMove) (r : Register) (old new : S) (f : NotStored) (may : Bool) → may_have_effect move ≡ may → PutsIf keeps too_long broken faults (planned move r) old (Some f) new → may ≡ true
+  refused_may : (move : TableMove) (r : Register) (old new : S) (f : NotStored) (may : Bool) → may_have_effect move ≡ may → PutsIf keeps passes too_long broken faults (planned move r) old (Some f) new → may ≡ true
   refused_may move r old new f true is puts = refl
   refused_may move r old new f false is puts =
-      let none = subst (λ (due : Option Deed). PutsIf keeps too_long broken faults due old (Some f) new) (no_effect move r is) puts in
+      let none = subst (λ (due : Option Deed). PutsIf keeps passes too_long broken faults due old (Some f) new) (no_effect move r is) puts in
       let wrong : Some f ≡ None = none.0 in absurd cc
 
   pub has_effect : {A : Type 0} (res : Result A NotStored) (move : TableMove) (r r' : Register) (old new : S)
-      → IfErr res (λ fault. (r' ≡ r) × PutsIf keeps too_long broken faults (planned move r) old (Some fault) new) → IfErr res (λ _. may_have_effect move ≡ true)
+      → IfErr res (λ fault. (r' ≡ r) × PutsIf keeps passes too_long broken faults (planned move r) old (Some fault) new) → IfErr res (λ _. may_have_effect move ≡ true)
   has_effect (Ok answer) move r r' old new refused = tt
   has_effect (Err fault) move r r' old new refused = refused_may move r old new fault (may_have_effect move) refl refused.1

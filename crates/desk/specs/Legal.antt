@@ -37,14 +37,14 @@ module _ {J : Type 0} (right : List ℕ → List ℕ → Bool → Option (List �
   legal_of start log (held, makes) = (held.table, leads_of start log held makes)
 
 -- of a desk whose slot has a store too
-module _ {J S : Type 0} (right : List ℕ → List ℕ → Bool → Option (List ℕ) → Type 0) (keeps : S → List Deed → Type 0) (too_long : S → List Deed → Deed → Bool) (broken : S → Bool) (faults : S → ℕ) where
+module _ {J S : Type 0} (right : List ℕ → List ℕ → Bool → Option (List ℕ) → Type 0) (keeps : S → List Deed → Type 0) (passes : S → S → List Deed → Deed → Type 0) (too_long : S → List Deed → Deed → Bool) (broken : S → Bool) (faults : S → ℕ) where
   abbrev pub Beside : Stored J S → TableMove → Reply → Stored J S → Type 0
-  Beside h move reply k = Moves right keeps too_long broken faults (h.table, h.store) move reply (k.table, k.store)
+  Beside h move reply k = Moves right keeps passes too_long broken faults (h.table, h.store) move reply (k.table, k.store)
 
   pub paired : (start : Stored J S) (log : List SeatEntry) (held : Stored J S) → Makes Beside start log held
-      → LeadsStored right keeps too_long broken faults (start.table, start.store) log (held.table, held.store)
+      → LeadsStored right keeps passes too_long broken faults (start.table, start.store) log (held.table, held.store)
   paired start [] held same = λ i. ((same i).table, (same i).store)
   paired start (e ∷ es) held (next, moved, rest) = ((next.table, next.store), moved, paired next es held rest)
 
-  pub legal_beside : (start : Stored J S) (log : List SeatEntry) → CanMake Beside start log → IsStoredLegal right keeps too_long broken faults (start.table, start.store) log
+  pub legal_beside : (start : Stored J S) (log : List SeatEntry) → CanMake Beside start log → IsStoredLegal right keeps passes too_long broken faults (start.table, start.store) log
   legal_beside start log (held, makes) = ((held.table, held.store), paired start log held makes)

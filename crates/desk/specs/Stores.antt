@@ -67,14 +67,14 @@ module _ {S : Type 0} (keeps : S → List Deed → Type 0) (too_long : S → Lis
     pub each : (before : List SeatEntry) (e : SeatEntry) (behind : List SeatEntry) → log ≡ before ++ e ∷ behind
         → AnsweredSo (planned e.table_move (after_entries first before)) (has_disk before) (too_long start (deeds_of first before)) e.reply
 
-module _ {S : Type 0} (right : List ℕ → List ℕ → Bool → Option (List ℕ) → Type 0) (keeps : S → List Deed → Type 0) (too_long : S → List Deed → Deed → Bool) (broken : S → Bool) (faults : S → ℕ) where
+module _ {S : Type 0} (right : List ℕ → List ℕ → Bool → Option (List ℕ) → Type 0) (keeps : S → List Deed → Type 0) (passes : S → S → List Deed → Deed → Type 0) (too_long : S → List Deed → Deed → Bool) (broken : S → Bool) (faults : S → ℕ) where
   -- the moves lead step by step from this table and store to those
   abbrev pub LeadsStored : Register × S → List SeatEntry → Register × S → Type 0
-  LeadsStored start log held = Makes (Moves right keeps too_long broken faults) start log held
+  LeadsStored start log held = Makes (Moves right keeps passes too_long broken faults) start log held
 
   -- the moves can be made one after another from this table and store on, with these replies
   abbrev pub IsStoredLegal : Register × S → List SeatEntry → Type 0
-  IsStoredLegal start log = CanMake (Moves right keeps too_long broken faults) start log
+  IsStoredLegal start log = CanMake (Moves right keeps passes too_long broken faults) start log
 
   -- what a desk holds at its end: the table is the one after the moves that were made, the others leaving it, the store has their effects, and each move was
   -- answered as it has to be

@@ -2,7 +2,7 @@
 
 ghost use Rattle.std.specs.Prelude.{◌≡◌, ◌≤◌, true, IfOk, IfSome, IfNone};
 ghost use Rattle.job_table.specs.Steps.{May, fits, most_first};
-ghost use Rattle.desk.specs.History.{LeadsFrom, IsLegal, IsLegalFrom};
+ghost use Rattle.desk.specs.History.{LeadsFrom, IsLegalFrom};
 ghost use Rattle.desk.specs.Rule.{first_view, out_of};
 ghost use Rattle.desk.specs.SeatMoves.{desk_id, first_number, IsSeatOf, AddsEntry, Waits, Lacks, Closes};
 

@@ -37,7 +37,7 @@ impl<J: Verdicts, S: Store + Drop> StoredDesk<J, S> {
         requires seat { IsSeatOf (desk_id self) me }
         requires first { me.me.0.number ≡ 0 }
         requires alone { out_of me.me.0 ≡ 0 }
-        ensures { ClosesBy (λ log. ClosesStored J.right S.keeps S.too_long S.broken S.faults (told_of self).table (told_of self).store log result.0 result.1) me.me.0 }
+        ensures { ClosesBy (λ log. ClosesStored J.right S.keeps S.passes S.too_long S.broken S.faults (told_of self).table (told_of self).store log result.0 result.1) me.me.0 }
     {
         let Stored { table, store } = self.end(me);
         (table, store)

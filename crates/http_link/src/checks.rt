@@ -1,3 +1,4 @@
+//! The checks of a request's head, in their order.
 ghost use Rattle.std.specs.Prelude.{◌≡◌, ◌==◌, ◌≤◌, ◌<◌, ◌&&◌, ◌||◌, nat_lt, ℕ, List, [], All, Ok, Err, map, length, count_by, IfSome, IsTrue, slice_range, slice_get, codes, None, Some, if◌then◌else◌};
 ghost use Rattle.std.specs.List.{list_all, list_any};
 ghost use Rattle.std.specs.Char.{is_ascii_digit};

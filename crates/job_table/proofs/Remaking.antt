@@ -1,5 +1,6 @@
 -- Effects that are made again lead where effects lead.
 use Rattle.std.proofs.Common.{◌≡◌, ℕ, ◌+◌, nat_eq, nat_le, nat_lt, Bool, true, false, ◌||◌, if◌then◌else◌, List, [], ◌∷◌, ◌++◌, length, map, Option, Some, None, Result, Ok, Err, IsSome, ◌⊎◌, inl, inr, refl, sym, ◌∙◌, ap, subst}
+use Rattle.std.specs.Prelude.{is_some}
 use Rattle.std.specs.Option.{option_map}
 use Rattle.std.proofs.lemmas.List.{map-append, length-map}
 use Rattle.effects.specs.Records.{Deed}
@@ -220,3 +221,10 @@ osil_row (Some Killed) = refl
 
 pub osil_seen : (n : ℕ) (r : Register) → osil_of (phase_of n r.jobs) ≡ osil_in (stage_of n (ledger_of r))
 osil_seen n r = sym (ap osil_in (stage_is n r (phase_of n r.jobs) refl) ∙ osil_row (phase_of n r.jobs))
+
+there_row : (q : Option Phase) → is_some (option_map stage q) ≡ is_some q
+there_row (Some p) = refl
+there_row None = refl
+
+pub there_seen : (n : ℕ) (r : Register) → is_some (phase_of n r.jobs) ≡ is_some (stage_of n (ledger_of r))
+there_seen n r = sym (ap is_some (stage_is n r (phase_of n r.jobs) refl) ∙ there_row (phase_of n r.jobs))

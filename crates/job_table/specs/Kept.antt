@@ -19,8 +19,8 @@ abbrev pub said_in : {A : Type 0} → (A → Option Reply) → Result A NotStore
 said_in said (Ok answer) = said answer
 said_in said (Err fault) = Some (replies.NotStored fault)
 
-module _ {S : Type 0} (keeps : S → List Deed → Type 0) (too_long : S → List Deed → Deed → Bool) (broken : S → Bool) (faults : S → ℕ) where
+module _ {S : Type 0} (keeps : S → List Deed → Type 0) (passes : S → S → List Deed → Deed → Type 0) (too_long : S → List Deed → Deed → Bool) (broken : S → Bool) (faults : S → ℕ) where
   -- where the move was made, its effect was stored, if it has one; without a reply there was no memory, and nothing was put
   abbrev pub KeptBy : Option Deed → S → Option Reply → S → Type 0
-  KeptBy due old (Some reply) new = PutsIf keeps too_long broken faults due old None new
+  KeptBy due old (Some reply) new = PutsIf keeps passes too_long broken faults due old None new
   KeptBy due old None new = new ≡ old

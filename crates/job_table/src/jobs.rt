@@ -108,7 +108,7 @@ fn append<S: Store>(
     requires { Below number phases.old.entries }
     ensures ok { IfOk result (λ put. OnOk put (phases.new.entries ≡ phases.old.entries ++ (number, phase) ∷ [])) }
     ensures refused { IfOk result (λ put. OnErr put (phases.new.entries ≡ phases.old.entries)) }
-    ensures put { IfOk result (λ put. Puts S.keeps S.too_long S.broken S.faults (deed_of effect.now) store.old (fault_of put) store.new) }
+    ensures put { IfOk result (λ put. Puts S.keeps S.passes S.too_long S.broken S.faults (deed_of effect.now) store.old (fault_of put) store.new) }
     ensures lost { OnErr result ((phases.new.entries ≡ phases.old.entries) × (store.new ≡ store.old)) }
 {
     match phases.entry(number) {
@@ -305,8 +305,8 @@ impl Jobs {
     ) -> Result<Result<u64, IssueFault>, NotStored>
         ensures number { IfOk result (λ added. IfOk added (λ number. number ≡ next_number self.old)) }
         ensures added { IfOk result (λ added. (said : Reply) → LeadsBy (adds phase said self.old) self.old (added_reply (λ _. said) added) self.new) }
-        ensures kept { IfOk result (λ added. KeptBy S.keeps S.too_long S.broken S.faults (if has_room self.old then Some (deed_of effect.now) else None) store.old (added_reply (λ _. Reply.Done) added) store.new) }
-        ensures refused { IfErr result (λ fault. (self.new ≡ self.old) × PutsIf S.keeps S.too_long S.broken S.faults (if has_room self.old then Some (deed_of effect.now) else None) store.old (Some fault) store.new) }
+        ensures kept { IfOk result (λ added. KeptBy S.keeps S.passes S.too_long S.broken S.faults (if has_room self.old then Some (deed_of effect.now) else None) store.old (added_reply (λ _. Reply.Done) added) store.new) }
+        ensures refused { IfErr result (λ fault. (self.new ≡ self.old) × PutsIf S.keeps S.passes S.too_long S.broken S.faults (if has_room self.old then Some (deed_of effect.now) else None) store.old (Some fault) store.new) }
     {
         let held = self.phases.len();
         if held >= MOST_JOBS {
@@ -456,7 +456,7 @@ impl Jobs {
     pub(crate) fn rise(&self)
         ensures { Rises self.now }
     {
-        // What the fields keep is at hand where a call is given one.
+        // The prover learns what a field keeps at a call that is given the field.
         let _ = self.waiting.len();
     }
 

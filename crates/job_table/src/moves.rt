@@ -62,10 +62,10 @@ pub trait Move<V: Verdicts>: Sized {
         requires { May V.right (table_move self) }
         ensures ok { IfOk result (λ answer. IfSome (said answer) (λ reply. Step V.right table.old (table_move self) reply table.new)) }
         ensures fits { IfOk result (λ answer. IfSome (said answer) (λ reply. fits (table_move self) reply ≡ true)) }
-        ensures kept { IfOk result (λ answer. KeptBy S.keeps S.too_long S.broken S.faults (planned (table_move self) table.old) store.old (said answer) store.new) }
+        ensures kept { IfOk result (λ answer. KeptBy S.keeps S.passes S.too_long S.broken S.faults (planned (table_move self) table.old) store.old (said answer) store.new) }
         ensures sure { IfOk result (λ answer. IfNone (said answer) (wants_memory (table_move self) table.old ≡ true)) }
         ensures err { IfOk result (λ answer. IfNone (said answer) (table.new ≡ table.old)) }
-        ensures refused { IfErr result (λ fault. (table.new ≡ table.old) × PutsIf S.keeps S.too_long S.broken S.faults (planned (table_move self) table.old) store.old (Some fault) store.new) };
+        ensures refused { IfErr result (λ fault. (table.new ≡ table.old) × PutsIf S.keeps S.passes S.too_long S.broken S.faults (planned (table_move self) table.old) store.old (Some fault) store.new) };
 
     /// Makes the move at its table, and keeps no effect. Where there is no memory, the table stays.
     fn make(self, table: &mut Table<V>) -> Self::Answer

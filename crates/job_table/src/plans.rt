@@ -78,7 +78,7 @@ fn only_if(is: bool, effect: Effect<'_>) -> Option<Effect<'_>>
 
 /// Puts an effect, where there is one.
 pub(crate) fn put_if<S: Store>(store: &mut S, effect: Option<Effect<'_>>) -> Result<(), NotStored>
-    ensures { PutsIf S.keeps S.too_long S.broken S.faults (option_map deed_of effect.entry) store.old (fault_of result) store.new }
+    ensures { PutsIf S.keeps S.passes S.too_long S.broken S.faults (option_map deed_of effect.entry) store.old (fault_of result) store.new }
 {
     match effect {
         Some(effect) => store.put(&effect),

@@ -1,6 +1,6 @@
 //! Effects, made again in a table.
 
-ghost use Rattle.std.specs.Prelude.{◌≡◌, nat_lt, Some, None, true, false, if◌then◌else◌, IfOk};
+ghost use Rattle.std.specs.Prelude.{◌≡◌, nat_lt, Some, None, is_some, true, false, if◌then◌else◌, IfOk};
 ghost use Rattle.std.specs.Option.{option_copied};
 ghost use Rattle.effects.specs.Records as deeds;
 ghost use Rattle.effects.specs.Records.{paper_of, deed_of};
@@ -119,6 +119,16 @@ fn osil_of(phase: Option<&Phase>) -> Option<&[u8]>
         Some(Phase::Finished(_)) => None,
         Some(Phase::Killed) => None,
         None => None,
+    }
+}
+
+/// Whether a job is there.
+fn is_there(phase: Option<&Phase>) -> bool
+    ensures { result ≡ is_some (option_copied phase.entry) }
+{
+    match phase {
+        Some(_) => true,
+        None => false,
     }
 }
 
@@ -352,5 +362,9 @@ impl<V: Verdicts> Replay for Remade<V> {
 
     fn osil(&self, number: u64) -> Option<&[u8]> {
         osil_of(self.jobs.phase(number))
+    }
+
+    fn has_job(&self, number: u64) -> bool {
+        is_there(self.jobs.phase(number))
     }
 }

@@ -86,8 +86,8 @@ impl<V: Verdicts> Table<V> {
         store: &mut S,
     ) -> Result<Result<u64, IssueFault>, NotStored>
         ensures made { IfOk result (λ added. Follows TableMove.Issue self.old (added_reply Reply.Issued added) self.new) }
-        ensures kept { IfOk result (λ added. KeptBy S.keeps S.too_long S.broken S.faults (planned TableMove.Issue self.old) store.old (added_reply Reply.Issued added) store.new) }
-        ensures refused { IfErr result (λ fault. (self.new ≡ self.old) × PutsIf S.keeps S.too_long S.broken S.faults (planned TableMove.Issue self.old) store.old (Some fault) store.new) }
+        ensures kept { IfOk result (λ added. KeptBy S.keeps S.passes S.too_long S.broken S.faults (planned TableMove.Issue self.old) store.old (added_reply Reply.Issued added) store.new) }
+        ensures refused { IfErr result (λ fault. (self.new ≡ self.old) × PutsIf S.keeps S.passes S.too_long S.broken S.faults (planned TableMove.Issue self.old) store.old (Some fault) store.new) }
     {
         self.jobs.add_kept(Phase::Issued, &Effect::Issue, store)
     }
@@ -121,8 +121,8 @@ impl<V: Verdicts> Table<V> {
         store: &mut S,
     ) -> Result<Result<Job, IssueFault>, NotStored>
         ensures made { IfOk result (λ added. Follows (TableMove.Enter osil osol) self.old (added_reply (λ job. Reply.Gave (Some job)) added) self.new) }
-        ensures kept { IfOk result (λ added. KeptBy S.keeps S.too_long S.broken S.faults (planned (TableMove.Enter osil osol) self.old) store.old (added_reply (λ job. Reply.Gave (Some job)) added) store.new) }
-        ensures refused { IfErr result (λ fault. (self.new ≡ self.old) × PutsIf S.keeps S.too_long S.broken S.faults (planned (TableMove.Enter osil osol) self.old) store.old (Some fault) store.new) }
+        ensures kept { IfOk result (λ added. KeptBy S.keeps S.passes S.too_long S.broken S.faults (planned (TableMove.Enter osil osol) self.old) store.old (added_reply (λ job. Reply.Gave (Some job)) added) store.new) }
+        ensures refused { IfErr result (λ fault. (self.new ≡ self.old) × PutsIf S.keeps S.passes S.too_long S.broken S.faults (planned (TableMove.Enter osil osol) self.old) store.old (Some fault) store.new) }
     {
         let (kept_osil, osil) = osil.split();
         let (kept_osol, osol) = osol.split();

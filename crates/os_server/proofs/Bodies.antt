@@ -1,9 +1,5 @@
 -- What a body asks, by what its parts say.
 use Rattle.std.proofs.Common.{◌≡◌, ◌≢◌, ◌==◌, ℕ, Bool, true, false, List, [], length, ap}
-use Rattle.soap_calls.specs.declared.call.SoapCall as types
-use Rattle.os_server.specs.declared.fault.FaultCode.TheVariants as code
-use Rattle.os_server.specs.declared.fault.NoOrder as none
-use Rattle.os_server.specs.declared.fault.NoOrder.TheVariants as no
 
 pub not_empty : (text : List ℕ) (b : Bool) → b ≡ (length text == 0) → b ≡ false → text ≢ []
 not_empty text b is isnt e = let full : (length text == 0) ≡ true = ap (λ t. length t == 0) e in cc

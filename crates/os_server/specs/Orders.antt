@@ -1,5 +1,5 @@
 -- What the body of a request asks of the table of jobs, or why it asks nothing (SOAP 1.1, sections 4 and 4.4, and the calls of the Optimization Services).
-use Rattle.std.specs.Prelude.{◌≡◌, ◌≢◌, ◌⊎◌, ℕ, ◌<◌, ◌^◌, List, [], ◌++◌, Option, codes}
+use Rattle.std.specs.Prelude.{◌≡◌, ◌≢◌, ◌⊎◌, ℕ, ◌<◌, ◌^◌, List, [], ◌++◌, codes}
 use Rattle.job_table.specs.Ids.{id_text}
 use Rattle.six_calls.specs.declared.part.Part as given
 use Rattle.soap_calls.specs.declared.call.SoapCall.{SoapCall}

@@ -28,7 +28,7 @@ pub enum ServeFault {
 /// How much is served.
 #[derive(Clone, Copy, PartialEq, Eq, Drop)]
 pub struct ServeLimits {
-    /// How many links may be served at once.
+    /// How many links may be served at once, at least one.
     pub servers: u32,
     /// How many links are to come.
     pub connections: u32,

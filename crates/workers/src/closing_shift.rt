@@ -14,7 +14,7 @@ use std::alloc::Global;
 use std::sync::Wait;
 
 /// Works one shift without sleeping, by moves of this seat: it enlists, claims and runs until a claim gives none, and leaves. Where
-/// nobody else makes moves any more, no job waits behind it.
+/// nobody else makes moves any more, no job waits behind it. One whose finish isn't stored stays running.
 pub fn work_closing_shift<J: Verdicts, T: Slotted<J>, R: Wait, U: Runner<J>>(
     rt: &R,
     alloc: Global,
