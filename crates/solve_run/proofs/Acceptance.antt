@@ -10,9 +10,8 @@ use Rattle.certificate.specs.declared.causes.Cause.TheVariants as causes
 use Rattle.certificate.specs.declared.claims.Claim.{Claim}
 use Rattle.certificate.specs.declared.claims.Claim.TheVariants as Has
 use Rattle.simplex_rules.specs.Ends.{Terms, Clock}
-use Rattle.search_rules.specs.Search.{Found, Outcome, IsSearchAnswer, searched, given_up as given_up_at, early}
+use Rattle.search_rules.specs.Search.{Outcome, IsSearchAnswer, searched, given_up as given_up_at, early}
 use Rattle.search_rules.specs.Outcomes.{IsShown}
-use Rattle.branch_bound.specs.Claims.{ClaimTells}
 use Rattle.osol_grammar.specs.declared.options.Options.{Options}
 use Rattle.osol_grammar.specs.Meaning.{IsOptionsText}
 use Rattle.osol_grammar.specs.Back.{IsNameOrNone}
@@ -24,13 +23,15 @@ use Rattle.osrl_grammar.specs.Back.{IsBareOrNone, CauseComesBack, ClaimComesBack
 use Rattle.document_checker.specs.declared.documents.Kind.{Kind}
 use Rattle.document_checker.specs.Documents.{kind, IsAcceptedText}
 use Rattle.solve_run.specs.Judging.{IsShownClaim, HasFewRounds, IsFinal, given_up, IsJudged, checked}
-use Rattle.solve_run.specs.Closings.{claim_report, IsShort, IsFitted, IsToldOf}
+use Rattle.solve_run.specs.Closings.{error_report, claim_report, IsShort, IsFitted, IsToldOf}
 use Rattle.solve_run.specs.JobAnswers.{job_terms, Solved, IsJobOf, IsBestOfSearch, AnswersJob, no_options, no_instance, solved, gave_up}
-use Rattle.solve_run.proofs.Lengths.{IsShortName}
+use Rattle.solve_run.proofs.Lengths.{IsShortName, unsure_short, error_short}
+use Rattle.solve_run.proofs.InkedTexts.{IsMessage}
+use Rattle.solve_run.proofs.FaultMessages.{options_message, instance_message}
 use Rattle.solve_run.proofs.Names.{short_name, bare_name}
 use Rattle.solve_run.proofs.PartialClaims.{given_other, given_shown}
 use Rattle.solve_run.proofs.WidthRefusals.{best_accepted}
-use Rattle.solve_run.proofs.ReadBack.{shown_back, wanting_causes}
+use Rattle.solve_run.proofs.RoundTrips.{shown_back, wanting_causes}
 use Rattle.solve_run.proofs.Runs.{claim_short, wanting}
 
 -- ---- claims
@@ -171,8 +172,31 @@ module _ (names : (bytes : List ℕ) (o : Options) → IsOptionsText bytes o →
           absurd (cc)
       by (inr best) = best_good osil osol a.job a.claim r a.whose best a.is
 
-  pub answer_read : (osil osol : List ℕ) (asked : Bool) (r : Report) (c : Claim) (k : Kind) → AnswersJob osil osol asked r → r.claim ≡ Some c → kind c ≡ Some k → IsReportText (report_text r) r
-  answer_read osil osol asked r c k a stands says = good_read osil r (answer_good osil osol asked r c k a stands says)
+  -- the report of an error is read too
+  error_read : (job : Option (List ℕ)) (message : List ℕ) (r : Report) → IsBareOrNone job → IsShortName job → IsMessage message → r ≡ error_report job message → IsReportText (report_text r) r
+  error_read job message r bare short told is =
+      subst (λ (s : Report). IsReportText (report_text s) s) (sym is)
+      (comes_back (error_report job message) (record { short = error_short job short message told.short; job = bare; message = told.bare; claim = tt }))
+
+  -- and so is one that tells nothing
+  unsure_read : (job : Option (List ℕ)) (c : Cause) (r : Report) → IsBareOrNone job → IsShortName job → CauseComesBack c → r ≡ claim_report job (Has.Unsure c) → IsReportText (report_text r) r
+  unsure_read job c r bare short back is =
+      subst (λ (s : Report). IsReportText (report_text s) s) (sym is)
+      (comes_back (claim_report job (Has.Unsure c)) (record { short = unsure_short job short c; job = bare; message = tt; claim = back }))
+
+  pub answer_read : (osil osol : List ℕ) (asked : Bool) (r : Report) → AnswersJob osil osol asked r → IsReportText (report_text r) r
+  answer_read osil osol asked r (no_options a) = error_read None a.message r tt tt (options_message a.fault a.message a.says) a.is
+  answer_read osil osol asked r (no_instance a) =
+      let name = names osol a.options a.options_text in
+      error_read a.options.job a.message r (bare_name a.options.job name) (short_name a.options.job name) (instance_message osil a.fault a.message a.fails a.says) a.is
+  answer_read osil osol asked r (solved stop looks may s) = good_read osil r (solved_good osil osol stop looks r s)
+  answer_read osil osol asked r (gave_up a) = by a.claims
+    where
+      by : (a.claim ≡ Has.Unsure causes.Memory) ⊎ IsBestOfSearch osil osol a.claim → IsReportText (report_text r) r
+      by (inl unsure) =
+          let named = job_bare osol a.job a.whose in
+          unsure_read a.job causes.Memory r named.0 named.1 tt (a.is ∙ ap (claim_report a.job) unsure)
+      by (inr best) = good_read osil r (best_good osil osol a.job a.claim r a.whose best a.is)
 
   pub answer_accepted : (osil osol : List ℕ) (asked : Bool) (r : Report) (c : Claim) (k : Kind) → AnswersJob osil osol asked r → r.claim ≡ Some c → kind c ≡ Some k → IsAcceptedText osil (report_text r) k
   answer_accepted osil osol asked r c k a stands says = good_accepted osil r c k stands says (answer_good osil osol asked r c k a stands says)

@@ -17,12 +17,13 @@ use Rattle.certificate.specs.Nodes.{certs_of, nodes_of, IsInRange}
 use Rattle.certificate.specs.declared.nodes.Cert.{Cert}
 use Rattle.certificate.specs.declared.claims.Claim.{Claim}
 use Rattle.certificate.specs.declared.claims.Claim.TheVariants as Has
+use Rattle.osol_grammar.specs.Limits.{most_rounds}
 use Rattle.search_rules.specs.Search.{Outcome, Optimal, Infeasible, Unbounded, BestSoFar, Unsure}
 use Rattle.search_rules.specs.Outcomes.{IsShown, ProvesAfter}
 use Rattle.branch_bound.specs.Claims.{ClaimTells, said}
 use Rattle.solve_run.specs.Judging.{IsShownClaim, HasFewRounds}
 use Rattle.solve_run.proofs.Numbers.{HasColumn, IsWithin, nodes_within, some_nodes, in_range}
-use Rattle.solve_run.proofs.Proved.{ProvesIn, most_columns, best_levels, endless_levels}
+use Rattle.solve_run.proofs.LevelProofs.{ProvesIn, most_columns, best_levels, endless_levels}
 
 -- what is said carries these certificates
 abbrev pub said_certificates : Says.Claim → List Certificate
@@ -81,7 +82,7 @@ each_proves P (BestSoFar x vs c) s = All-nil (ProvesIn (most_columns P))
 each_proves P (Unsure c) s = All-nil (ProvesIn (most_columns P))
 
 -- a problem's programs have few columns
-few_columns : (p : Parts) → IsValid p → most_columns (problem p) + 100 ≤ 2 ^ 32
+few_columns : (p : Parts) → IsValid p → most_columns (problem p) + most_rounds ≤ 2 ^ 32
 few_columns p valid =
     let vars = valid.few_vars in
     let rows = valid.few_rows in
@@ -90,9 +91,9 @@ few_columns p valid =
 
 pub shown_within : (p : Parts) (c : Claim) → IsValid p → IsShownClaim p c → HasFewRounds c → All (IsCertWithin (2 ^ 32)) (Means.certificates (certs_of c))
 shown_within p c valid s few =
-    certs_within (2 ^ 32) (most_columns (problem p)) 100 (Means.certificates (certs_of c)) (few_columns p valid)
+    certs_within (2 ^ 32) (most_columns (problem p)) most_rounds (Means.certificates (certs_of c)) (few_columns p valid)
     (subst (All (ProvesIn (most_columns (problem p)))) (carried c s.outcome s.tells) (each_proves (problem p) s.outcome s.shown))
-    (All-map (λ (d : Certificate). length d.rounds ≤ 100) Means.certificate (certs_of c)
+    (All-map (λ (d : Certificate). length d.rounds ≤ most_rounds) Means.certificate (certs_of c)
     (λ i d h. let cert : Cert = slice_index_or (certs_of c) i d in let less = few i d h in omega (arith, less, length-map cert.rounds Means.multipliers)))
 
 -- splits of what is shown are at numbers that fit

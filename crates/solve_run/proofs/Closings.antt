@@ -11,7 +11,7 @@ use Rattle.solve_run.specs.declared.document.Document.{Document}
 use Rattle.solve_run.specs.Judging.{IsShownClaim, HasFewRounds, given_up, wide_check, IsJudged, checked}
 use Rattle.solve_run.specs.Closings.{IsFitted}
 use Rattle.solve_run.specs.Runs.{HasCauses, IsFittedDocument, IsClaimTold}
-use Rattle.solve_run.proofs.ReadBack.{shown_back}
+use Rattle.solve_run.proofs.RoundTrips.{shown_back}
 
 given_back : (c : Claim) (cause : Cause) → CauseComesBack cause → ClaimComesBack (Some c) → ClaimComesBack (Some (given_up c cause))
 given_back (Optimal x vs cs) cause h back = (back.0, h)

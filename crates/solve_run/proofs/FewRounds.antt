@@ -12,7 +12,7 @@ use Rattle.simplex_rules.specs.Ends.{Terms, Clock, End, Clash, Empty, Best, Endl
 use Rattle.simplex_rules.specs.Runs.{looked_once}
 use Rattle.search_rules.specs.Branching.{Case}
 use Rattle.search_rules.specs.Cuts.{Trial, NoCut, WideCut, Cut}
-use Rattle.search_rules.specs.Search.{Found, Outcome, SearchMoment, NextOfSearch, To, Out, early, shown_at, StopsBefore, Branches, MayCut, Takes, TakesPoint, MeetsPoint, GoesFromTrial, Improves, GoesFromBest, GoesFrom, Closes, IsNext, ComesInSearch, begins, goes_on, Search, IsSearchAnswer, searched, given_up, given_up_after}
+use Rattle.search_rules.specs.Search.{Found, Outcome, SearchMoment, NextOfSearch, To, Out, early, shown_at, StopsBefore, Branches, MayCut, Takes, TakesPoint, MeetsPoint, GoesFromTrial, Improves, GoesFromBest, GoesFrom, Closes, IsNextInSearch, ComesInSearch, begins, goes_on, Search, IsSearchAnswer, searched, given_up, given_up_after}
 use Rattle.branch_bound.specs.Claims.{said}
 use Rattle.solve_run.proofs.ClaimNodes.{said_certificates}
 
@@ -96,7 +96,7 @@ module _ (P : Problem) (t : Terms) where
     goes_few C before (TooWide s) e = given m _ _ next e
     goes_few C before Stopped e = given m _ _ next e
 
-  next_few : (m : SearchMoment) (next : NextOfSearch) → AreFew m → IsNext P t m next → AreFewThen next
+  next_few : (m : SearchMoment) (next : NextOfSearch) → AreFew m → IsNextInSearch P t m next → AreFewThen next
   next_few m next few (inl (none, c)) = closes_few m m.best m.level.later next few c
   next_few m next few (inr (inl (some, s))) = stops_few m next s
   next_few m next few (inr (inr v)) = goes_few (record m { clock = v.clock }) few v.visit.rest next v.visit.case (looked_once m.clock) v.end v.goes

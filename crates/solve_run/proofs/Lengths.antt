@@ -18,8 +18,9 @@ use Rattle.certificate.specs.declared.claims.Claim.{Claim}
 use Rattle.certificate.specs.declared.claims.Claim.TheVariants.{BestSoFar, Unsure}
 use Rattle.osrl_grammar.specs.Cuts.{cut_size, without_zeros, decimals, has_sign, cut_text}
 use Rattle.osrl_grammar.specs.Items.{step_text}
-use Rattle.osrl_grammar.specs.Writing.{variable_values, goal_values, cause_text, item_nodes, fraction_texts, report_element, claim_nodes}
-use Rattle.solve_run.specs.Closings.{claim_report, IsShort}
+use Rattle.osrl_grammar.specs.Writing.{variable_values, goal_values, cause_text, item_nodes, fraction_texts, report_element, report_text, claim_nodes}
+use Rattle.document_tags.specs.Texts.{document_limit}
+use Rattle.solve_run.specs.Closings.{claim_report, error_report, IsShort}
 
 -- a job's name, if there is one, has at most 256 bytes
 abbrev pub IsShortName : Option (List ℕ) → Type 0
@@ -164,3 +165,17 @@ module _ (job : Option (List ℕ)) (short : IsShortName job) where
 
   pub best_short : (x vs : List Frac) (c : Cause) → length x ≤ 1000 → length vs ≤ 8 → IsShort job (BestSoFar x vs c)
   best_short x vs c few asked = whole_size (BestSoFar x vs c) (best_size x vs c few asked)
+
+  -- the document of an error with a short message isn't either
+  error_size : (message : List ℕ) → length message ≤ 300 → nodes_size (report_element (error_report job message)).children ≤ 10000
+  error_size message few = by job short
+    where
+      by : (j : Option (List ℕ)) → IsShortName j → nodes_size (report_element (error_report j message)).children ≤ 10000
+      by None s = let said = text_size message in omega (arith, said, few)
+      by (Some name) s = let text = text_size name in let said = text_size message in omega (arith, text, s, said, few)
+
+  pub error_short : (message : List ℕ) → length message ≤ 300 → length (report_text (error_report job message)) ≤ document_limit
+  error_short message few =
+      let all = written_short (report_element (error_report job message)) in
+      let most = error_size message few in
+      omega (arith, all, most)

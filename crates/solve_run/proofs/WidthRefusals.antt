@@ -28,7 +28,7 @@ use Rattle.cert_checker.specs.Settled.{Settles, AreSettled, IsForWidth}
 use Rattle.cert_checker.specs.Refusals.{IsRefusedFor}
 use Rattle.cert_checker.proofs.Refusals.{not_claim_rounds}
 use Rattle.solve_run.specs.Judging.{IsShownClaim, IsFinal, IsWideAt}
-use Rattle.solve_run.proofs.Proved.{settled_by, best_levels, endless_levels, rounds_hold}
+use Rattle.solve_run.proofs.LevelProofs.{settled_by, best_levels, endless_levels, rounds_hold}
 
 -- ---- points
 

@@ -12,6 +12,7 @@ use Rattle.certificate.specs.declared.causes.Cause.TheVariants as causes
 use Rattle.certificate.specs.declared.causes.Step.TheVariants as steps
 use Rattle.certificate.specs.declared.claims.Claim.{Claim}
 use Rattle.certificate.specs.declared.claims.Claim.TheVariants.{Optimal, Infeasible, Unbounded, BestSoFar, Unsure}
+use Rattle.osol_grammar.specs.Limits.{most_rounds}
 use Rattle.search_rules.specs.Search.{Outcome}
 use Rattle.search_rules.specs.Outcomes.{IsShown}
 use Rattle.branch_bound.specs.Claims.{ClaimTells}
@@ -28,7 +29,7 @@ pub record IsShownClaim (p : Parts) (c : Claim) : Type 0 where
 
 -- as many rounds as options may ask for
 abbrev pub AreFewRounds : ℕ → Type 0
-AreFewRounds n = n ≤ 100
+AreFewRounds n = n ≤ most_rounds
 
 abbrev pub HasFewRounds : Claim → Type 0
 HasFewRounds c = All (λ (cert : Cert). AreFewRounds (length cert.rounds)) (certs_of c)

@@ -1,7 +1,8 @@
 //! What is known of all answers to jobs.
-ghost use Rattle.std.specs.Prelude.{◌≡◌, ◌⊎◌, ℕ, Bool, false, Option, None, Some, List};
+ghost use Rattle.std.specs.Prelude.{◌≡◌, ◌⊎◌, ◌≤◌, ℕ, Bool, false, Option, None, Some, List, length};
 ghost use Rattle.evidence.specs.Claim.{IsTrueOf};
 ghost use Rattle.instance.specs.Parts.{Parts};
+ghost use Rattle.document_tags.specs.Texts.{document_limit};
 ghost use Rattle.instance.specs.Program.{problem};
 ghost use Rattle.certificate.specs.Meanings as Means;
 ghost use Rattle.certificate.specs.declared.claims.Claim.{Claim};
@@ -100,13 +101,25 @@ pub fn ended_searches_are_told()
     searches_are_one();
 }
 
+/// Law: whatever an answer says, be it a claim, that nothing is known, or why the options or the instance were refused, its document
+/// is read as that answer, and isn't longer than a document may be.
+pub fn answers_are_read_back()
+    ensures read { (osil osol : List ℕ) (asked : Bool) (r : Report) → AnswersJob osil osol asked r → IsReportText (report_text r) r }
+    ensures short { (osil osol : List ℕ) (asked : Bool) (r : Report) → AnswersJob osil osol asked r → length (report_text r) ≤ document_limit }
+{
+    options_have_names();
+    problems_have_numbers();
+    answers_are_shown();
+    written_texts_are_reports();
+}
+
 /// Law: what an answer claims, be it that a point is optimal, that none is feasible, that points have no best value, or a
-/// point, is read from its document as it was told, is accepted by the checker of documents from their bytes, and is true.
+/// point, is accepted by the checker of documents from the bytes of the answer's document, and is true.
 pub fn claims_are_accepted()
-    ensures read { (osil osol : List ℕ) (asked : Bool) (r : Report) (c : Claim) (k : Kind) → AnswersJob osil osol asked r → r.claim ≡ Some c → kind c ≡ Some k → IsReportText (report_text r) r }
     ensures accepted { (osil osol : List ℕ) (asked : Bool) (r : Report) (c : Claim) (k : Kind) → AnswersJob osil osol asked r → r.claim ≡ Some c → kind c ≡ Some k → IsAcceptedText osil (report_text r) k }
     ensures is_true { (osil osol : List ℕ) (asked : Bool) (p : Parts) (r : Report) (c : Claim) (k : Kind) → IsInstanceText osil p → AnswersJob osil osol asked r → r.claim ≡ Some c → kind c ≡ Some k → IsTrueOf (problem p) (Means.claim c) }
 {
+    answers_are_read_back();
     options_have_names();
     problems_have_numbers();
     answers_are_shown();

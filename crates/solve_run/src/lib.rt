@@ -7,8 +7,9 @@
 //! point is told, with that cause. [`answer_job`] does the same, and its [`Document`] says too whether the report is of an error.
 //!
 //! `Right` says which documents answer a job: for one pair of texts there is one, but for want of memory and for the look that
-//! stops the search. The laws say so, that a search which comes to its end is told, and that what a document claims is
-//! accepted by the checker from the document's own bytes, and so is true.
+//! stops the search. The laws say so, that a search which comes to its end is told, that each document, whatever it says, is read
+//! as the answer that it was written from, and that what a document claims is accepted by the checker from the document's own
+//! bytes, and so is true.
 #![tactic(auto)]
 
 mod closing;
@@ -20,7 +21,7 @@ mod telling;
 
 pub use document::Document;
 pub use laws::{
-    answers_are_one, answers_exclude_each_other, claims_are_accepted, ended_searches_are_told,
-    found_claims_are_refused_for_width_alone,
+    answers_are_one, answers_are_read_back, answers_exclude_each_other, claims_are_accepted,
+    ended_searches_are_told, found_claims_are_refused_for_width_alone,
 };
 pub use running::{answer_job, run_job};

@@ -1,8 +1,5 @@
-use Rattle.solve_run.proofs.Acceptance.{answer_read, answer_accepted}
+use Rattle.solve_run.proofs.Acceptance.{answer_accepted}
 use Rattle.solve_run.proofs.laws.claims_are_accepted.Goals as goal
-
-pub returns-clause-read : goal.returns-clause-read
-returns-clause-read c = answer_read c.options_have_names.ensures c.problems_have_numbers.ensures.numbers c.answers_are_shown.ensures c.written_texts_are_reports.ensures
 
 pub returns-clause-accepted : goal.returns-clause-accepted
 returns-clause-accepted c = answer_accepted c.options_have_names.ensures c.problems_have_numbers.ensures.numbers c.answers_are_shown.ensures c.written_texts_are_reports.ensures
@@ -11,6 +8,4 @@ pub returns-clause-is_true : goal.returns-clause-is_true
 returns-clause-is_true c = λ osil osol asked p r claim k text answers stands says.
     c.accepted_documents_are_true.ensures.is_true osil _ k p r claim
     (answer_accepted c.options_have_names.ensures c.problems_have_numbers.ensures.numbers c.answers_are_shown.ensures c.written_texts_are_reports.ensures osil osol asked r claim k answers stands says)
-    text
-    (answer_read c.options_have_names.ensures c.problems_have_numbers.ensures.numbers c.answers_are_shown.ensures c.written_texts_are_reports.ensures osil osol asked r claim k answers stands says)
-    stands
+    text (c.answers_are_read_back.ensures.read osil osol asked r answers) stands

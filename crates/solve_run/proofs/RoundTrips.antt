@@ -32,7 +32,7 @@ use Rattle.osrl_grammar.specs.Back.{HaveColumns, NodeComesBack, CauseComesBack, 
 use Rattle.solve_run.specs.Judging.{IsShownClaim, HasFewRounds}
 use Rattle.solve_run.specs.Runs.{HasCauses}
 use Rattle.solve_run.proofs.Numbers.{HasColumn, IsWithin, each_of}
-use Rattle.solve_run.proofs.Proved.{at_most_goals, best_levels, endless_levels, HasNoRounds, HaveNoRoundsBehind, none_behind}
+use Rattle.solve_run.proofs.LevelProofs.{at_most_goals, best_levels, endless_levels, HasNoRounds, HaveNoRoundsBehind, none_behind}
 use Rattle.solve_run.proofs.ClaimNodes.{said_certificates, carried, IsCertWithin, shown_within}
 
 -- ---- certificates

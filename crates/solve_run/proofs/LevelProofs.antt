@@ -8,7 +8,7 @@ use Rattle.evidence.specs.Cases.{Multiplier, Node}
 use Rattle.evidence.specs.Rounds.{Certificate, derive}
 use Rattle.evidence.specs.Levels.{next_level, RoundsAreOfOneGoal}
 use Rattle.evidence.proofs.AddedRows.{height_added}
-use Rattle.search_rules.specs.Outcomes.{ProvesAfter, CertificateProves, AreProved, ProvesEndless}
+use Rattle.search_rules.specs.Outcomes.{ProvesAfter, CertificateProves, AreLevelsProved, ProvesEndless}
 use Rattle.cert_checker.specs.RoundRefusals.{IsAfterRounds}
 use Rattle.cert_checker.specs.LevelRefusals.{Ending, Best, Endless, ClaimRoundsHold}
 use Rattle.cert_checker.specs.Settled.{Settles, AreSettled}
@@ -62,7 +62,7 @@ module _ (most : ℕ) (I : Instance) (g : Goal) (gs : List Goal) (v : Ratio) (c 
   each_more : CertificateProves I c (Some (minimising I v)) → All (ProvesIn most) cs → All (ProvesIn most) (c ∷ cs)
   each_more p rest = All-cons (ProvesIn most) c cs (I, Some (minimising I v), omega (arith, few), p) rest
 
-best_of : (gs : List Goal) (most : ℕ) (I : Instance) (vs : List Ratio) (cs : List Certificate) → width I + height I + length gs ≤ most → AreProved I gs vs cs → AreOfLevels Best most I gs vs cs
+best_of : (gs : List Goal) (most : ℕ) (I : Instance) (vs : List Ratio) (cs : List Certificate) → width I + height I + length gs ≤ most → AreLevelsProved I gs vs cs → AreOfLevels Best most I gs vs cs
 best_of [] most I [] cs few p = absurd p
 best_of [] most I (v ∷ []) [] few p = absurd p
 best_of [] most I (v ∷ []) (c ∷ []) few p = record {
@@ -106,7 +106,7 @@ abbrev pub most_columns : Problem → ℕ
 most_columns P = width P.program + height P.program + length P.later
 
 module _ (P : Problem) where
-  pub best_levels : (vs : List Ratio) (cs : List Certificate) → AreProved P.program P.later vs cs → AreOfLevels Best (most_columns P) P.program P.later vs cs
+  pub best_levels : (vs : List Ratio) (cs : List Certificate) → AreLevelsProved P.program P.later vs cs → AreOfLevels Best (most_columns P) P.program P.later vs cs
   best_levels vs cs p = best_of P.later (most_columns P) P.program vs cs (omega arith) p
 
   pub endless_levels : (vs x d : List Ratio) (cs : List Certificate) → ProvesEndless P.program P.later vs cs x d → AreOfLevels (Endless x d) (most_columns P) P.program P.later vs cs

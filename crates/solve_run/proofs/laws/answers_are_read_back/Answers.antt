@@ -1,0 +1,9 @@
+use Rattle.solve_run.proofs.Acceptance.{answer_read}
+use Rattle.solve_run.proofs.laws.answers_are_read_back.Goals as goal
+
+pub returns-clause-read : goal.returns-clause-read
+returns-clause-read c = answer_read c.options_have_names.ensures c.problems_have_numbers.ensures.numbers c.answers_are_shown.ensures c.written_texts_are_reports.ensures
+
+pub returns-clause-short : goal.returns-clause-short
+returns-clause-short c = λ osil osol asked r answers.
+    (answer_read c.options_have_names.ensures c.problems_have_numbers.ensures.numbers c.answers_are_shown.ensures c.written_texts_are_reports.ensures osil osol asked r answers).document.short
