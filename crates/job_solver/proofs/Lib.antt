@@ -3,3 +3,8 @@ pub mod ProvedDocuments
 pub mod Sieves
 pub mod StoredDocuments
 pub mod Openings
+pub mod Compactions
+pub mod RightDocuments
+pub mod AlikeLedgers
+pub mod HeldNumbers
+pub mod StoredEffects

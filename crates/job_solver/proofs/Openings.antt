@@ -1,5 +1,5 @@
 -- A journal that is opened, with numbers that begin with one that is asked for.
-use Rattle.std.proofs.Common.{◌≡◌, inl, inr, ℕ, ◌≤◌, nat_eq, nat_le, nat_lt, Bool, true, false, ◌&&◌, if◌then◌else◌, List, [], ◌∷◌, ◌++◌, Option, Some, None, Err, refl, sym, ap, ◌∙◌, subst, arith}
+use Rattle.std.proofs.Common.{◌≡◌, ◌⊎◌, inl, inr, ⊎_elim, ℕ, ◌≤◌, nat_eq, nat_le, nat_lt, Bool, true, false, ◌&&◌, if◌then◌else◌, List, [], ◌∷◌, ◌++◌, Option, Some, None, Err, refl, sym, ap, ◌∙◌, subst, arith}
 use Rattle.std.proofs.lemmas.Bool.Decides.{nat_tests}
 use Rattle.os_io.specs.Streams.{HasRisen}
 use Rattle.effects.specs.Limits.{most_first}
@@ -9,14 +9,18 @@ use Rattle.job_table.specs.Jobs.{Register}
 use Rattle.job_table.specs.Remade.{table_of}
 use Rattle.job_journal.specs.declared.scanning.OpenFault.{OpenFault}
 use Rattle.job_journal.specs.declared.scanning.OpenFault.TheVariants.{ReadFault, WriteFault, Damaged, Memory}
-use Rattle.job_journal.specs.Journal.{FileRests}
-use Rattle.job_journal.specs.Opening.{FoldsTo, WasMade, IsOpened, IsUnfound, DamagedIn, CountsFault, CountsBack}
+use Rattle.disks.specs.Disks.{LeavesOnly}
+use Rattle.disks.proofs.Moments.{started}
+use Rattle.job_journal.specs.Journal.{FileRests, FileStandsFor, IsBeforeOrAfter}
+use Rattle.job_journal.specs.Opening.{FoldsTo, WasMade, IsOpened, LeavesFile, DamagedIn, CountsFault, CountsBack}
+use Rattle.job_journal.proofs.Calms.{runs_on}
+use Rattle.job_journal.proofs.Opens.{weaker}
 use Rattle.job_journal.proofs.Scans.{folds_push}
 use Rattle.job_solver.specs.Sieves.{Sifts}
-use Rattle.job_solver.specs.Openings.{BeginsWith, BegunWith, GoesOn, IsTableOf}
+use Rattle.job_solver.specs.Openings.{BeginsWith, BegunWith, GoesOn, IsOfFile, IsOfNumber, IsTableOf}
 use Rattle.job_solver.proofs.StoredDocuments.{going_on}
 
-some_same : (l m : Ledger) → Some l ≡ Some m → l ≡ m
+pub some_same : (l m : Ledger) → Some l ≡ Some m → l ≡ m
 some_same l m is = cc
 
 -- numbers begin with this one where none was given
@@ -61,31 +65,47 @@ module _ {D : Type 0} (seen : D → List ℕ) (may_leave : D → List ℕ → Ty
   pub table_on : (file : List ℕ) (disk disk' : D) (end end' : ℕ) (l l' : Ledger) (table : Register) → told disk ≡ true → IsOpened Sifts seen may_leave file disk end l → Begun disk end l disk' end' l'
       → table ≡ table_of l' → IsTableOf seen may_leave file first table disk' end'
   table_on file disk disk' end end' l l' table tells o (inl (same, there, still)) is = record {
-    deeds = o.deeds;
-    fit = o.fit;
-    stands = o.stands;
-    kept = o.deeds;
-    kept_is = inl refl;
-    goes_on = going_on o.deeds l' table (still_folds o.deeds l l' still o.folds) is;
+    gives = record {
+      deeds = o.deeds;
+      fit = o.fit;
+      stands = o.stands;
+      kept = o.deeds;
+      kept_is = inl refl;
+      goes_on = going_on o.deeds l' table (still_folds o.deeds l l' still o.folds) is;
+    };
     rests = subst (λ (z : D × ℕ). FileRests seen may_leave z.0 z.1 o.deeds) (λ i. (sym same i, sym there i)) o.rests;
   }
   table_on file disk disk' end end' l l' table tells o (inr (leads, rests)) is = record {
-    deeds = o.deeds;
-    fit = o.fit;
-    stands = o.stands;
-    kept = o.deeds ++ Begin first ∷ [];
-    kept_is = inr refl;
-    goes_on = going_on (o.deeds ++ Begin first ∷ []) l' table (folds_push Sifts nothing o.deeds l (Begin first) l' o.folds (tt, leads)) is;
+    gives = record {
+      deeds = o.deeds;
+      fit = o.fit;
+      stands = o.stands;
+      kept = o.deeds ++ Begin first ∷ [];
+      kept_is = inr refl;
+      goes_on = going_on (o.deeds ++ Begin first ∷ []) l' table (folds_push Sifts nothing o.deeds l (Begin first) l' o.folds (tt, leads)) is;
+    };
     rests = rests o.deeds tells o.rests;
   }
 
 -- ---- where it isn't opened
 
-pub no_damage : (file : List ℕ) (fault : OpenFault) → IsUnfound fault → DamagedIn Sifts file fault
+pub no_damage : (file : List ℕ) (fault : OpenFault) → IsOfNumber fault → DamagedIn Sifts file fault
 no_damage file ReadFault un = tt
 no_damage file WriteFault un = tt
 no_damage file (Damaged place) un = absurd un
 no_damage file Memory un = tt
+
+pub not_of_file : (fault : OpenFault) → IsOfNumber fault → IsOfFile fault → ⊥
+not_of_file ReadFault un of_file = un
+not_of_file WriteFault un of_file = of_file
+not_of_file (Damaged place) un of_file = un
+not_of_file Memory un of_file = of_file
+
+pub leaves_file : (fault : OpenFault) → IsOfFile fault → LeavesFile fault
+leaves_file ReadFault of_file = tt
+leaves_file WriteFault of_file = of_file
+leaves_file (Damaged place) of_file = tt
+leaves_file Memory of_file = tt
 
 -- whatever is counted of a journal
 pub counted_back : {D : Type 0} (faults : D → ℕ) (fault : OpenFault) (disk left : D) (before mid : ℕ) → mid ≡ before → left ≡ disk
@@ -94,3 +114,30 @@ counted_back faults ReadFault disk left before mid same is counts = subst (λ (z
 counted_back faults WriteFault disk left before mid same is counts = subst (λ (z : ℕ × ℕ). HasRisen z.0 z.1) (λ i. (same i, ap faults (sym is) i)) counts
 counted_back faults (Damaged place) disk left before mid same is counts = ap faults is ∙ counts ∙ same
 counted_back faults Memory disk left before mid same is counts = ap faults is ∙ counts ∙ same
+
+-- ---- what a crash leaves
+
+module _ {D : Type 0} (may_leave : D → List ℕ → Type 0) (moment : D → ℕ) (left_since : D → ℕ → List ℕ → Type 0) (d : Deed) where
+  -- a journal that is at rest, and of which nothing was called
+  pub stays_so : (seen : D → List ℕ) (disk : D) (end : ℕ) (deeds : List Deed) → ((c : List ℕ) → left_since disk (moment disk) c → may_leave disk c) → FileRests seen may_leave disk end deeds
+      → LeavesOnly moment left_since disk disk (IsBeforeOrAfter deeds d)
+  stays_so seen disk end deeds only rests =
+      started moment left_since disk (IsBeforeOrAfter deeds d) (λ c left. inl (inl (record { gate = rests.gate; after = []; shut = rests.shut; is = rests.durable c (only c left) ∙ rests.file })))
+
+  module _ (deeds : List Deed) (a : D) where
+    abbrev WasOrStands : List ℕ → Type 0
+    WasOrStands c = may_leave a c ⊎ FileStandsFor deeds c
+
+    abbrev pub WasOrBegins : List ℕ → Type 0
+    WasOrBegins c = may_leave a c ⊎ IsBeforeOrAfter deeds d c
+
+    begins_or_was : (c : List ℕ) → WasOrStands c → WasOrBegins c
+    begins_or_was c left = ⊎_elim {C = WasOrBegins c} (λ was. inl was) (λ stands. inr (inl stands)) left
+
+    -- one that was opened, and then put one effect more
+    pub opened_on : (b e : D) → LeavesOnly moment left_since a b WasOrStands → LeavesOnly moment left_since b e (IsBeforeOrAfter deeds d) → LeavesOnly moment left_since a e WasOrBegins
+    opened_on b e opens puts = runs_on moment left_since a b e WasOrStands (IsBeforeOrAfter deeds d) WasOrBegins opens puts begins_or_was (λ c now. inr now)
+
+    -- or wasn't opened
+    pub not_opened : (b : D) → LeavesOnly moment left_since a b WasOrStands → LeavesOnly moment left_since a b WasOrBegins
+    not_opened b opens = weaker moment left_since a b WasOrStands WasOrBegins opens begins_or_was

@@ -3,3 +3,5 @@ pub mod ProvedDocuments
 pub mod Sieves
 pub mod StoredDocuments
 pub mod Openings
+pub mod Compactions
+pub mod StoredEffects

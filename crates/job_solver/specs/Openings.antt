@@ -6,6 +6,8 @@ use Rattle.job_table.specs.declared.job.Phase.TheVariants.{Finished}
 use Rattle.job_table.specs.Jobs.{Register, phase_of}
 use Rattle.job_table.specs.Remade.{table_of}
 use Rattle.job_journal.specs.Journal.{FileStandsFor, FileRests, is_too_long}
+use Rattle.job_journal.specs.declared.scanning.OpenFault.{OpenFault}
+use Rattle.job_journal.specs.declared.scanning.OpenFault.TheVariants.{ReadFault, WriteFault, Damaged, Memory}
 use Rattle.job_journal.specs.Opening.{FoldsTo}
 use Rattle.job_solver.specs.Sieves.{Sifts}
 
@@ -28,9 +30,31 @@ pub record GoesOn (deeds : List Deed) (table : Register) : Type 0 where
   pub table_is : table ≡ table_of ledger
   pub documents : (n : ℕ) (document : List ℕ) → phase_of n table.jobs ≡ Some (Finished (Some document)) → IsBrought n document deeds
 
+-- the table that an opening gives of a file that stood for effects, each possible and accepted after those before: it goes on from these, or from them and one more, by
+-- which numbers begin with this one
+pub record OpensAs (file : List ℕ) (first : ℕ) (table : Register) : Type 0 where
+  pub deeds : List Deed
+  pub fit : AllFit deeds
+  pub stands : FileStandsFor deeds file
+  pub kept : List Deed
+  pub kept_is : (kept ≡ deeds) ⊎ (kept ≡ deeds ++ Begin first ∷ [])
+  pub goes_on : GoesOn kept table
+
 -- so many numbers were given, the first of which is that; where none was, it is the one that was asked for, unless the file, which ends there, has no room to say so
 abbrev pub BeginsWith : (asked end first issued : ℕ) → Type 0
 BeginsWith asked end first issued = (1 ≤ issued) ⊎ (first ≡ asked) ⊎ (is_too_long end (length (body (Begin asked))) ≡ true)
+
+-- the fault is said of the file, which wasn't read or is damaged
+abbrev pub IsOfFile : OpenFault → Type 0
+IsOfFile ReadFault = Unit {0}
+IsOfFile (Damaged place) = Unit {0}
+IsOfFile _ = ⊥
+
+-- or of the number that is put behind a file that was opened
+abbrev pub IsOfNumber : OpenFault → Type 0
+IsOfNumber WriteFault = Unit {0}
+IsOfNumber Memory = Unit {0}
+IsOfNumber _ = ⊥
 
 module _ {D : Type 0} (seen : D → List ℕ) (may_leave : D → List ℕ → Type 0) where
   -- the file and what its effects leave stay; or that numbers begin with this one was put, and is so
@@ -40,13 +64,7 @@ module _ {D : Type 0} (seen : D → List ℕ) (may_leave : D → List ℕ → Ty
       ⊎ ((after (Begin first) l ≡ Some l')
       × ((deeds : List Deed) → told disk ≡ true → FileRests seen may_leave disk end deeds → FileRests seen may_leave disk' end' (deeds ++ Begin first ∷ [])))
 
-  -- the file stood for effects, each possible and accepted after those before; the disk is at rest with them, or with one more by which numbers begin with this one,
-  -- behind a gate at that place; and the table goes on from these
+  -- the file gives the table; the disk is at rest with the effects from which that goes on, behind a gate at that place
   pub record IsTableOf (file : List ℕ) (first : ℕ) (table : Register) (disk : D) (end : ℕ) : Type 0 where
-    pub deeds : List Deed
-    pub fit : AllFit deeds
-    pub stands : FileStandsFor deeds file
-    pub kept : List Deed
-    pub kept_is : (kept ≡ deeds) ⊎ (kept ≡ deeds ++ Begin first ∷ [])
-    pub goes_on : GoesOn kept table
-    pub rests : FileRests seen may_leave disk end kept
+    pub gives : OpensAs file first table
+    pub rests : FileRests seen may_leave disk end gives.kept

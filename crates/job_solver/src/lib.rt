@@ -12,12 +12,17 @@
 //! The rules are in `docs/rules/jobs.md` and `docs/rules/runs.md`.
 #![tactic(auto)]
 
+mod compacting;
 mod laws;
 mod opening;
 mod sieve;
 mod solver;
 
-pub use laws::{shown_documents_are_proved, shown_documents_are_proved_from_tables};
+pub use compacting::compact_jobs;
+pub use laws::{
+    puts_stay_sound, right_documents_are_accepted, shown_documents_are_proved,
+    shown_documents_are_proved_from_tables,
+};
 pub use opening::open_jobs;
 pub use sieve::DocumentSieve;
 pub use solver::{SolvedJobs, Solver};

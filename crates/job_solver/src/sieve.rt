@@ -17,6 +17,7 @@ pub struct DocumentSieve {
 }
 
 impl DocumentSieve {
+    /// One that takes its memory here.
     pub fn new(alloc: Global) -> DocumentSieve {
         DocumentSieve { alloc }
     }
