@@ -4,4 +4,4 @@ pub mod Order
 pub mod NumberCounts
 pub mod Histories
 pub mod Endings
-pub mod Stored
+pub mod StoredHistories

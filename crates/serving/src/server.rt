@@ -161,7 +161,7 @@ where
     requires fresh { seat.me.0 ≡ first_view }
     requires rises { Rises (told_of desk).table }
     requires nobody { NobodyRuns (told_of desk).table }
-    ensures served { ServesOver D.told D.seen D.may_leave D.faults (told_of desk).table (told_of desk).store result.1 result.0 setup (N.tells net.old) (N.tells net.new) (O.tells output.old) (O.tells output.new) }
+    ensures served { ServesOver D.told D.seen D.may_leave D.moment D.left_since D.faults (told_of desk).table (told_of desk).store result.1 result.0 setup (N.tells net.old) (N.tells net.new) (O.tells output.old) (O.tells output.new) }
     ensures input { SameInput (O.tells output.old) (O.tells output.new) }
 {
     first_finish_is_kept::<SolvedJobs>();
@@ -174,8 +174,8 @@ where
     (ending, journal.into_disk())
 }
 
-/// The same over a table whose effects a journal keeps, and the disk is given back. The number with which numbers begin is the
-/// table's.
+/// Serves as [`serve`] does, over a table whose effects this journal keeps, and gives the disk back, however it ended. Numbers begin
+/// as the table's do, whatever the setup says.
 pub fn serve_stored<N: Listener, O: Sink, D: Disk + Drop + Send + Sync, R: Threads + Wait + Sync>(
     rt: &R,
     alloc: Global,
@@ -193,7 +193,7 @@ where
     requires sound { journal.broken ≡ false }
     requires rises { Rises table }
     requires nobody { NobodyRuns table }
-    ensures served { IsStoredServerRun D.told D.seen D.may_leave D.faults table journal result.1 result.0 host.now port setup (N.tells net.old) (N.tells net.new) (O.tells output.old) (O.tells output.new) }
+    ensures served { IsStoredServerRun D.told D.seen D.may_leave D.moment D.left_since D.faults table journal result.1 result.0 host.now port setup (N.tells net.old) (N.tells net.new) (O.tells output.old) (O.tells output.new) }
     ensures input { SameInput (O.tells output.old) (O.tells output.new) }
 {
     match begin(net, output, host, port, setup.patience) {

@@ -1,1 +1,2 @@
 pub mod OneSeat
+pub mod SoundJournals

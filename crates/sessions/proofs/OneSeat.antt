@@ -16,7 +16,7 @@ use Rattle.desk.specs.SeatHistory.{Asked, AskedBy}
 use Rattle.desk.proofs.Storing.{closes_nothing}
 use Rattle.desk.proofs.WholeHistory.{moves_by_one, whole_history}
 use Rattle.job_journal.specs.declared.journal.Journal.{Journal}
-use Rattle.job_journal.specs.Stores.{keeps_these, too_long_behind}
+use Rattle.job_journal.specs.Stores.{keeps_these, passes_between, too_long_behind}
 use Rattle.os_server.specs.declared.serve.Served.{Served}
 use Rattle.os_server.specs.Laws.{ConversationsAreKept}
 use Rattle.os_server.specs.Talk.{ServesWhole}
@@ -67,17 +67,17 @@ session_of kept shown end old new (table, (s, whole)) =
     }
 
 -- a conversation without a move, over a journal
-pub stored_without : {D : Type 0} {g : _} (told : D → Bool) (seen : D → List ℕ) (may_leave : D → List ℕ → Type 0) (faults : D → ℕ) (first : Register) (journal : Journal D g) (end : Served) (disk : D) (old new : Tells)
-    → disk ≡ journal.disk → ServesWhole Makes WakesNobody (λ made. made ≡ []) end old new → ServesStored told seen may_leave faults first journal end disk old new
-stored_without told seen may_leave faults first journal end disk old new left serves =
-    ([], first, journal, left, closes_nothing Right (keeps_these told seen may_leave) too_long_behind (λ j. j.broken) (λ j. faults j.disk) first journal, serves)
+pub stored_without : {D : Type 0} {g : _} (told : D → Bool) (seen : D → List ℕ) (may_leave : D → List ℕ → Type 0) (moment : D → ℕ) (left_since : D → ℕ → List ℕ → Type 0) (faults : D → ℕ) (first : Register) (journal : Journal D g) (end : Served) (disk : D) (old new : Tells)
+    → disk ≡ journal.disk → ServesWhole Makes WakesNobody (λ made. made ≡ []) end old new → ServesStored told seen may_leave moment left_since faults first journal end disk old new
+stored_without told seen may_leave moment left_since faults first journal end disk old new left serves =
+    ([], first, journal, left, closes_nothing Right (keeps_these told seen may_leave) (passes_between told moment left_since) too_long_behind (λ j. j.broken) (λ j. faults j.disk) first journal, serves)
 
 -- a conversation over a journal whose moves were all that were made is a session, by what was told to the desk
-pub stored_session_of : {D : Type 0} {g : _} (told : D → Bool) (seen : D → List ℕ) (may_leave : D → List ℕ → Type 0) (faults : D → ℕ) (first held : Register) (journal store : Journal D g) (end : Served) (disk : D) (old new : Tells)
+pub stored_session_of : {D : Type 0} {g : _} (told : D → Bool) (seen : D → List ℕ) (may_leave : D → List ℕ → Type 0) (moment : D → ℕ) (left_since : D → ℕ → List ℕ → Type 0) (faults : D → ℕ) (first held : Register) (journal store : Journal D g) (end : Served) (disk : D) (old new : Tells)
     → held ≡ first → store ≡ journal → Rises first → NobodyRuns first → ConversationsAreKept Makes WakesNobody Right → ShownAreProvedFrom
-    → ServesStored told seen may_leave faults held store end disk old new → IsStoredSession told seen may_leave faults first journal end disk old new
-stored_session_of {D} {g} told seen may_leave faults first held journal store end disk old new same kept_in rises nobody kept shown serves =
-    let (own, table, after, left, closes, (s, whole)) = subst (λ (z : Register × Journal D g). ServesStored told seen may_leave faults z.0 z.1 end disk old new) (λ i. (same i, kept_in i)) serves in
+    → ServesStored told seen may_leave moment left_since faults held store end disk old new → IsStoredSession told seen may_leave moment left_since faults first journal end disk old new
+stored_session_of {D} {g} told seen may_leave moment left_since faults first held journal store end disk old new same kept_in rises nobody kept shown serves =
+    let (own, table, after, left, closes, (s, whole)) = subst (λ (z : Register × Journal D g). ServesStored told seen may_leave moment left_since faults z.0 z.1 end disk old new) (λ i. (same i, kept_in i)) serves in
     let moves : LeadsOn Right first own table = subst (λ (es : List MoveEntry). LeadsOn Right first es table) (moves_by_one 0 own) closes.moves in record {
       own = own;
       table = table;

@@ -9,12 +9,15 @@
 //! moves: [`job_solver::shown_documents_are_proved`].
 //!
 //! [`serve_stored_session`] makes its moves at a table whose effects a journal keeps: each is made once its effect is stored, and a
-//! call whose effect isn't is answered `Server.Disk`.
+//! call whose effect isn't is answered `Server.Disk`. What the journal then keeps is such that it opens again
+//! ([`journals_stay_sound`]), whoever makes the moves of its table.
 #![tactic(auto)]
 
 mod by_seat;
+mod laws;
 mod session;
 mod stored;
 
+pub use laws::journals_stay_sound;
 pub use session::serve_session;
 pub use stored::serve_stored_session;

@@ -29,7 +29,7 @@ fn serve_stored_alone<I: Source, O: Sink, D: Disk + Drop, R: Wait>(
 ) -> (Served, D)
     requires seat { IsSeatOf (desk_id desk) seat }
     requires fresh { seat.me.0 ≡ first_view }
-    ensures serves { ServesStored D.told D.seen D.may_leave D.faults (told_of desk).table (told_of desk).store result.0 result.1 (both_ends (I.tells input.old) (O.tells output.old)) (both_ends (I.tells input.new) (O.tells output.new)) }
+    ensures serves { ServesStored D.told D.seen D.may_leave D.moment D.left_since D.faults (told_of desk).table (told_of desk).store result.0 result.1 (both_ends (I.tells input.old) (O.tells output.old)) (both_ends (I.tells input.new) (O.tells output.new)) }
     ensures output_of_input { SameOutput (I.tells input.old) (I.tells input.new) }
     ensures input_of_output { SameInput (O.tells output.old) (O.tells output.new) }
 {
@@ -51,7 +51,7 @@ pub fn serve_stored_session<I: Source, O: Sink, D: Disk + Drop, R: Wait>(
     requires sound { journal.broken ≡ false }
     requires rises { Rises table }
     requires nobody { NobodyRuns table }
-    ensures session { IsStoredSession D.told D.seen D.may_leave D.faults table journal result.0 result.1 (both_ends (I.tells input.old) (O.tells output.old)) (both_ends (I.tells input.new) (O.tells output.new)) }
+    ensures session { IsStoredSession D.told D.seen D.may_leave D.moment D.left_since D.faults table journal result.0 result.1 (both_ends (I.tells input.old) (O.tells output.old)) (both_ends (I.tells input.new) (O.tells output.new)) }
     ensures output_of_input { SameOutput (I.tells input.old) (I.tells input.new) }
     ensures input_of_output { SameInput (O.tells output.old) (O.tells output.new) }
 {

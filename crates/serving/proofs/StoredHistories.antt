@@ -10,7 +10,7 @@ use Rattle.job_table.specs.Jobs.{Register, Rises, NobodyRuns, waiting_jobs}
 use Rattle.job_table.specs.History.{MoveEntry as Said, entry_of_move}
 use Rattle.job_table.specs.Laws.{FirstFinishIsKept, NumbersAreGivenOnce}
 use Rattle.job_journal.specs.declared.journal.Journal.{Journal}
-use Rattle.job_journal.specs.Stores.{keeps_these, too_long_behind}
+use Rattle.job_journal.specs.Stores.{keeps_these, passes_between, too_long_behind}
 use Rattle.job_runs.specs.Laws.{IsKeptIfStored}
 use Rattle.desk.specs.declared.view.SeatEntry.{SeatEntry}
 use Rattle.desk.specs.declared.view.View.{View}
@@ -67,15 +67,15 @@ idle_before : (how : Ending) (waiting : ℕ) (host : List ℕ) (port patience : 
 idle_before how waiting host port patience old new output output' (inl fault) = subst (λ (e : Ending). EndsIdle e [] waiting) (sym fault.0) refl
 idle_before how waiting host port patience old new output output' (inr fault) = subst (λ (e : Ending). EndsIdle e [] waiting) (sym fault.0) refl
 
-module _ {D : Type 0} {g : _} (told : D → Bool) (seen : D → List ℕ) (may_leave : D → List ℕ → Type 0) (faults : D → ℕ) (first : Register) (journal : Journal D g) (left : D) (how : Ending) where
+module _ {D : Type 0} {g : _} (told : D → Bool) (seen : D → List ℕ) (may_leave : D → List ℕ → Type 0) (moment : D → ℕ) (left_since : D → ℕ → List ℕ → Type 0) (faults : D → ℕ) (first : Register) (journal : Journal D g) (left : D) (how : Ending) where
   abbrev StoredBy : (servers : ℕ) → List LinkTalk → List Shift → Shift → List SeatEntry → Type 0
-  StoredBy servers links staff closer log = IsStoredHistory told seen may_leave faults first journal left how servers links staff closer log
+  StoredBy servers links staff closer log = IsStoredHistory told seen may_leave moment left_since faults first journal left how servers links staff closer log
 
   abbrev given_before : List SeatEntry → ℕ
   given_before log = first.issued + given_in log
 
   abbrev Run : (host : List ℕ) (port : ℕ) (setup : Setup) (old new : NetTells) (output output' : Tells) → Type 0
-  Run host port setup old new output output' = IsStoredServerRun told seen may_leave faults first journal left how host port setup old new output output'
+  Run host port setup old new output output' = IsStoredServerRun told seen may_leave moment left_since faults first journal left how host port setup old new output output'
 
   -- nobody made a move: the table and the journal are as they were
   none_stored : (servers : ℕ) → left ≡ journal.disk → EndsIdle how [] (waiting_jobs first.jobs) → StoredBy servers [] [] no_closer []
@@ -83,7 +83,7 @@ module _ {D : Type 0} {g : _} (told : D → Bool) (seen : D → List ℕ) (may_l
     table = first;
     after = journal;
     left_is = home;
-    closes_with = closes_nothing Right (keeps_these told seen may_leave) too_long_behind (λ j. j.broken) (λ j. faults j.disk) first journal;
+    closes_with = closes_nothing Right (keeps_these told seen may_leave) (passes_between told moment left_since) too_long_behind (λ j. j.broken) (λ j. faults j.disk) first journal;
     shared = none_shared servers;
     kept = All-nil IsKeptIfStored;
     shown = λ n document before after are. absurd (not_nil before after (entry_of_move (Retrieve n) (reply.Retrieved (shows.Finished (Some document)))) are);
@@ -107,14 +107,14 @@ module _ {D : Type 0} {g : _} (told : D → Bool) (seen : D → List ℕ) (may_l
 
   -- and one that had a desk, which was told this table and this journal
   pub stored_run : (told_first : Register) (told_journal : Journal D g) → told_first ≡ first → told_journal ≡ journal → (host : List ℕ) (port : ℕ) (setup : Setup) (before old new : NetTells) (output said output' : Tells)
-      → HasBegun host port setup.patience before old output said → ServesOver told seen may_leave faults told_first told_journal left how setup old new said output' → Run host port setup before new output output'
+      → HasBegun host port setup.patience before old output said → ServesOver told seen may_leave moment left_since faults told_first told_journal left how setup old new said output' → Run host port setup before new output output'
   stored_run told_first told_journal same_first same_journal host port setup before old new output said output' (reached, same, counted, listens) over =
-      let (served, given, hosts, stayed, tells) = subst (λ (z : Register × Journal D g). ServesOver told seen may_leave faults z.0 z.1 left how setup old new said output') (λ i. (same_first i, same_journal i)) over in
+      let (served, given, hosts, stayed, tells) = subst (λ (z : Register × Journal D g). ServesOver told seen may_leave moment left_since faults z.0 z.1 left how setup old new said output') (λ i. (same_first i, same_journal i)) over in
       ended given_before (StoredBy setup.limits.servers) host port setup before old reached same counted output said listens new stayed how served given output' tells hosts
 
   module _ (rises : Rises first) (nobody : NobodyRuns first) (kept : FirstFinishIsKept Right) (numbers : NumbersAreGivenOnce Right) (shown_proved : ShownAreProvedFrom) where
     stored_story : (servers : ℕ) (table : Register) (after : Journal D g) → left ≡ after.disk → had_desk how ≡ true → (links : List LinkTalk) (staff : List Shift) (own : List Said) (had log : List SeatEntry)
-        → ClosesJournal told seen may_leave faults first journal log table after → log ≡ had ++ by 0 own → WorksThrough Makes own
+        → ClosesJournal told seen may_leave moment left_since faults first journal log table after → log ≡ had ++ by 0 own → WorksThrough Makes own
         → IsShared servers links staff (record { seat = 0; said = own }) log → StoredBy servers links staff (record { seat = 0; said = own }) log
     stored_story servers table after home desk links staff own had log closes whole works shared = record {
       table = table;
@@ -131,8 +131,8 @@ module _ {D : Type 0} {g : _} (told : D → Bool) (seen : D → List ℕ) (may_l
     pub served_over : {is_legal : List SeatEntry → Type 0} (setup : Setup) (given : ℕ) (served : Result ℕ ServeFault) (old new : NetTells) (output output' : Tells) (v w last : View) (own : List Said) (table : Register) (after : Journal D g)
         → (o : (links : List LinkTalk) × threads.ServesLinks Makes (Converses Untold) setup.limits.servers setup.limits.workers (stood v old) (stood w new) links × threads.EndsServing served setup.limits.connections links old.faults new.faults)
         → v ≡ first_view → entries_by w.number w.seen ≡ w.mine → HasMet w.seen w.met → AskedBy is_legal w last own → WorksThrough Makes own
-        → ClosesBy (λ log. ClosesJournal told seen may_leave faults first journal log table after) last → given ≡ table.issued → left ≡ after.disk → TellsEnd served given how output output'
-        → ServesOver told seen may_leave faults first journal left how setup old new output output'
+        → ClosesBy (λ log. ClosesJournal told seen may_leave moment left_since faults first journal log table after) last → given ≡ table.issued → left ≡ after.disk → TellsEnd served given how output output'
+        → ServesOver told seen may_leave moment left_since faults first journal left how setup old new output output'
     served_over setup given served old new output output' v w last own table after o fresh stand known asked works c is home tells = (
       served,
       given,
