@@ -268,7 +268,7 @@ unfolding clap_on_literals
 dashes_are_refused [] none = some_fault _ _ none
 dashes_are_refused (word ∷ words) none = some_fault _ _ none
 
-first_word : (word : Text) (words : List Text) (d : CommandForm) → built_fault whole nothing_held (word ∷ words) ≡ [] → (k : ℕ) × (k < 6) × (word ≡ (get_or forms k d).name)
+first_word : (word : Text) (words : List Text) (d : CommandForm) → built_fault whole nothing_held (word ∷ words) ≡ [] → (k : ℕ) × (k < 7) × (word ≡ (get_or forms k d).name)
 unfolding clap_on_literals
 first_word word words d none =
     let turn : turn_with (option_map (λ (s : Text × List Text). s.0) (find (answers_to word) subcommands)) word ≡ [] = first_none _ _ (first_none _ _ none) in
@@ -312,15 +312,16 @@ pub record HasCommand (f : CommandForm) : Type 0 where
   pub fit : is_fit f ≡ true
   pub heard : (name : Text) (words : List Text) → asks (name ∷ f.name ∷ words) ≡ heard_by f.name (level f words) (rows_after (rules_of f) [] words)
 
-has_command : (k : ℕ) (d : CommandForm) → k < 6 → HasCommand (get_or forms k d)
+has_command : (k : ℕ) (d : CommandForm) → k < 7 → HasCommand (get_or forms k d)
 unfolding clap_on_literals
 has_command zero d within = record { fit = refl; heard = λ name words. reached (codes "session") refl refl name words }
 has_command (suc zero) d within = record { fit = refl; heard = λ name words. reached (codes "check") refl refl name words }
 has_command (suc (suc zero)) d within = record { fit = refl; heard = λ name words. reached (codes "solve") refl refl name words }
 has_command (suc (suc (suc zero))) d within = record { fit = refl; heard = λ name words. reached (codes "generate") refl refl name words }
 has_command (suc (suc (suc (suc zero)))) d within = record { fit = refl; heard = λ name words. reached (codes "call") refl refl name words }
-has_command (suc (suc (suc (suc (suc zero))))) d within = record { fit = refl; heard = λ name words. reached (codes "serve") refl refl name words }
-has_command (suc (suc (suc (suc (suc (suc k)))))) d within = absurd (omega (arith, within))
+has_command (suc (suc (suc (suc (suc zero))))) d within = record { fit = refl; heard = λ name words. reached (codes "compact") refl refl name words }
+has_command (suc (suc (suc (suc (suc (suc zero)))))) d within = record { fit = refl; heard = λ name words. reached (codes "serve") refl refl name words }
+has_command (suc (suc (suc (suc (suc (suc (suc k))))))) d within = absurd (omega (arith, within))
 
 -- ---- what a command makes of texts that are given
 

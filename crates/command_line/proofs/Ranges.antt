@@ -14,7 +14,7 @@ use Rattle.effects.specs.Limits.{most_first}
 use Rattle.six_calls.specs.Names.{kind_named}
 use Rattle.command_line.specs.Forms.{program_form}
 use Rattle.command_line.specs.Numbers.{number_between, number_or}
-use Rattle.command_line.specs.Words.{Command, Said, Check, Solve, Generate, Call, Serve, AreNumbersWithin, asked_by, asked_with, asks, called_command, check_of, found_in, generate_of, port_of, serve_of, session_of, solve_of}
+use Rattle.command_line.specs.Words.{Command, Said, Check, Solve, Generate, Call, Compact, Serve, AreNumbersWithin, asked_by, asked_with, asks, called_command, check_of, compact_of, found_in, generate_of, port_of, serve_of, session_of, solve_of}
 
 number_within : (least most : ℕ) (word : Text) (n : ℕ) → number_between least most word ≡ Some n → (least ≤ n) × (n ≤ most)
 number_within least most word n is = go (is_unsigned_in least most word) refl is
@@ -34,6 +34,11 @@ module _ (said : Said) (it : Command) where
   check_within None osrl is = absurd (none-some it is)
   check_within (Some osil) None is = absurd (none-some it is)
   check_within (Some osil) (Some osrl) is = subst AreNumbersWithin (same_Some (Check osil osrl) it is) tt
+
+  compact_within : (old new : Option Text) → option_and_then (λ (a : Text). option_map (Compact a) new) old ≡ Some it → AreNumbersWithin it
+  compact_within None new is = absurd (none-some it is)
+  compact_within (Some old) None is = absurd (none-some it is)
+  compact_within (Some old) (Some new) is = subst AreNumbersWithin (same_Some (Compact old new) it is) tt
 
   solve_within : (osil options : Option Text) (safe : Bool) → option_map (λ (a : Text). Solve a options safe) osil ≡ Some it → AreNumbersWithin it
   solve_within None options safe is = absurd (none-some it is)
@@ -78,16 +83,18 @@ module _ (said : Said) (it : Command) where
       ) in
       subst AreNumbersWithin (same_Some (Serve host port workers servers connections patience first (said (codes "journal"))) it is) within
 
-  by_name : (session check solve generate call serve : Bool)
-      → cond session (Some (session_of said)) (cond check (check_of said) (cond solve (solve_of said) (cond generate (generate_of said) (cond call (called_command said) (cond serve (serve_of said) None))))) ≡ Some it → AreNumbersWithin it
-  by_name true check solve generate call serve is = subst AreNumbersWithin (same_Some (session_of said) it is) tt
-  by_name false true solve generate call serve is = check_within (said (codes "osil")) (said (codes "osrl")) is
-  by_name false false true generate call serve is = solve_within (said (codes "osil")) (said (codes "options")) (is_some (said (codes "safe"))) is
-  by_name false false false true call serve is = generate_within (option_and_then (number_between 1 1000) (said (codes "variables"))) refl is
-  by_name false false false false true serve is = call_within (option_and_then kind_named (said (codes "name"))) (said (codes "host")) (port_of said) refl is
-  by_name false false false false false true is = serve_within (said (codes "host")) (port_of said) (number_or 2 0 16 (said (codes "workers"))) (number_or 8 1 64 (said (codes "servers"))) (number_or 1000000 1 1000000 (said (codes "connections")))
+  by_name : (session check solve generate call compact serve : Bool)
+      → cond session (Some (session_of said)) (cond check (check_of said) (cond solve (solve_of said) (cond generate (generate_of said) (cond call (called_command said) (cond compact (compact_of said) (cond serve (serve_of said) None)))))) ≡ Some it
+      → AreNumbersWithin it
+  by_name true check solve generate call compact serve is = subst AreNumbersWithin (same_Some (session_of said) it is) tt
+  by_name false true solve generate call compact serve is = check_within (said (codes "osil")) (said (codes "osrl")) is
+  by_name false false true generate call compact serve is = solve_within (said (codes "osil")) (said (codes "options")) (is_some (said (codes "safe"))) is
+  by_name false false false true call compact serve is = generate_within (option_and_then (number_between 1 1000) (said (codes "variables"))) refl is
+  by_name false false false false true compact serve is = call_within (option_and_then kind_named (said (codes "name"))) (said (codes "host")) (port_of said) refl is
+  by_name false false false false false true serve is = compact_within (said (codes "old")) (said (codes "new")) is
+  by_name false false false false false false true is = serve_within (said (codes "host")) (port_of said) (number_or 2 0 16 (said (codes "workers"))) (number_or 8 1 64 (said (codes "servers"))) (number_or 1000000 1 1000000 (said (codes "connections")))
       (number_or 30 1 3600 (said (codes "patience"))) (number_or 1 1 most_first (said (codes "first"))) refl refl refl refl refl refl is
-  by_name false false false false false false is = absurd (none-some it is)
+  by_name false false false false false false false is = absurd (none-some it is)
 
 asked_within : (faults : Kinds) (found : Option (Text × List Row)) (it : Command) → asked_with faults found ≡ Some it → AreNumbersWithin it
 asked_within [] found it is =
@@ -96,7 +103,7 @@ asked_within [] found it is =
     by : (found : Option (Text × List Row)) → option_and_then (λ (f : Text × List Row). asked_by f.0 (found_in f.1)) found ≡ Some it → AreNumbersWithin it
     by None is = absurd (none-some it is)
     by (Some f) is = by_name (found_in f.1) it (bytes_eq f.0 (codes "session")) (bytes_eq f.0 (codes "check")) (bytes_eq f.0 (codes "solve")) (bytes_eq f.0 (codes "generate")) (bytes_eq f.0 (codes "call"))
-        (bytes_eq f.0 (codes "serve")) is
+        (bytes_eq f.0 (codes "compact")) (bytes_eq f.0 (codes "serve")) is
 asked_within (fault ∷ faults) found it is = absurd (none-some it is)
 
 pub asks_within : (words : List Text) (it : Command) → asks words ≡ Some it → AreNumbersWithin it

@@ -18,6 +18,7 @@ forms = record { name = codes "session"; needed = []; named = codes "journal" �
     ∷ record { name = codes "solve"; needed = codes "osil" ∷ []; named = codes "options" ∷ []; flags = codes "safe" ∷ [] }
     ∷ record { name = codes "generate"; needed = codes "variables" ∷ []; named = []; flags = [] }
     ∷ record { name = codes "call"; needed = codes "name" ∷ codes "host" ∷ codes "port" ∷ []; named = codes "osil" ∷ codes "osol" ∷ codes "ospl" ∷ []; flags = [] }
+    ∷ record { name = codes "compact"; needed = codes "old" ∷ codes "new" ∷ []; named = []; flags = [] }
     ∷ record { name = codes "serve"; needed = codes "host" ∷ codes "port" ∷ []; named = codes "workers" ∷ codes "servers" ∷ codes "connections" ∷ codes "patience" ∷ codes "first" ∷ codes "journal" ∷ []; flags = [] }
     ∷ []
 

@@ -13,7 +13,7 @@ use Rattle.command_line.specs.declared.words.Asked.TheVariants as asked
 
 -- what words may ask for: a session; a check of the files of these names; the result of an instance's file with the options of
 -- another file, if one is named, and with or without the safe limit of turns; the instance of so many variables, solved; a call of the server at a host's port, with the
--- files of its parts; or a server there, with so many workers, so many conversations at once, up to so many connections, of whose links
+-- files of its parts; a journal, written again; or a server there, with so many workers, so many conversations at once, up to so many connections, of whose links
 -- each waits for its peer for so many seconds at most, and whose first job has this number
 pub data Command : Type 0 where
   Session : (journal : Option Text) → Command
@@ -21,6 +21,7 @@ pub data Command : Type 0 where
   Solve : (osil : Text) → (options : Option Text) → (safe : Bool) → Command
   Generate : (variables : ℕ) → Command
   Call : (kind : CallKind) → (host : Text) → (port : ℕ) → (osil osol ospl : Option Text) → Command
+  Compact : (old new : Text) → Command
   Serve : (host : Text) → (port workers servers connections patience first : ℕ) → (journal : Option Text) → Command
 
 -- the command that is asked for
@@ -30,6 +31,7 @@ meant (asked.Check osil osrl) = Check osil.now osrl.now
 meant (asked.Solve osil options safe) = Solve osil.now (option_map (λ name. name.now) options) safe
 meant (asked.Generate variables) = Generate variables
 meant (asked.Call words) = Call words.kind words.host.now words.port (option_map (λ name. name.now) words.osil) (option_map (λ name. name.now) words.osol) (option_map (λ name. name.now) words.ospl)
+meant (asked.Compact old new) = Compact old.now new.now
 meant (asked.Serve words) = Serve words.host.now words.port words.workers words.servers words.connections words.patience words.first (option_map (λ n. n.now) words.journal)
 
 -- ---- what a command's words mean
@@ -44,6 +46,9 @@ session_of said = Session (said (codes "journal"))
 
 abbrev pub check_of : Said → Option Command
 check_of said = option_and_then (λ osil. option_map (Check osil) (said (codes "osrl"))) (said (codes "osil"))
+
+abbrev pub compact_of : Said → Option Command
+compact_of said = option_and_then (λ old. option_map (Compact old) (said (codes "new"))) (said (codes "old"))
 
 abbrev pub solve_of : Said → Option Command
 solve_of said = option_map (λ osil. Solve osil (said (codes "options")) (is_some (said (codes "safe")))) (said (codes "osil"))
@@ -74,7 +79,8 @@ asked_by name said = if bytes_eq name (codes "session") then Some (session_of sa
     else (if bytes_eq name (codes "solve") then solve_of said
     else (if bytes_eq name (codes "generate") then generate_of said
     else (if bytes_eq name (codes "call") then called_command said
-    else (if bytes_eq name (codes "serve") then serve_of said else None)))))
+    else (if bytes_eq name (codes "compact") then compact_of said
+    else (if bytes_eq name (codes "serve") then serve_of said else None))))))
 
 -- ---- what the words ask for
 
@@ -114,6 +120,7 @@ AreNumbersWithin (Check osil osrl) = Unit {0}
 AreNumbersWithin (Solve osil options safe) = Unit {0}
 AreNumbersWithin (Generate variables) = (1 ≤ variables) × (variables ≤ 1000)
 AreNumbersWithin (Call kind host port osil osol ospl) = port ≤ 65535
+AreNumbersWithin (Compact old new) = Unit {0}
 AreNumbersWithin (Serve host port workers servers connections patience first journal) =
     (port ≤ 65535) × (workers ≤ 16) × ((1 ≤ servers) × (servers ≤ 64)) × ((1 ≤ connections) × (connections ≤ 1000000)) × ((1 ≤ patience) × (patience ≤ 3600))
     × ((1 ≤ first) × (first ≤ most_first))
@@ -125,6 +132,7 @@ names_files (Check osil osrl) = true
 names_files (Solve osil options safe) = true
 names_files (Generate variables) = false
 names_files (Call kind host port osil osol ospl) = is_some osil || (is_some osol || is_some ospl)
+names_files (Compact old new) = false
 names_files (Serve host port workers servers connections patience first journal) = false
 
 -- the command asks for links
@@ -134,6 +142,7 @@ asks_for_links (Check osil osrl) = false
 asks_for_links (Solve osil options safe) = false
 asks_for_links (Generate variables) = false
 asks_for_links (Call kind host port osil osol ospl) = true
+asks_for_links (Compact old new) = false
 asks_for_links (Serve host port workers servers connections patience first journal) = true
 
 -- the words name no file: no command that they ask for does
@@ -146,4 +155,4 @@ AsksForNoLink words = (it : Command) → asks words ≡ Some it → asks_for_lin
 
 -- what is written to whoever gives words that are no command's
 abbrev pub usage : List ℕ
-usage = codes "usage: os_app session | solve | check | serve | call | generate\n"
+usage = codes "usage: os_app session | solve | check | serve | call | compact | generate\n"

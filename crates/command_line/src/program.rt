@@ -86,6 +86,7 @@ pub(crate) fn program<'a>(alloc: Global) -> Result<Command<'a>, Memory>
         &["osil", "osol", "ospl"],
         &[],
     )?;
+    let program = with_command(program, alloc, "compact", &["old", "new"], &[], &[])?;
     with_command(
         program,
         alloc,

@@ -16,7 +16,7 @@ use six_calls::CallKind;
 use std::alloc::{AllocError, Global};
 
 /// How the program is started.
-const USAGE: &[u8] = b"usage: os_app session | solve | check | serve | call | generate\n";
+const USAGE: &[u8] = b"usage: os_app session | solve | check | serve | call | compact | generate\n";
 
 /// Which call is to be made, of whom, and the names of the files with its parts. A part whose file isn't named is empty, and
 /// one that the call doesn't have isn't sent.
@@ -69,6 +69,11 @@ pub enum Asked<'w> {
     },
     /// To make a call of the server at a port of a host, with the texts of the files that are named.
     Call(CallWords<'w>),
+    /// To write the journal in one file again, into another one, without what jobs that are gone had.
+    Compact {
+        old: &'w str,
+        new: &'w str,
+    },
     /// To serve at a port of a host, with up to 16 workers that run jobs beside 1 to 64 conversations at once, until 1 to
     /// 1,000,000 connections have come, each of which waits for its peer for 1 to 3,600 seconds at most; jobs have numbers from one
     /// of 1 to 2^62 on.
@@ -121,6 +126,15 @@ fn check_of<'w>(matches: &ArgMatches<'w>) -> Option<Asked<'w>>
     let osil = matches.get_str("osil")?;
     let osrl = matches.get_str("osrl")?;
     Some(Asked::Check { osil, osrl })
+}
+
+/// The journals that `compact`'s words name.
+fn compact_of<'w>(matches: &ArgMatches<'w>) -> Option<Asked<'w>>
+    ensures { option_map says.meant result ≡ says.compact_of (first_value (found_of matches.now)) }
+{
+    let old = matches.get_str("old")?;
+    let new = matches.get_str("new")?;
+    Some(Asked::Compact { old, new })
 }
 
 /// The files that `solve`'s words name, and whether the safe limit of turns is asked for.
@@ -205,6 +219,8 @@ fn asked_of<'w>(name: &str, matches: &ArgMatches<'w>) -> Option<Asked<'w>>
         generate_of(matches)
     } else if name == "call" {
         call_of(matches)
+    } else if name == "compact" {
+        compact_of(matches)
     } else if name == "serve" {
         serve_of(matches)
     } else {

@@ -19,4 +19,5 @@ returns c =
     let three = behind c.in_ok-program-3.ensures two in
     let four = behind c.in_ok-program-4.ensures three in
     let five = behind c.in_ok-program-5.ensures four in
-    IfOk-weaker c.with_command-6.result _ _ (λ command next. behind next five) c.with_command-6.ensures
+    let six = behind c.in_ok-program-6.ensures five in
+    IfOk-weaker c.with_command-7.result _ _ (λ command next. behind next six) c.with_command-7.ensures
