@@ -15,11 +15,11 @@ none_named None None (Some ospl) none = absurd (true_or_false none)
 none_named None (Some osol) ospl none = absurd (true_or_false none)
 none_named (Some osil) osol ospl none = absurd (true_or_false none)
 
-pub call_runs : {Stored : Type 0} (status : ℕ) (run : ProgramRun) (kind : CallKind) (host : List ℕ) (port : ℕ) (osil osol ospl : Option (List ℕ)) → asks run.words ≡ Some (Call kind host port osil osol ospl)
-    → CallEnds status (call_run run kind host port osil osol ospl) → LeavesInput run → EndsSo Stored status run
-call_runs status run kind host port osil osol ospl asked ends input =
+pub call_runs : {Untouched Stored : Type 0} (same : Untouched) (status : ℕ) (run : ProgramRun) (kind : CallKind) (host : List ℕ) (port : ℕ) (osil osol ospl : Option (List ℕ)) → asks run.words ≡ Some (Call kind host port osil osol ospl)
+    → CallEnds status (call_run run kind host port osil osol ospl) → LeavesInput run → EndsSo Untouched Stored status run
+call_runs same status run kind host port osil osol ospl asked ends input =
     command_runs status run (Call kind host port osil osol ospl) asked
-    (inl (called (record { kind = kind; host = host; port = port; osil = osil; osol = osol; ospl = ospl; asked = asked; ends = ends; input = input })))
+    (inl (called (record { kind = kind; host = host; port = port; osil = osil; osol = osol; ospl = ospl; asked = asked; ends = ends; input = input }), same))
     (never_misused status _ ends)
     (λ none. none_failed status _ ends (none_named osil osol ospl (none _ asked)))
     (no_check status run _ asked tt)

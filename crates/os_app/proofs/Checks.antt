@@ -10,7 +10,7 @@ use Rattle.document_checker.specs.Texts.{IsAnswerText, IsCheckFaultText}
 use Rattle.os_app.specs.Grounds.{AnswersAreOne}
 use Rattle.os_app.specs.Checks.{IsAnswerLine, IsAnswerTo, IsAnswerAbout, accepted, refused}
 use Rattle.os_app.specs.Ends.{in_full, unread, unwritten, unmade}
-use Rattle.command_line.specs.Words.{Command, Session, Check, Solve, Generate, Call, Serve, IsCheck}
+use Rattle.command_line.specs.Words.{Command, Session, Check, Solve, Generate, Call, Compact, Serve, IsCheck}
 use Rattle.os_app.specs.Runs.{ProgramRun, Checks, IsUntaken, IsFileFault, IsUnheard, MayBeThere, IsPairJudged, EndsSo}
 use Rattle.os_app.specs.Runs as runs
 use Rattle.os_app.proofs.Words.{one_command}
@@ -134,10 +134,10 @@ both_there status run osil_name osrl_name (unmade is files same) (inl zero) = ab
 both_there status run osil_name osrl_name (unmade is files same) (inr one) = absurd (omega (arith, is, one))
 
 -- a check of two files
-pub check_runs : {Stored : Type 0} → AnswersAreOne → (status : ℕ) (run : ProgramRun) (osil_name osrl_name : List ℕ) → IsCheck run.words osil_name osrl_name
-    → EndsCheck status run osil_name osrl_name → IsUntaken run → EndsSo Stored status run
-check_runs one status run osil_name osrl_name check ends untaken =
-    text_runs status run (Check osil_name osrl_name) check ends untaken
+pub check_runs : {Untouched Stored : Type 0} → Untouched → AnswersAreOne → (status : ℕ) (run : ProgramRun) (osil_name osrl_name : List ℕ) → IsCheck run.words osil_name osrl_name
+    → EndsCheck status run osil_name osrl_name → IsUntaken run → EndsSo Untouched Stored status run
+check_runs same one status run osil_name osrl_name check ends untaken =
+    text_runs same status run (Check osil_name osrl_name) check ends untaken
     (λ a b named. subst ChecksOf (one_command _ (Check osil_name osrl_name) (Check a b) check named) (record {
       judged = λ osil osrl first second. judged_by one status run osil_name osrl_name osil osrl (record { check = check; ends = ends; untaken = untaken }) first second;
       there = both_there status run osil_name osrl_name ends;
@@ -149,4 +149,5 @@ check_runs one status run osil_name osrl_name check ends untaken =
     ChecksOf (Solve osil options safe) = Unit {0}
     ChecksOf (Generate variables) = Unit {0}
     ChecksOf (Call kind host port osil osol ospl) = Unit {0}
+    ChecksOf (Compact old new) = Unit {0}
     ChecksOf (Serve host port workers servers connections patience first journal) = Unit {0}

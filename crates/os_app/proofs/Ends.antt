@@ -7,7 +7,7 @@ use Rattle.os_io.specs.Files.{CountsFiles}
 use Rattle.os_io.specs.Streams.{Tells}
 use Rattle.command_answers.specs.declared.answer.StatusText.{StatusText}
 use Rattle.command_answers.specs.Outputs.{IsTold}
-use Rattle.command_line.specs.Words.{Command, Session, Check, Solve, Generate, Call, Serve, asks, names_files, IsCheck, NamesNoFile}
+use Rattle.command_line.specs.Words.{Command, Session, Check, Solve, Generate, Call, Compact, Serve, asks, names_files, IsCheck, NamesNoFile}
 use Rattle.os_app.specs.Checks.{IsAnswerTo, accepted, refused}
 use Rattle.os_app.specs.Statuses.{check_status, solve_status}
 use Rattle.os_app.specs.Ends.{AnswerEnds, FilesEnd, from_memory, in_full, unread, unwritten, unmade}
@@ -75,6 +75,7 @@ due_small run (Solve osil options safe) due text is = omega (arith, is.status_is
 due_small run (Generate variables) due text is = omega (arith, is.about.status_is, check_small is.about.is_accepted)
 due_small run (Session journal) due text is = absurd is
 due_small run (Call kind host port osil osol ospl) due text is = absurd is
+due_small run (Compact old new) due text is = absurd is
 due_small run (Serve host port workers servers connections patience first journal) due text is = absurd is
 
 never_two : (status : ℕ) (run : ProgramRun) (it : Command) → EndsText status run it → status ≡ 2 → ⊥
@@ -90,7 +91,7 @@ files_read status run it asked (unwritten due text is about files off) none = fi
 files_read status run it asked (unmade is files same) none = files
 
 -- a command that writes a text
-pub text_runs : {Stored : Type 0} (status : ℕ) (run : ProgramRun) (it : Command) → asks run.words ≡ Some it → EndsText status run it → IsUntaken run
-    → ((a b : List ℕ) → IsCheck run.words a b → Checks status run a b) → EndsSo Stored status run
-text_runs status run it asked ends untaken checks =
-    command_runs status run it asked (inl (run_ends status run it asked ends untaken)) (never_two status run it ends) (files_read status run it asked ends) checks
+pub text_runs : {Untouched Stored : Type 0} (same : Untouched) (status : ℕ) (run : ProgramRun) (it : Command) → asks run.words ≡ Some it → EndsText status run it → IsUntaken run
+    → ((a b : List ℕ) → IsCheck run.words a b → Checks status run a b) → EndsSo Untouched Stored status run
+text_runs same status run it asked ends untaken checks =
+    command_runs status run it asked (inl (run_ends status run it asked ends untaken, same)) (never_two status run it ends) (files_read status run it asked ends) checks

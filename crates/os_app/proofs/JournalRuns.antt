@@ -17,22 +17,25 @@ use Rattle.command_line.specs.Words.{Command, Session, asks, meant}
 use Rattle.command_line.specs.declared.words.Asked.TheVariants.{Serve}
 use Rattle.command_line.specs.declared.words.ServeWords.{ServeWords}
 use Rattle.command_answers.specs.Outputs.{IsTold}
-use Rattle.os_app.specs.ProgramRuns.{ProgramRun, StoresRun, LeavesInput, NamesNoJournal, asks_to_serve, journal_of, stores_run}
+use Rattle.os_app.specs.ProgramRuns.{ProgramRun, StoresRun, LeavesInput, NamesNoJournal, asks_to_serve, journal_of, setup_of, stores_run}
 use Rattle.os_app.specs.Runs.{AllFilesRead, Runs}
-use Rattle.os_app.specs.StoredRuns.{damaged_line, IsSaidOf, IsOpen, GivesBack, IsOver, EndsOver, KeepsSession, KeepsServer, done, unopened, kept, hosted}
+use Rattle.os_app.specs.JournalFaults.{damaged_line, IsSaidOf}
+use Rattle.os_app.specs.StoredRuns.{IsOpen, GivesBack, IsOver, EndsOver, KeepsSession, KeepsServer, done, unopened, kept, hosted}
 use Rattle.os_app.specs.Statuses.{session_status, serve_status}
 use Rattle.os_app.proofs.Words.{command_runs, no_check, serve_never, session_never}
-
--- how a server is set up by its words
-abbrev pub setup_of : ServeWords → Setup
-setup_of to = record { patience = to.patience; first = to.first; limits = record { workers = to.workers; servers = to.servers; connections = to.connections } }
 
 -- the journal that is named, if one is
 pub session_named : (asked : Option Command) (journal named : Option (Bor (List ℕ))) → journal ≡ named → asked ≡ Some (Session (option_map (λ n. n.now) journal)) → asked ≡ Some (Session (option_map (λ n. n.now) named))
 session_named asked journal named is asks = asks ∙ ap (λ (j : Option (Bor (List ℕ))). Some (Session (option_map (λ n. n.now) j))) is
 
-pub serve_named : (asked : Option Command) (to : ServeWords) (named : Option (Bor (List ℕ))) → to.journal ≡ named → asked ≡ Some (meant (Serve to)) → asked ≡ Some (asks_to_serve to.host.now to.port (setup_of to) (option_map (λ n. n.now) named))
-serve_named asked to named is asks = asks ∙ ap (λ (j : Option (Bor (List ℕ))). Some (asks_to_serve to.host.now to.port (setup_of to) (option_map (λ n. n.now) j))) is
+module _ (to : ServeWords) (setup : Setup) (set : setup ≡ setup_of to) where
+  pub serve_named : (asked : Option Command) (named : Option (Bor (List ℕ))) → to.journal ≡ named → asked ≡ Some (meant (Serve to)) → asked ≡ Some (asks_to_serve to.host.now to.port setup (option_map (λ n. n.now) named))
+  serve_named asked named is asks =
+      asks ∙ ap (λ (j : Option (Bor (List ℕ))). Some (asks_to_serve to.host.now to.port (setup_of to) (option_map (λ n. n.now) j))) is ∙ ap (λ (s : Setup). Some (asks_to_serve to.host.now to.port s (option_map (λ n. n.now) named))) (sym set)
+
+  -- its numbers are within their ends
+  pub set_within : (Within : Setup → Type 0) → Within (setup_of to) → Within setup
+  set_within Within within = subst Within (sym set) within
 
 -- words that name a journal don't name none
 pub journal_none : (words : List (List ℕ)) (it : Command) (name : List ℕ) → asks words ≡ Some it → journal_of it ≡ Some name → NamesNoJournal words → ⊥
@@ -54,7 +57,7 @@ pub said_damaged : (fault : OpenFault) (place status : ℕ) (old new : Tells) �
 said_damaged fault place status old new is told = subst (λ (f : OpenFault). IsSaidOf f status old new) (sym is) told
 
 -- what is said of a journal that isn't opened has a status that isn't 2
-said_never : (fault : OpenFault) (status : ℕ) (old new : Tells) → IsSaidOf fault status old new → status ≡ 2 → ⊥
+pub said_never : (fault : OpenFault) (status : ℕ) (old new : Tells) → IsSaidOf fault status old new → status ≡ 2 → ⊥
 said_never ReadFault status old new said two = omega (arith, said.0, two)
 said_never WriteFault status old new said two = omega (arith, said.0, two)
 said_never (Damaged place) status old new (inl told) two = omega (arith, told.0, two)
@@ -89,13 +92,13 @@ module _ {D : Type 0} (g : Ghosts D) where
 
   -- ---- a run
 
-  module _ (run : ProgramRun) (status : ℕ) (stores : StoresRun) (name : List ℕ) (files : AllFilesRead run) where
-    pub kept_runs : asks run.words ≡ Some (Session (Some name)) → KeepsSession g name status stores run.input run.input_after run.output run.output_after → Runs g status run stores
+  module _ {Untouched : Type 0} (run : ProgramRun) (status : ℕ) (stores : StoresRun) (name : List ℕ) (files : AllFilesRead run) where
+    pub kept_runs : asks run.words ≡ Some (Session (Some name)) → KeepsSession g name status stores run.input run.input_after run.output run.output_after → Runs g Untouched status run stores
     kept_runs asked ends =
         command_runs status run (Session (Some name)) asked (inr (kept name asked ends)) (over_never session_status session_never _ _ name 1 status stores run.output run.output_after ends) (λ none. files) (no_check status run (Session (Some name)) asked tt)
 
     pub hosted_runs : (host : List ℕ) (port : ℕ) (setup : Setup) → asks run.words ≡ Some (asks_to_serve host port setup (Some name)) → KeepsServer g host port setup name status stores run.net run.net_after run.output run.output_after
-        → LeavesInput run → Runs g status run stores
+        → LeavesInput run → Runs g Untouched status run stores
     hosted_runs host port setup asked ends input =
         command_runs status run (asks_to_serve host port setup (Some name)) asked (inr (hosted host port setup name asked ends input)) (over_never serve_status serve_never _ _ name setup.first status stores run.output run.output_after ends) (λ none. files)
         (no_check status run (asks_to_serve host port setup (Some name)) asked tt)

@@ -9,3 +9,4 @@ pub mod Solves
 pub mod WithinTurns
 pub mod Summaries
 pub mod Calls
+pub mod CompactRuns

@@ -99,7 +99,7 @@ about_named held instance name safe status text about = subst (λ (o : Option He
 
 -- ---- a run
 
-pub solve_runs : {Stored : Type 0} (status : ℕ) (run : ProgramRun) (osil_name : List ℕ) (options_name : Option (List ℕ)) (safe : Bool) → IsSolve run.words osil_name options_name safe
-    → EndsText status run (Solve osil_name options_name safe) → IsUntaken run → EndsSo Stored status run
-solve_runs status run osil_name options_name safe solve ends untaken =
-    text_runs status run (Solve osil_name options_name safe) solve ends untaken (no_check status run (Solve osil_name options_name safe) solve tt)
+pub solve_runs : {Untouched Stored : Type 0} (same : Untouched) (status : ℕ) (run : ProgramRun) (osil_name : List ℕ) (options_name : Option (List ℕ)) (safe : Bool) → IsSolve run.words osil_name options_name safe
+    → EndsText status run (Solve osil_name options_name safe) → IsUntaken run → EndsSo Untouched Stored status run
+solve_runs same status run osil_name options_name safe solve ends untaken =
+    text_runs same status run (Solve osil_name options_name safe) solve ends untaken (no_check status run (Solve osil_name options_name safe) solve tt)

@@ -27,5 +27,5 @@ summary_is n p osil a b c doc status line is first second third written right ab
   about = subst (λ (t : List ℕ). IsSummaryAbout n osil t status line) third (subst (λ (t : List ℕ). IsSummaryAbout n t c status line) second about);
 }
 
-pub generate_runs : {Stored : Type 0} (status : ℕ) (run : ProgramRun) (variables : ℕ) → asks run.words ≡ Some (Generate variables) → EndsText status run (Generate variables) → IsUntaken run → EndsSo Stored status run
-generate_runs status run variables asked ends untaken = text_runs status run (Generate variables) asked ends untaken (no_check status run (Generate variables) asked tt)
+pub generate_runs : {Untouched Stored : Type 0} (same : Untouched) (status : ℕ) (run : ProgramRun) (variables : ℕ) → asks run.words ≡ Some (Generate variables) → EndsText status run (Generate variables) → IsUntaken run → EndsSo Untouched Stored status run
+generate_runs same status run variables asked ends untaken = text_runs same status run (Generate variables) asked ends untaken (no_check status run (Generate variables) asked tt)

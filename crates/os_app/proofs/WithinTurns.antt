@@ -45,7 +45,7 @@ use Rattle.os_app.specs.Safe.{IsSafeText, HasNoSafeText, TakesOptions, claims_tu
 use Rattle.os_app.specs.Safe as safe
 use Rattle.os_io.specs.Files.{Held, Holds, MayHold}
 use Rattle.command_answers.specs.Outputs.{IsTold}
-use Rattle.command_line.specs.Words.{Command, Session, Solve, Call, asks, IsSolve, IsNoCommand}
+use Rattle.command_line.specs.Words.{Command, Compact, Session, Solve, Call, asks, IsSolve, IsNoCommand}
 use Rattle.os_app.specs.Solves.{IsDocumentAbout}
 use Rattle.os_app.specs.Runs.{ProgramRun, StoresRun, RunEnds, IsDue, IsUsageDue, IsAnswerDue, IsUnsent, WritesWithinTurns, asks_to_serve, served, answered, called, hosted, misused, file_fault, unsent, unheard}
 use Rattle.disks.specs.declared.disk.Disk.{Ghosts}
@@ -233,7 +233,8 @@ module _ (laws : Laws) (status : ℕ) (run : ProgramRun) (osil_name : List ℕ) 
 
   -- nor of words that name a journal
   pub run_within : {D : Type 0} (g : Ghosts D) (stores : StoresRun)
-      → RunEnds status run ⊎ StoredRunEnds g status run stores → WritesWithinTurns status run
-  run_within g stores (inl ends) = ends_within ends
+      → {Untouched : Type 0} → (RunEnds status run × Untouched) ⊎ StoredRunEnds g status run stores → WritesWithinTurns status run
+  run_within g stores (inl (ends, same)) = ends_within ends
   run_within g stores (inr (kept name asked ends)) = let e = one (Session (Some name)) asked in absurd (cc)
   run_within g stores (inr (stored.hosted host port setup name asked ends input)) = let e = one (asks_to_serve host port setup (Some name)) asked in absurd (cc)
+  run_within g stores (inr (stored.compacted from to asked ends untaken)) = let e = one (Compact from to) asked in absurd (cc)

@@ -9,7 +9,7 @@ use Rattle.os_app.specs.Statuses.{serve_status}
 use Rattle.serving.specs.Serving as serving
 use Rattle.os_app.specs.Statuses.{session_status}
 pub use Rattle.command_line.proofs.Texts.{true_or_false}
-use Rattle.command_line.specs.Words.{Command, Session, Check, Solve, Generate, Call, Serve, asks, asks_for_links, names_files, AsksForNoLink, IsCheck, IsNoCommand, NamesNoFile}
+use Rattle.command_line.specs.Words.{Command, Session, Check, Solve, Generate, Call, Compact, Serve, asks, asks_for_links, names_files, AsksForNoLink, IsCheck, IsNoCommand, NamesNoFile}
 use Rattle.os_app.specs.Runs.{ProgramRun, ServesSession, IsUnheard, LeavesInput, RunEnds, served, hosted, unheard, AllFilesRead, Checks, EndsSo, asks_to_serve}
 use Rattle.serving.specs.declared.setup.Setup.{Setup}
 use Rattle.os_app.specs.Runs as runs
@@ -29,6 +29,7 @@ IsOther (Session journal) = Unit {0}
 IsOther (Solve osil options safe) = Unit {0}
 IsOther (Generate variables) = Unit {0}
 IsOther (Call kind host port osil osol ospl) = Unit {0}
+IsOther (Compact old new) = Unit {0}
 IsOther (Serve host port workers servers connections patience first journal) = Unit {0}
 
 pub no_check : (status : ℕ) (run : ProgramRun) (it : Command) → asks run.words ≡ Some it → IsOther it → (a b : List ℕ) → IsCheck run.words a b → Checks status run a b
@@ -43,8 +44,8 @@ pub links_none : (words : List (List ℕ)) (it : Command) → asks words ≡ Som
 links_none words it asked links none = true_or_false (sym links ∙ none it asked)
 
 -- a run of a command that doesn't end with 2
-pub command_runs : {Stored : Type 0} (status : ℕ) (run : ProgramRun) (it : Command) → asks run.words ≡ Some it → RunEnds status run ⊎ Stored → (status ≡ 2 → ⊥) → (NamesNoFile run.words → AllFilesRead run)
-    → ((a b : List ℕ) → IsCheck run.words a b → Checks status run a b) → EndsSo Stored status run
+pub command_runs : {Untouched Stored : Type 0} (status : ℕ) (run : ProgramRun) (it : Command) → asks run.words ≡ Some it → (RunEnds status run × Untouched) ⊎ Stored → (status ≡ 2 → ⊥) → (NamesNoFile run.words → AllFilesRead run)
+    → ((a b : List ℕ) → IsCheck run.words a b → Checks status run a b) → EndsSo Untouched Stored status run
 command_runs status run it asked ends never files checks = record {
   ends = ends;
   files = files;
@@ -72,14 +73,14 @@ serve_never endings.ReportFault two = absurd (omega (arith, two))
 
 -- ---- the commands over links
 
-pub session_runs : {Stored : Type 0} (run : ProgramRun) (how : Served) (status : ℕ) → status ≡ session_status how → ServesSession how run → AllFilesRead run → EndsSo Stored status run
-session_runs run how status is one files = command_runs status run (Session None) one.session (inl (served how is one)) (λ two. session_never how (sym is ∙ two)) (λ none. files) (no_check status run (Session None) one.session tt)
+pub session_runs : {Untouched Stored : Type 0} (same : Untouched) (run : ProgramRun) (how : Served) (status : ℕ) → status ≡ session_status how → ServesSession how run → AllFilesRead run → EndsSo Untouched Stored status run
+session_runs same run how status is one files = command_runs status run (Session None) one.session (inl (served how is one, same)) (λ two. session_never how (sym is ∙ two)) (λ none. files) (no_check status run (Session None) one.session tt)
 
-pub serve_runs : {Stored : Type 0} (run : ProgramRun) (how : Ending) (status : ℕ) (host : List ℕ) (port : ℕ) (setup : Setup) → status ≡ serve_status how → asks run.words ≡ Some (asks_to_serve host port setup None)
-    → serving.IsServerRun how host port setup run.net run.net_after run.output run.output_after → LeavesInput run → AllFilesRead run → EndsSo Stored status run
-serve_runs run how status host port setup is asked serves input files =
+pub serve_runs : {Untouched Stored : Type 0} (same : Untouched) (run : ProgramRun) (how : Ending) (status : ℕ) (host : List ℕ) (port : ℕ) (setup : Setup) → status ≡ serve_status how → asks run.words ≡ Some (asks_to_serve host port setup None)
+    → serving.IsServerRun how host port setup run.net run.net_after run.output run.output_after → LeavesInput run → AllFilesRead run → EndsSo Untouched Stored status run
+serve_runs same run how status host port setup is asked serves input files =
     command_runs status run (asks_to_serve host port setup None) asked
-    (inl (hosted how is (record { host = host; port = port; setup = setup; asked = asked; serves = serves; input = input; all_files_read = files })))
+    (inl (hosted how is (record { host = host; port = port; setup = setup; asked = asked; serves = serves; input = input; all_files_read = files }), same))
     (λ two. serve_never how (sym is ∙ two))
     (λ none. files)
     (no_check status run _ asked tt)
@@ -87,10 +88,10 @@ serve_runs run how status host port setup is asked serves input files =
 -- ---- no command, and none that is heard
 
 -- words that are no command's, whose usage was sent, or not whole
-pub other_runs : {Stored : Type 0} (run : ProgramRun) (status : ℕ) → IsNoCommand run.words → RunEnds status run
-    → (status ≡ 2) ⊎ (status ≡ 4) → AllFilesRead run → EndsSo Stored status run
-other_runs run status other ends which files = record {
-  ends = inl ends;
+pub other_runs : {Untouched Stored : Type 0} (same : Untouched) (run : ProgramRun) (status : ℕ) → IsNoCommand run.words → RunEnds status run
+    → (status ≡ 2) ⊎ (status ≡ 4) → AllFilesRead run → EndsSo Untouched Stored status run
+other_runs same run status other ends which files = record {
+  ends = inl (ends, same);
   files = λ none. files;
   misused = (
     λ two. (other, λ four. omega (arith, two, four), λ five. omega (arith, two, five)),
@@ -103,9 +104,9 @@ other_runs run status other ends which files = record {
 }
 
 -- no memory to read the words
-pub unheard_runs : {Stored : Type 0} (run : ProgramRun) → IsUnheard run → EndsSo Stored 5 run
-unheard_runs run none = record {
-  ends = inl (unheard refl none);
+pub unheard_runs : {Untouched Stored : Type 0} (same : Untouched) (run : ProgramRun) → IsUnheard run → EndsSo Untouched Stored 5 run
+unheard_runs same run none = record {
+  ends = inl (unheard refl none, same);
   files = λ no. none.all_files_read;
   misused = (λ two. absurd (omega (arith, two)), λ all. absurd (all.2 refl));
   checks = λ a b check. record {

@@ -1,9 +1,11 @@
 pub mod Checks
+pub mod CompactRuns
 pub mod Safe
 pub mod Solves
 pub mod Summaries
 pub mod Ends
 pub mod Grounds
+pub mod JournalFaults
 pub mod ProgramRuns
 pub mod Runs
 pub mod StoredRuns

@@ -4,7 +4,8 @@ use Rattle.os_io.specs.Files.{Held}
 use Rattle.os_io.specs.Links.{NetTells}
 use Rattle.os_io.specs.Streams.{Tells}
 use Rattle.serving.specs.declared.setup.Setup.{Setup}
-use Rattle.command_line.specs.Words.{Command, Session, Check, Solve, Generate, Call, Serve, asks}
+use Rattle.command_line.specs.declared.words.ServeWords.{ServeWords}
+use Rattle.command_line.specs.Words.{Command, Session, Check, Solve, Generate, Call, Compact, Serve, asks}
 
 -- a run's words, what names hold, and what its files, its input, its output and its net tell before and after it
 pub record ProgramRun : Type 0 where
@@ -43,6 +44,10 @@ LeavesInput run = run.input_after ≡ run.input
 abbrev pub IsUntaken : ProgramRun → Type 0
 IsUntaken run = LeavesInput run × (run.net_after ≡ run.net)
 
+-- how a server is set up by its words
+abbrev pub setup_of : ServeWords → Setup
+setup_of to = record { patience = to.patience; first = to.first; limits = record { workers = to.workers; servers = to.servers; connections = to.connections } }
+
 -- to serve at this port of a host, so set up, over the journal of this name, if there is one
 abbrev pub asks_to_serve : (host : List ℕ) → (port : ℕ) → Setup → (journal : Option (List ℕ)) → Command
 asks_to_serve host port setup journal = Serve host port setup.limits.workers setup.limits.servers setup.limits.connections setup.patience setup.first journal
@@ -54,6 +59,7 @@ journal_of (Check osil osrl) = None
 journal_of (Solve osil options safe) = None
 journal_of (Generate variables) = None
 journal_of (Call kind host port osil osol ospl) = None
+journal_of (Compact old new) = Some old
 journal_of (Serve host port workers servers connections patience first journal) = journal
 
 -- the words name no journal: no command that they ask for is over one

@@ -17,7 +17,7 @@ use Rattle.os_client.specs.Runs.{CallRun, CallEnds}
 use Rattle.serving.specs.declared.ending.Ending.{Ending}
 use Rattle.serving.specs.Serving as serving
 use Rattle.serving.specs.declared.setup.Setup.{Setup}
-pub use Rattle.os_app.specs.ProgramRuns.{ProgramRun, StoresRun, AllFilesRead, LeavesInput, IsUntaken, asks_to_serve}
+pub use Rattle.os_app.specs.ProgramRuns.{ProgramRun, StoresRun, AllFilesRead, LeavesInput, IsUntaken, asks_to_serve, stores_run}
 use Rattle.os_app.specs.StoredRuns.{StoredRunEnds}
 use Rattle.os_app.specs.Checks.{IsAnswerLine, IsAnswerAbout}
 use Rattle.os_app.specs.Solves.{IsDocumentAbout}
@@ -26,7 +26,7 @@ use Rattle.osrl_grammar.specs.declared.report.Report.{Report}
 use Rattle.osrl_grammar.specs.Writing.{report_text}
 use Rattle.os_app.specs.Safe.{says_turn_limit}
 use Rattle.os_app.specs.Statuses.{serve_status, session_status, solve_status}
-use Rattle.command_line.specs.Words.{Command, Session, Check, Solve, Generate, Call, Serve, asks, names_files, AsksSession, IsCheck, NamesNoFile, IsNoCommand, usage}
+use Rattle.command_line.specs.Words.{Command, Session, Check, Solve, Generate, Call, Compact, Serve, asks, names_files, AsksSession, IsCheck, NamesNoFile, IsNoCommand, usage}
 
 -- the text that a command asks for, with its status, by what names hold: a check's line, the result document of a job, or the line
 -- about a generated instance. The others ask for no text that is made beforehand
@@ -36,6 +36,7 @@ IsDue held (Solve osil options safe) status text = IsDocumentAbout (held osil) (
 IsDue held (Generate variables) status text = IsSummaryOf variables status text
 IsDue held (Session journal) status text = ⊥
 IsDue held (Call kind host port osil osol ospl) status text = ⊥
+IsDue held (Compact old new) status text = ⊥
 IsDue held (Serve host port workers servers connections patience first journal) status text = ⊥
 
 -- the text that the words ask for
@@ -172,18 +173,18 @@ pub record Checks (status : ℕ) (run : ProgramRun) (osil_name osrl_name : List 
   pub judged : (osil osrl : List ℕ) → run.held osil_name ≡ Holds osil → run.held osrl_name ≡ Holds osrl → IsPairJudged status run osil osrl
   pub there : (status ≡ 0) ⊎ (status ≡ 1) → MayBeThere run osil_name × MayBeThere run osrl_name
 
--- a run ends in one of these ways, or, over a journal, so. What the bytes to come decide of a session follows by the laws of `os_server`. Status 2
--- says that the words are no command's, no write failed and there was memory, exactly. Only of words that name files a file fails to be
+-- a run ends in one of these ways, and touched no stores, or, over a journal, so. What the bytes to come decide of a session follows by the laws of `os_server`.
+-- Status 2 says that the words are no command's, no write failed and there was memory, exactly. Only of words that name files a file fails to be
 -- read
-pub record EndsSo (Stored : Type 0) (status : ℕ) (run : ProgramRun) : Type 0 where
-  pub ends : RunEnds status run ⊎ Stored
+pub record EndsSo (Untouched Stored : Type 0) (status : ℕ) (run : ProgramRun) : Type 0 where
+  pub ends : (RunEnds status run × Untouched) ⊎ Stored
   pub files : NamesNoFile run.words → AllFilesRead run
   pub misused : (status ≡ 2) ↔ (IsNoCommand run.words × (status ≡ 4 → ⊥) × (status ≡ 5 → ⊥))
   pub checks : (osil_name osrl_name : List ℕ) → IsCheck run.words osil_name osrl_name → Checks status run osil_name osrl_name
 
--- a run and what its stores told of it, by what is told of disks
-abbrev pub Runs : {D : Type 0} → Ghosts D → (status : ℕ) → ProgramRun → StoresRun → Type 0
-Runs g status run stores = EndsSo (StoredRunEnds g status run stores) status run
+-- a run and what its stores told of it, by what is told of disks, and by what says that the stores are as they were
+abbrev pub Runs : {D : Type 0} → Ghosts D → (untouched : Type 0) → (status : ℕ) → ProgramRun → StoresRun → Type 0
+Runs g untouched status run stores = EndsSo untouched (StoredRunEnds g status run stores) status run
 
 -- the text of a report that doesn't name the limit of turns was sent, with its status, or a first part of it
 pub record TellsWithinTurns (status : ℕ) (run : ProgramRun) : Type 0 where

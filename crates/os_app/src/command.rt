@@ -3,20 +3,21 @@ ghost use Rattle.std.specs.Prelude.{◌≡◌, map, IfOk, OnErr};
 ghost use Rattle.std.specs.Process.{exit_status};
 ghost use Rattle.std.specs.String.{string_bytes};
 ghost use Rattle.os_io.specs.Streams.{SameInput, SameOutput};
-ghost use Rattle.command_line.specs.Words.{AsksForNoLink, NamesNoFile};
+ghost use Rattle.command_answers.specs.Outputs.{IsTold};
+ghost use Rattle.command_line.specs.Words.{AsksForNoLink, NamesNoFile, usage};
 ghost use Rattle.os_app.specs.Ends.{AnswerEnds, from_memory};
 ghost use Rattle.os_app.specs.Grounds.{AnswersAreOne};
-ghost use Rattle.os_app.specs.ProgramRuns.{NamesNoJournal, stores_run};
+ghost use Rattle.os_app.specs.ProgramRuns.{NamesNoJournal, setup_of, stores_run};
 ghost use Rattle.os_app.specs.Runs.{Runs};
 
 use crate::checking::answer_about;
 use crate::generating::generate;
 use crate::solving::solve_files;
 use crate::statuses::{serve_status, session_status};
-use crate::stored::{keep_server, keep_session};
+use crate::stored::{compact_named, keep_server, keep_session};
 use command_answers::status::{MISUSED, NO_MEMORY, READ_FAULT, WRITE_FAULT};
 use command_answers::{StatusText, send_answer};
-use command_line::{Asked, numbers_are_within_their_ends, read_words, write_usage};
+use command_line::{Asked, ServeWords, numbers_are_within_their_ends, read_words, write_usage};
 use disks::Stores;
 use document_checker::{
     accepted_documents_are_not_refused, documents_have_one_answer, documents_have_one_kind,
@@ -63,6 +64,32 @@ pub fn exit_code(ran: Result<u8, Memory>) -> ExitCode
     }
 }
 
+/// Says how the program is started, and how that went.
+fn tell_usage<O: Sink>(output: &mut O) -> u8
+    ensures told { IsTold 2 usage result (O.tells output.old) (O.tells output.new) }
+    ensures input { SameInput (O.tells output.old) (O.tells output.new) }
+{
+    match write_usage(output) {
+        Ok(()) => MISUSED,
+        Err(Failed) => WRITE_FAULT,
+    }
+}
+
+/// How a server is set up by its words.
+fn setup_of(to: ServeWords<'_>) -> Setup
+    ensures { result ≡ setup_of to.entry }
+{
+    Setup {
+        patience: to.patience,
+        first: to.first,
+        limits: ServeLimits {
+            workers: to.workers,
+            servers: to.servers,
+            connections: to.connections,
+        },
+    }
+}
+
 /// The laws of documents that are checked.
 fn documents_are_judged_once()
     ensures { AnswersAreOne }
@@ -79,15 +106,17 @@ fn documents_are_judged_once()
 /// answers them, with the safe limit of turns in place of theirs where it is asked for. `generate` solves and checks a
 /// generated instance, and writes a line about it. `call` makes one of the six calls over a link, and writes what answers it.
 /// `serve` serves links that come. Where a journal is named, a session or a server goes on from the table that it keeps, and what
-/// changes is stored in it before it is answered.
+/// changes is stored in it before it is answered. `compact` writes the journal in one file again, into another one that has nothing in
+/// it, which gives the same table then.
 ///
 /// The status is 0 where all was written and handed on; 1 where what was written says no: `refused`, the document of an error,
 /// `unchecked`, a fault, another status of HTTP, or `false`; 2 where the words are no command and the usage was written; 3
 /// where a read of the input, of a file or of the link failed, or the journal wasn't opened or read; 4 where a write of the output
-/// or of the link did, or of the journal while it was opened; 5 where there was no memory; 6 where the listener failed; 7 where the
-/// bytes that came are no reply; 8 where the input ended inside a request; and 9 where the journal is damaged, and `damaged at` and
-/// the place were written in a line. Where there was no memory to read the words or to make the text that they ask for, or the
-/// journal wasn't opened, nothing is taken and no link is asked for, and nothing but that line is written.
+/// or of the link did, or of the journal while it was opened, or where the new journal wasn't opened or written or had something in
+/// it; 5 where there was no memory; 6 where the listener failed; 7 where the bytes that came are no reply; 8 where the input ended
+/// inside a request; and 9 where the journal is damaged, and `damaged at` and the place were written in a line. Where there was no
+/// memory to read the words or to make the text that they ask for, or the journal wasn't opened, nothing is taken and no link is asked
+/// for, and nothing but that line is written.
 pub fn run<F: Files, K: Stores, I: Source, O: Sink, N: Listener, R: Threads + Wait + Sync>(
     rt: &R,
     alloc: Global,
@@ -101,7 +130,7 @@ pub fn run<F: Files, K: Stores, I: Source, O: Sink, N: Listener, R: Threads + Wa
 where
     N::Conn: Send + Drop,
     K::Store: Send + Sync,
-    ensures runs { Runs K.Store.Disk result (record {
+    ensures runs { Runs K.Store.Disk (stores.new ≡ stores.old) result (record {
       words = map string_bytes words.now;
       held = F.held files.old;
       file_faults = F.faults files.old;
@@ -143,17 +172,10 @@ where
             tell(output, from_memory(generate(alloc, variables)))
         }
         Ok(Some(Asked::Call(call))) => make_call(alloc, call, files, output, net),
+        Ok(Some(Asked::Compact { old, new })) => compact_named(alloc, stores, old, new, output),
         Ok(Some(Asked::Serve(to))) => {
             numbers_are_within_their_ends();
-            let setup = Setup {
-                patience: to.patience,
-                first: to.first,
-                limits: ServeLimits {
-                    workers: to.workers,
-                    servers: to.servers,
-                    connections: to.connections,
-                },
-            };
+            let setup = setup_of(to);
             match to.journal {
                 None => serve_status(serve(rt, alloc, net, output, to.host, to.port, setup)),
                 Some(name) => keep_server(
@@ -161,10 +183,7 @@ where
                 ),
             }
         }
-        Ok(None) => match write_usage(output) {
-            Ok(()) => MISUSED,
-            Err(Failed) => WRITE_FAULT,
-        },
+        Ok(None) => tell_usage(output),
         Err(AllocError) => NO_MEMORY,
     }
 }

@@ -6,9 +6,9 @@
 //! `solve OSIL [--options OSOL] [--safe]` reads an instance and options from files and writes the result document that answers them;
 //! `--safe` puts the safe limit of turns (`no_cycles`), if the program has one, in place of the options' own.
 //! `generate N` solves and checks a generated instance. `call` makes a call over a link, and `serve` serves links.
-//! `--journal FILE` has a session or a server keep its jobs in a file. The program
-//! `os_main` hands in the real ends and ends with the status of `run`, [`exit_code`]. The laws say what the words mean, and when
-//! `solve --safe` doesn't end at its limit of turns.
+//! `--journal FILE` has a session or a server keep its jobs in a file, and `compact OLD NEW` writes such a file again, without what
+//! jobs that are gone had. The program `os_main` hands in the real ends and ends with the status of `run`, [`exit_code`]. The laws say
+//! what the words mean, and when `solve --safe` doesn't end at its limit of turns.
 #![tactic(auto)]
 
 mod checking;

@@ -1,16 +1,18 @@
-//! Sessions and servers over a journal in a file.
-ghost use Rattle.std.specs.Prelude.{◌≤◌, IfErr, IfOk};
+//! Sessions and servers over a journal in a file, and a journal that is written again.
+ghost use Rattle.std.specs.Prelude.{◌≡◌, ◌≤◌, IfErr, IfOk};
 ghost use Rattle.job_table.specs.Steps.{most_first};
 ghost use Rattle.os_io.specs.Streams.{SameInput, SameOutput};
 ghost use Rattle.os_app.specs.ProgramRuns.{stores_run};
-ghost use Rattle.os_app.specs.StoredRuns.{IsOpen, IsSaidOf, KeepsServer, KeepsSession, Unopened};
+ghost use Rattle.os_app.specs.CompactRuns.{EndsCompact};
+ghost use Rattle.os_app.specs.JournalFaults.{IsSaidOf, IsSaidOfCopy, unopened_status};
+ghost use Rattle.os_app.specs.StoredRuns.{IsOpen, KeepsServer, KeepsSession, Unopened};
 
 use crate::statuses::{serve_status, session_status};
 use command_answers::send_number;
-use command_answers::status::{DAMAGED, NO_MEMORY, READ_FAULT, WRITE_FAULT};
+use command_answers::status::{DAMAGED, DONE, NO_MEMORY, READ_FAULT, WRITE_FAULT};
 use disks::Stores;
-use job_journal::{Journal, OpenFault};
-use job_solver::{SolvedJobs, open_jobs};
+use job_journal::{CompactFault, Journal, OpenFault};
+use job_solver::{SolvedJobs, compact_jobs, open_jobs};
 use job_table::Table;
 use os_io::{Failed, FileFault, Listener, Sink, Source};
 use serving::{Setup, serve_stored};
@@ -46,7 +48,7 @@ fn open_named<K: Stores>(
     requires some { 1 ≤ first }
     requires within { first ≤ most_first }
     ensures opened { IfOk result (λ r. IsOpen K.Store.Disk name.now first r.0 r.1 (stores_run K.held K.back K.faults stores.old stores.new)) }
-    ensures unopened { IfErr result (λ fault. Unopened K.Store.Disk name.now (stores_run K.held K.back K.faults stores.old stores.new) fault) }
+    ensures unopened { IfErr result (λ fault. Unopened K.Store.Disk name.now first (stores_run K.held K.back K.faults stores.old stores.new) fault) }
 {
     let disk = match stores.open_store(name) {
         Ok(disk) => disk,
@@ -116,4 +118,57 @@ where
         }
         Err(fault) => tell_fault(output, fault),
     }
+}
+
+/// The status where a file isn't opened: this one, or that of no memory.
+fn unopened_status(failed: u8, fault: FileFault) -> u8
+    ensures { result ≡ unopened_status failed fault }
+{
+    match fault {
+        FileFault::Failed => failed,
+        FileFault::Memory => NO_MEMORY,
+    }
+}
+
+/// Says how it ended that a journal was written again, and gives the status of the run. Takes no memory.
+fn tell_copy<O: Sink>(output: &mut O, ended: Result<(), CompactFault>) -> u8
+    ensures told { IsSaidOfCopy ended result (O.tells output.old) (O.tells output.new) }
+    ensures input { SameInput (O.tells output.old) (O.tells output.new) }
+{
+    match ended {
+        Ok(()) => DONE,
+        Err(CompactFault::Old(fault)) => tell_fault(output, fault),
+        Err(CompactFault::NewFault) => WRITE_FAULT,
+        Err(CompactFault::Taken) => WRITE_FAULT,
+        Err(CompactFault::Long) => WRITE_FAULT,
+    }
+}
+
+/// Writes the journal in one file again, into another one, and says how it went. The first file has to be there; the second one is made
+/// where there is none. Both disks are given back.
+pub(crate) fn compact_named<K: Stores, O: Sink>(
+    alloc: Global,
+    stores: &mut K,
+    from: &str,
+    to: &str,
+    output: &mut O,
+) -> u8
+    ensures ends { EndsCompact K.Store.Disk from.now to.now result (stores_run K.held K.back K.faults stores.old stores.new) (O.tells output.old) (O.tells output.new) }
+    ensures input_of_output { SameInput (O.tells output.old) (O.tells output.new) }
+{
+    let old = match stores.find_store(from) {
+        Ok(disk) => disk,
+        Err(fault) => return unopened_status(READ_FAULT, fault),
+    };
+    let new = match stores.open_store(to) {
+        Ok(disk) => disk,
+        Err(fault) => {
+            stores.done_store(old);
+            return unopened_status(WRITE_FAULT, fault);
+        }
+    };
+    let (ended, old, new) = compact_jobs(alloc, old, new);
+    stores.done_store(old);
+    stores.done_store(new);
+    tell_copy(output, ended)
 }

@@ -16,7 +16,7 @@ returns-in-Ok-open_jobs-clause-opened g c =
     let opened = c.in-Ok.ensures in
     record {
       disk = c.in-Ok.disk;
-      opens = record { file = opened.opened; unbroken = e.sound.0; rises = e.sound.1; nobody = e.sound.2; begins = e.begins; goes_on = e.goes_on; opened = e.opened; still = e.cause };
+      opens = record { file = opened.opened; unbroken = e.sound.0; rises = e.sound.1; nobody = e.sound.2; begins = e.begins; goes_on = e.goes_on; opened = e.opened; still = e.cause; any_moment = e.any_moment };
       back = c.open_store.ensures.back;
       all_opened = opened.counted;
     }
@@ -25,4 +25,4 @@ pub returns-in-Err-clause-unopened : goal.returns-in-Err-clause-unopened
 returns-in-Err-clause-unopened g c =
     let e = c.in-Err.ensures in
     let opened = c.in-Ok.ensures in
-    no_journal c.in-Ok.disk _ opened.opened e.damaged (counts_left g.K.Store.Disk.faults _ _ _ e.cause) (gives_back g.K.Store.Disk g.K.Stores.held g.K.Stores.back g.K.Stores.faults _ _ _ _ c.done_store.ensures.back c.done_store.ensures.faults c.open_store.ensures.back opened.counted)
+    no_journal c.in-Ok.disk _ opened.opened e.damaged (counts_left g.K.Store.Disk.faults _ _ _ e.cause) (record { same = e.left; any_moment = e.any_moment_err }) (gives_back g.K.Store.Disk g.K.Stores.held g.K.Stores.back g.K.Stores.faults _ _ _ _ c.done_store.ensures.back c.done_store.ensures.faults c.open_store.ensures.back opened.counted)
