@@ -13,7 +13,7 @@ mod telling;
 use cases::{Answers, Tables, number_of};
 use disks::MemDisk;
 use effects_of::{answer_of, effect_of};
-use job_journal::{Journal, open_journal};
+use job_journal::{CompactFault, Journal, compact, open_journal};
 use job_table::Remade;
 use jobs::{Any, NoNo, tell_jobs};
 use moves::make_all;
@@ -110,11 +110,56 @@ fn tell_moves(alloc: Global, moves: &[u8], fails: &[u64], stop: u64) -> Result<T
     Ok(text)
 }
 
+/// What the journal of these effects is written again as, into a file that has these bytes, and what that is opened as.
+fn tell_compacted(alloc: Global, effects: &[u8], stop: u64, file: &[u8]) -> Result<Text, Memory> {
+    let mut text = Text::new(alloc);
+    let old = MemDisk::new(alloc, b"", &[], u64::MAX)?;
+    let new = MemDisk::new(alloc, file, &[], stop)?;
+    let mut old = match open_journal(alloc, old, &mut Remade::<Any>::new(alloc), &mut NoNo) {
+        Ok(old) => old,
+        Err(_) => return Text::from_slice(alloc, b"not begun"),
+    };
+    put_all(&mut old, effects, &mut text)?;
+    let mut table = Remade::<Any>::new(alloc);
+    let (ended, old, new) = compact(alloc, old.into_disk(), new, &mut table, &mut NoNo);
+    match ended {
+        Ok(()) => text.extend(b"written ")?,
+        Err(CompactFault::Old(fault)) => tell_fault(&mut text, fault)?,
+        Err(CompactFault::NewFault) => text.extend(b"new fault ")?,
+        Err(CompactFault::Taken) => text.extend(b"taken ")?,
+        Err(CompactFault::Long) => text.extend(b"long ")?,
+    }
+    put_hex(&mut text, new.as_slice())?;
+    text.extend(b"; ")?;
+    tell_opened(alloc, old.as_slice(), &[], &mut text)?;
+    text.extend(b"; ")?;
+    tell_opened(alloc, new.as_slice(), &[], &mut text)?;
+    Ok(text)
+}
+
 /// The call from which on each fails, where there is one.
 fn stop_of(text: &[u8]) -> u64 {
     match number_of(text) {
         0 => u64::MAX,
         call => call,
+    }
+}
+
+/// Given effects, the call of the new disk from which on each fails, and what its file has.
+#[derive(Drop)]
+struct Compacted;
+
+impl Answers for Compacted {
+    fn answer(&mut self, alloc: Global, given: &[Vec<u8>]) -> Result<Text, Memory> {
+        let [effects, stop, file] = given else {
+            return Text::from_slice(alloc, b"three fields");
+        };
+        tell_compacted(
+            alloc,
+            effects.as_slice(),
+            stop_of(stop.as_slice()),
+            file.as_slice(),
+        )
     }
 }
 
@@ -166,5 +211,6 @@ fn main(rt: HostRuntime) -> io::Result<()> {
     tables.try_file("changed.txt", &mut Journals)?;
     tables.try_file("puts.txt", &mut Journals)?;
     tables.try_file("moves.txt", &mut Kept)?;
+    tables.try_file("compact.txt", &mut Compacted)?;
     tables.tell_count()
 }

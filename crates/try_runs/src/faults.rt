@@ -7,6 +7,7 @@ mod world;
 
 use cases::{Tables, compare, gather};
 use listing::Listing;
+pub(crate) use listing::put_group;
 use os_io::DiskFiles;
 use std::sync::Wait;
 use std::thread::Threads;

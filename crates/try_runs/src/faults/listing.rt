@@ -35,7 +35,7 @@ fn told(alloc: Global, came: &Came, whole: &[u8]) -> Result<Text, Memory> {
 }
 
 /// Appends what runs came to of which these calls failed.
-fn put_group(
+pub(crate) fn put_group(
     alloc: Global,
     list: &mut Text,
     first: u64,

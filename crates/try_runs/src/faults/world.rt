@@ -1,6 +1,7 @@
 //! Runs over files, an input, an output and links in memory, each byte of which is one read.
 
 use super::calls::{Fails, Given, Kind};
+use crate::words::words_of;
 use cases::bytes_of;
 use disks::{MemDisk, MemStores};
 use os_app::run;
@@ -23,15 +24,6 @@ pub(crate) struct Came {
     pub rose: &'static str,
     pub output: Text,
     pub back: Text,
-}
-
-/// The words of a run.
-fn words_of(alloc: Global, field: &[u8]) -> Result<Vec<String>, Memory> {
-    let mut words = Vec::new(alloc);
-    for word in field.split(|b| *b == b'|') {
-        words.push(str::from_utf8(word).unwrap_or("").to_string(alloc)?)?;
-    }
-    Ok(words)
 }
 
 /// The files of a run, read from the disk.

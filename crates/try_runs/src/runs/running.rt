@@ -1,6 +1,7 @@
 //! What a case gives, and how it is answered.
 
 use super::ends::{Fails, ROOM, files_of, input_of, net_of, output_of};
+use crate::words::{behind, words_of};
 use cases::{bytes_of, number_of};
 use disks::{MemDisk, MemStores};
 use os_app::run;
@@ -18,22 +19,6 @@ const NONE: Fails = Fails {
     link: 0,
     disk: 0,
 };
-
-/// The words of a run, with `|` between; none where there are no bytes.
-fn words_of(alloc: Global, field: &[u8]) -> Result<Vec<String>, Memory> {
-    let mut words = Vec::new(alloc);
-    if !field.is_empty() {
-        for word in field.split(|b| *b == b'|') {
-            words.push(str::from_utf8(word).unwrap_or("").to_string(alloc)?)?;
-        }
-    }
-    Ok(words)
-}
-
-/// What is behind a word that begins a field, if it does.
-fn behind<'f>(field: &'f [u8], word: &[u8]) -> Option<&'f [u8]> {
-    field.strip_prefix(word)
-}
 
 /// The call that fails: `file N`, `read N`, `write N`, `net N`, `link N`, `disk N`, or none.
 fn fails_of(field: &[u8]) -> Fails {
