@@ -10,6 +10,9 @@ a knock behind the crash tells which numbers were given, and which jobs have tex
 that where somebody was told that it ran, or that it waits while a later one is finished; so the last that clients ask before such a crash are numbers,
 and texts that are sent, and they go on once no job waits.
 
+Behind every fifth crash the journals are written again by `compact`, and the new files take their place; every second time that is killed too, and
+the new file is then none, or one that opens.
+
     python3 tools/crashes.py [TIMES]     so many crashes, 200 where none are asked for
 """
 
@@ -264,6 +267,25 @@ def session(journal, requests=b""):
     return ran.returncode, ran.stdout
 
 
+def written_again(journal, killed):
+    """Whether the journal was written again, and the new file took its place."""
+    new = journal + ".new"
+    with subprocess.Popen([PROGRAM, "compact", journal, new]) as process:
+        if killed:
+            time.sleep(random.uniform(0, 0.02))
+            process.kill()
+        status = process.wait()
+    if status == 0:
+        os.replace(new, journal)
+    elif not killed:
+        raise SystemExit(f"compact ended with {status}")
+    elif os.path.exists(new):
+        if session(new) != (0, b""):
+            raise SystemExit("a compaction that was killed left a journal that doesn't open")
+        os.remove(new)
+    return status == 0
+
+
 def behind_record(file, at, jobs, given):
     """Where the record behind an open gate ends, by the rules (`docs/rules/journal.md`), once its effect is made; none where it isn't possible, or no
     gate stands behind it. Documents aren't looked into."""
@@ -373,15 +395,19 @@ def main():
         full_disk(folder)
         journal, known = os.path.join(folder, "journal"), Known()
         ordered, record = os.path.join(folder, "ordered"), Record()
-        for _ in range((times + 1) // 2):
+        again, grown = 0, 0
+        for turn in range((times + 1) // 2):
             crash(journal, known)
             crash_in_order(ordered, record)
+            grown = max(grown, os.path.getsize(journal))
+            if turn % 5 == 4:
+                again += sum(written_again(it, turn % 10 == 9) for it in (journal, ordered))
         with Server(0, 2, journal=journal) as server:
             all_there(server.port, known)
         with Server(0, 2, journal=ordered) as server:
             record.settle(CLIENTS, Client(server.port))
         placed, hidden, most = histories.check(record.calls)
-        print(f"{times} crashes: {len(known.stage)} numbers, {len(known.digest)} documents, {os.path.getsize(journal)} bytes")
+        print(f"{times} crashes: {len(known.stage)} numbers, {len(known.digest)} documents, {grown} bytes at most; {again} times written again")
         print(f"one order: {placed} calls of {len(record.numbers)} jobs, at most {most} orders open at once, {os.path.getsize(ordered)} bytes")
 
 

@@ -6,7 +6,7 @@ top=$(CDPATH='' cd -- "$(dirname -- "$0")/.." && pwd) || exit 2
 room=$(mktemp -d) || exit 2
 trap 'chmod -R u+w "$room"; rm -rf "$room"' EXIT
 cd "$room" || exit 2
-usage='usage: os_app session | solve | check | serve | call | generate'
+usage='usage: os_app session | solve | check | serve | call | compact | generate'
 tried=0
 failed=0
 
@@ -242,7 +242,16 @@ as_other=''
 [ "$(id -u)" -ne 0 ] || as_other='setpriv --reuid=65534 --regid=65534 --clear-groups'
 STUB_PID=/dev/null STUB_STATUS=3 $as_other ./os solve closed >out 2>err
 expect 'line of a file that may not be read' "$(cat err)" "os: can't read closed: you have no leave to read it; $solve"
+says 3 "os: can't read nofile.osil: there is no such file; name another file: ./os compact OLD NEW" compact nofile.osil new
+says 3 "os: there couldn't be opened or read; see that you may write it, and that no other program has it open" compact there new
+says 3 "os: can't open the journal folder: it is a folder; name another file: ./os session [--journal FILE]" session --journal folder
+says 3 "os: can't open the journal no/journal: its folder isn't there; name another file: ./os session [--journal FILE]" session --journal=no/journal
+says 3 "os: the journal there, or the input, couldn't be read; see that no other program has there open" serve a 80 --journal there
 says 4 "os: the output couldn't be written; see that there is room and that whoever reads it is still there" solve there
+says 4 "os: the output couldn't be written, or the journal there while it was opened; see that there is room, and that whoever reads the output is still there" session --journal there
+says 4 "os: there has something in it; name a file that isn't there: ./os compact OLD NEW" compact old there
+says 4 "os: new couldn't be written, or there while it was opened; see that there is room, and that no other program has them open" compact there new
+says 4 "os: can't open the journal folder: it is a folder; name another file: ./os compact OLD NEW" compact there folder
 says 4 "os: the call couldn't be sent to a port 80, or the output not be written; see that the server runs and that the output has room" call knock a 80
 says 5 'os: there was no memory; end other programs, or give a smaller instance' solve there
 says 5 'os: there was no memory for the server or for one of its connections; give fewer --servers and --workers, or end other programs' serve a 80
@@ -250,6 +259,11 @@ says 6 "os: can't listen at nohost port 8080, or take more connections; HOST mus
 says 6 "os: no one listens at a port 80; start a server there, or name another: $call" call --osol=there knock a 80
 says 7 'os: what a port 80 answered is no reply to a call; see that a server of these calls listens there' call knock a 80
 says 8 'os: the input ended inside a request; its body must have as many bytes as Content-Length says' session
+says 5 'os: there was no memory; end other programs, or give a smaller instance' compact there new
+says 9 'os: the journal there is damaged, and it stays as it is; go on with a backup of it (docs/rules/journal.md)' compact there new
+says 9 'os: the journal there is damaged, and it stays as it is; go on with a backup of it (docs/rules/journal.md)' serve --journal there a 80
+says 2 'os: these words are not those of compact: ./os compact OLD NEW (./os help compact says more)' compact there
+says 0 '' compact there new
 says 9 "os: the program ended with status 9, which no command has; build it anew: rm $room/crates/os_main/out/os_main" solve there
 STUB_SIGNAL=KILL ./os solve there >out 2>err &
 wait $! 2>/dev/null

@@ -69,7 +69,7 @@ answer_no_command() {
 # has no text.
 take_apart() {
     first='' second='' third=''
-    unset options osil osol ospl
+    unset options osil osol ospl journal
     while [ $# -gt 0 ] && [ "$1" != -- ]; do
         case $1 in
             --safe) ;;
@@ -102,6 +102,7 @@ keep_option() {
         --osil) osil=$2 ;;
         --osol) osol=$2 ;;
         --ospl) ospl=$2 ;;
+        --journal) journal=$2 ;;
     esac
 }
 
@@ -123,9 +124,35 @@ tell_unread() {
     return 1
 }
 
+# Where a journal can't be opened, why is told; else the answer is no.
+tell_unopened() {
+    if [ -d "$1" ]; then
+        why="it is a folder"
+    elif [ -e "$1" ] && { [ ! -r "$1" ] || [ ! -w "$1" ]; }; then
+        why="you have no leave to read and write it"
+    elif [ ! -e "$1" ] && [ ! -d "$(dirname -- "$1")" ]; then
+        why="its folder isn't there"
+    else
+        return 1
+    fi
+    say "can't open the journal $1: $why; name another file: $own"
+}
+
+# More than a gate stands in the file.
+is_taken() {
+    [ -f "$1" ] && [ -r "$1" ] && [ "$(wc -c <"$1")" -gt 1 ]
+}
+
 explain_read() {
     case $1 in
-        session) say "the input couldn't be read; give it another way: ./os session < FILE" ;;
+        session | serve)
+            if [ -z "${journal+x}" ]; then
+                say "the input couldn't be read; give it another way: ./os session < FILE"
+            else
+                tell_unopened "$journal" || say "the journal $journal, or the input, couldn't be read; see that no other program has $journal open"
+            fi
+            ;;
+        compact) tell_unread "$first" || say "$first couldn't be opened or read; see that you may write it, and that no other program has it open" ;;
         check | solve)
             tell_unread "$first" ${second:+"$second"} ${options+"$options"} || say "a file couldn't be read to its end; try again"
             ;;
@@ -139,8 +166,38 @@ explain_read() {
 explain_write() {
     case $1 in
         call) say "the call couldn't be sent to $second port $third, or the output not be written; see that the server runs and that the output has room" ;;
-        *) say "the output couldn't be written; see that there is room and that whoever reads it is still there" ;;
+        compact)
+            if is_taken "$second"; then
+                say "$second has something in it; name a file that isn't there: $own"
+            else
+                tell_unopened "$second" || say "$second couldn't be written, or $first while it was opened; see that there is room, and that no other program has them open"
+            fi
+            ;;
+        *)
+            if [ -n "${journal+x}" ]; then
+                say "the output couldn't be written, or the journal $journal while it was opened; see that there is room, and that whoever reads the output is still there"
+            else
+                say "the output couldn't be written; see that there is room and that whoever reads it is still there"
+            fi
+            ;;
     esac
+}
+
+explain_damage() {
+    case $1 in
+        compact) journal=$first ;;
+        session | serve) ;;
+        *) unset journal ;;
+    esac
+    if [ -n "${journal+x}" ]; then
+        say "the journal $journal is damaged, and it stays as it is; go on with a backup of it (docs/rules/journal.md)"
+    else
+        explain_other
+    fi
+}
+
+explain_other() {
+    say "the program ended with status $ended, which no command has; build it anew: rm $program"
 }
 
 explain_memory() {
@@ -171,7 +228,8 @@ explain() {
         6) explain_network "$asked" ;;
         7) say "what $second port $third answered is no reply to a call; see that a server of these calls listens there" ;;
         8) say "the input ended inside a request; its body must have as many bytes as Content-Length says" ;;
+        9) explain_damage "$asked" ;;
         137) say "the program was killed (signal 9), as the system does where memory is short; end other programs, or give a smaller instance" ;;
-        *) say "the program ended with status $ended, which no command has; build it anew: rm $program" ;;
+        *) explain_other ;;
     esac
 }
