@@ -68,7 +68,8 @@ fn wide_sum(x: i64, y: i64, parts: Parts) -> i128
 
 /// Whether all numbers are only added to.
 fn only_adds(parts: Parts) -> bool
-    ensures { result ≡ true → parts.scale ≡ pos 1 }
+    ensures yes { result ≡ true → parts.scale ≡ pos 1 }
+    ensures no { result ≡ false → parts.scale ≢ pos 1 }
 {
     parts.scale == 1
 }

@@ -100,7 +100,7 @@ loop-c-preserved g c =
     let both = told ∙ ap₂ (λ p q. p *ℤ s +ℤ q *ℤ k) c.read-x.ensures.number c.read-y.ensures.number in
     record {
       kept = kept_by _ _ _ _ _ (λ j a. changes_same c.loop-c.row.marks c.write.new.self.marks by.marks c.only_adds-adds.result j (c.write.ensures.marks j (λ e. omega arith))) c.in-Some.ensures.kept;
-      changing = changing_next row by c.loop-c.row c.write.new.self s k c.small_sum.result c.loop-c.from c.in-Some.c r.0 r.1 r.2 r.3 i c.only_adds-adds.result c.only_adds-adds.ensures first both c.write.ensures.common c.write.ensures.denom c.write.ensures.row own c.write.ensures.rest;
+      changing = changing_next row by c.loop-c.row c.write.new.self s k c.small_sum.result c.loop-c.from c.in-Some.c r.0 r.1 r.2 r.3 i c.only_adds-adds.result c.only_adds-adds.ensures.yes first both c.write.ensures.common c.write.ensures.denom c.write.ensures.row own c.write.ensures.rest;
       cost = λ m n a b.
           let l = first.later in
           let mine = counted_same c.loop-c.row m n c.in-Some.c (numbers_of row) (i.rows m n a) (same_numbers row by c.loop-c.row s k c.loop-c.from m n a b i c.requires.common.0 c.in-Some.c l) in
@@ -122,7 +122,7 @@ returns-clause-row g c = c.loop-c.invariant.changing.rows
 pub returns-clause-changed : goal.returns-clause-changed
 returns-clause-changed g c =
     let r = c.requires.row in
-    changing_all c.args.row.now c.args.by.now c.loop-c.row c.args.parts.scale c.args.parts.factor c.loop-c.from r.0 r.1 r.2 r.3 c.loop-c.invariant.changing c.only_adds-adds.result c.only_adds-adds.ensures c.in_default.ensures.first
+    changing_all c.args.row.now c.args.by.now c.loop-c.row c.args.parts.scale c.args.parts.factor c.loop-c.from r.0 r.1 r.2 r.3 c.loop-c.invariant.changing c.only_adds-adds.result c.only_adds-adds.ensures.yes c.in_default.ensures.first
 
 pub returns-clause-cost : goal.returns-clause-cost
 returns-clause-cost g c m n a b =
