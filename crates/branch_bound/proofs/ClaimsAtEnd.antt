@@ -6,7 +6,7 @@ use Rattle.certificate.specs.declared.causes.Cause.{Cause}
 use Rattle.certificate.specs.declared.causes.Cause.TheVariants.{TurnLimit, Memory}
 use Rattle.certificate.specs.declared.claims.Claim.{Claim}
 use Rattle.simplex_rules.specs.Ends.{Terms}
-use Rattle.search_rules.specs.Search.{Found, SearchMoment, Outcome, Optimal, Infeasible, Unbounded, BestSoFar, Unsure, Out, Closes, shown_at, early, ComesInSearch, IsSearchAnswer, searched, given_up}
+use Rattle.search_rules.specs.Search.{Found, SearchMoment, Outcome, Optimal, Infeasible, Unbounded, BestSoFar, Unsure, Out, ClosesLevel, shown_at, early, ComesInSearch, IsSearchAnswer, searched, given_up}
 use Rattle.no_cycles.specs.Searches.{is_turn_limit, is_out_of_turns}
 use Rattle.no_cycles.proofs.OneCaseSearches.{early_is}
 use Rattle.branch_bound.specs.declared.ended.Ended.{Ended}
@@ -23,7 +23,7 @@ closed_goes : (cs : List Certificate) (c : Certificate) (b : Option Found) → i
 closed_goes cs c None = refl
 closed_goes cs c (Some f) = refl
 
-closes : (P : Problem) (t : Terms) (m : SearchMoment) (b : Option Found) (gs : List Goal) → (b ≡ None) ⊎ (gs ≡ []) → Closes P t m b gs (Out (closed_by m.level.shown (shown_at m) b) m.clock)
+closes : (P : Problem) (t : Terms) (m : SearchMoment) (b : Option Found) (gs : List Goal) → (b ≡ None) ⊎ (gs ≡ []) → ClosesLevel P t m b gs (Out (closed_by m.level.shown (shown_at m) b) m.clock)
 closes P t m None gs last = refl
 closes P t m (Some f) [] last = refl
 closes P t m (Some f) (g ∷ gs) (inl e) = absurd (cc)
@@ -37,10 +37,10 @@ told_closed claim cs c b (inl tells) = (
   tells,
   closed_goes cs c b,
   λ P t m shown own best none last comes.
-      let goes : Closes P t m m.best m.level.later (Out (closed_by cs c b) m.clock) =
-      subst (λ (a : Option Found). Closes P t m a m.level.later (Out (closed_by cs c b) m.clock)) (sym best)
-      (subst (λ (d : Certificate). Closes P t m b m.level.later (Out (closed_by cs d b) m.clock)) own
-      (subst (λ (ks : List Certificate). Closes P t m b m.level.later (Out (closed_by ks (shown_at m) b) m.clock)) shown (closes P t m b m.level.later last))) in
+      let goes : ClosesLevel P t m m.best m.level.later (Out (closed_by cs c b) m.clock) =
+      subst (λ (a : Option Found). ClosesLevel P t m a m.level.later (Out (closed_by cs c b) m.clock)) (sym best)
+      (subst (λ (d : Certificate). ClosesLevel P t m b m.level.later (Out (closed_by cs d b) m.clock)) own
+      (subst (λ (ks : List Certificate). ClosesLevel P t m b m.level.later (Out (closed_by ks (shown_at m) b) m.clock)) shown (closes P t m b m.level.later last))) in
       searched (record { last = m; comes = comes; ends = inl (none, goes) }),
 )
 told_closed claim cs c b (inr tells) = (early b Memory, tells, early_is is_kill b Memory, λ P t m shown own best none last comes. subst (λ (a : Option Found). IsSearchAnswer P t (early a Memory) m.clock) best (given_up comes))

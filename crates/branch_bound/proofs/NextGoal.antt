@@ -27,7 +27,7 @@ use Rattle.case_tree.specs.Cuts.{cut_variable, AreBranches}
 use Rattle.instance.specs.declared.parts.Goal.{Goal as Own}
 use Rattle.instance.specs.declared.parts.Sense.{Sense}
 use Rattle.search_rules.specs.Branching.{Case}
-use Rattle.search_rules.specs.Search.{Found, SearchMoment, Outcome, NextOfSearch, Out, undivided, begun_at, shown_at, reached, nodes_with, nodes_so_far, early, IsStop, StopsBefore, Closes, AsksNext, IsNextInSearch, ComesInSearch, IsSearchAnswer, given_up}
+use Rattle.search_rules.specs.Search.{Found, SearchMoment, Outcome, NextOfSearch, Out, undivided, begun_at, shown_at, reached, nodes_with, nodes_so_far, early, IsStop, StopsBefore, ClosesLevel, AsksNext, IsNextInSearch, ComesInSearch, IsSearchAnswer, given_up}
 use Rattle.simplex_rules.specs.Ends.{Terms, Clock}
 use Rattle.simplex_rules.specs.Looks.{AgreesWith}
 use Rattle.simplex_rules.specs.Runs.{looked_once}
@@ -135,7 +135,7 @@ module _ (p : Parts) (v : Level) (w : Walk) (L D : Instance) (c : Clock) (t : Te
       let later : drop (v.goal + 1) (goals p.goals) ≡ asked ∷ after = ap (λ n. drop n (goals p.goals)) (sym next_one) ∙ at_drop_more (λ l. l) (goals p.goals) u no_goal (let n = length-map p.goals goal in omega arith) in
       inl (
         ap (waiting D w) closed,
-        subst (λ (l : List Goal). Closes (problem p) t here here.best l next) (sym later) (subst (λ (b : Option Found). Closes (problem p) t here b (asked ∷ after) next) (sym (ap best is_best)) a),
+        subst (λ (l : List Goal). ClosesLevel (problem p) t here here.best l next) (sym later) (subst (λ (b : Option Found). ClosesLevel (problem p) t here b (asked ∷ after) next) (sym (ap best is_best)) a),
       )
 
 -- the level that begins then is the one that is asked for

@@ -18,7 +18,7 @@ use Rattle.instance.specs.Parts.{Parts}
 use Rattle.instance.specs.Program.{goals, problem}
 use Rattle.simplex_rules.specs.Ends.{Terms, Clock}
 use Rattle.search_rules.specs.Branching.{Case, AreMetBelow}
-use Rattle.search_rules.specs.Search.{SearchMoment, Outcome, NextOfSearch, To, Out, MayCut, Takes, TakesPoint, MeetsPoint, Improves, GoesFromBest, IsPassed, IsHopeful, AreValuesAt, closed_by_leaf, too_wide}
+use Rattle.search_rules.specs.Search.{SearchMoment, Outcome, NextOfSearch, To, Out, MayCut, TakesFound, TakesPoint, MeetsPoint, ImprovesBest, GoesFromBest, IsPassed, IsHopeful, AreValuesAt, closed_by_leaf, too_wide}
 use Rattle.branch_bound.specs.declared.ended.Ended.{Ended}
 use Rattle.branch_bound.specs.declared.found.Found as Best
 use Rattle.branch_bound.specs.declared.level.Level.{Level}
@@ -47,21 +47,21 @@ module _ (P : Problem) (t : Terms) (C : Case) (rest : List Case) (m : SearchMome
     pub takes_wide : (o : Outcome) → (PointFits P (ratios xs) → ⊥) → o ≡ too_wide m Point → next ≡ Out o m.clock → TakesPoint P t C rest m x ms next
     takes_wide o f e is = (met, inl ((λ h. f (subst (PointFits P) (sym at) h)), is ∙ ap (λ (p : Outcome). Out p m.clock) e))
 
-    pub takes_by : (vs : List Ratio) → PointFits P (ratios xs) → AreValuesAt P (ratios xs) vs → (r : Option (List Ratio)) → C.ray ≡ r → Takes P t r rest m (record { point = ratios xs; values = vs }) ms next → TakesPoint P t C rest m x ms next
+    pub takes_by : (vs : List Ratio) → PointFits P (ratios xs) → AreValuesAt P (ratios xs) vs → (r : Option (List Ratio)) → C.ray ≡ r → TakesFound P t r rest m (record { point = ratios xs; values = vs }) ms next → TakesPoint P t C rest m x ms next
     takes_by vs fits values r is takes = (
       met,
       inr (
         vs,
         subst (PointFits P) at fits,
         subst (λ (y : List Ratio). AreValuesAt P y vs) at values,
-        subst (λ (q : Option (List Ratio)). Takes P t q rest m (record { point = x; values = vs }) ms next) (sym is)
-            (subst (λ (y : List Ratio). Takes P t r rest m (record { point = y; values = vs }) ms next) at takes),
+        subst (λ (q : Option (List Ratio)). TakesFound P t q rest m (record { point = x; values = vs }) ms next) (sym is)
+            (subst (λ (y : List Ratio). TakesFound P t r rest m (record { point = y; values = vs }) ms next) at takes),
       ),
     )
 
   module _ (before : Clock) (b : Ratio) where
     -- where no cut may be derived
-    pub improves_plain : (MayCut P t m → ⊥) → MeetsPoint P t C rest m x ms next → Improves P t C rest m before b x ms next
+    pub improves_plain : (MayCut P t m → ⊥) → MeetsPoint P t C rest m x ms next → ImprovesBest P t C rest m before b x ms next
     improves_plain never (inl branches) = inr (inl (never, branches))
     improves_plain never (inr takes) = inl takes
 
@@ -78,7 +78,7 @@ module _ (P : Problem) (t : Terms) (C : Case) (rest : List Case) (m : SearchMome
           by None e = inl (passed, is)
           by (Some q) e = let f : true ≡ false = e in absurd (cc)
 
-      pub best_hopeful : IsHopeful m.level m.best b → Improves P t C rest m before b x ms next → GoesFromBest P t (ray r) C rest m before b x ms next
+      pub best_hopeful : IsHopeful m.level m.best b → ImprovesBest P t C rest m before b x ms next → GoesFromBest P t (ray r) C rest m before b x ms next
       best_hopeful hopeful improves = by r none
         where
           by : (r : Option RayAt) → is_some r ≡ false → GoesFromBest P t (ray r) C rest m before b x ms next

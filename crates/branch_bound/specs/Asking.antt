@@ -12,7 +12,7 @@ use Rattle.certificate.specs.declared.causes.Step.TheVariants.{Values}
 use Rattle.certificate.specs.declared.causes.Cause.TheVariants.{Wide}
 use Rattle.simplex_rules.specs.Ends.{Terms, Clock}
 use Rattle.simplex_rules.specs.Runs.{looked_once}
-use Rattle.search_rules.specs.Search.{SearchMoment, NextOfSearch, Out, begun_at, early, StopsBefore, Begins}
+use Rattle.search_rules.specs.Search.{SearchMoment, NextOfSearch, Out, begun_at, early, StopsBefore, BeginsCase}
 use Rattle.branch_bound.specs.declared.level.Level.{Level}
 use Rattle.branch_bound.specs.declared.walk.Walk.{Walk}
 use Rattle.branch_bound.specs.declared.relaxation.Relaxation.{Relaxation}
@@ -26,7 +26,7 @@ turned_by s x = minimising_by (sense s) (ratio x)
 -- where the end of the next level's row doesn't fit: no node is begun, or that is told at its first one
 abbrev pub EndsWide : Problem → Terms → SearchMoment → NextOfSearch → Type 0
 EndsWide P t m next =
-    StopsBefore P t m next ⊎ (Begins P t m × (next ≡ Out (early m.best (Wide (record { node = 1; turn = m.clock.turns; step = Values }))) (looked_once m.clock)))
+    StopsBefore P t m next ⊎ (BeginsCase P t m × (next ≡ Out (early m.best (Wide (record { node = 1; turn = m.clock.turns; step = Values }))) (looked_once m.clock)))
 
 -- after level v, whose walk was w, the one of program K has begun, and shows what was shown and what showed level v
 pub record HasBegunLevel {M : _} {G : _} (p : Parts) (v : Level) (w : Walk) (K : Instance) (r : Relaxation M G) (u : Level) (x : Walk) : Type 0 where

@@ -15,7 +15,7 @@ use Rattle.simplex_rules.specs.Looks.{AgreesWith, looks_after}
 use Rattle.simplex.specs.Cuts.{Suits}
 use Rattle.simplex.specs.Memory.{width_in, height_in}
 use Rattle.search_rules.specs.Search as Rules
-use Rattle.search_rules.specs.Search.{Found, SearchMoment, Outcome, NextOfSearch, Optimal, Infeasible, TakesPoint, MeetsPoint, GoesFrom, Improves, ComesInSearch, IsSearchAnswer, early}
+use Rattle.search_rules.specs.Search.{Found, SearchMoment, Outcome, NextOfSearch, Optimal, Infeasible, TakesPoint, MeetsPoint, GoesFrom, ImprovesBest, ComesInSearch, IsSearchAnswer, early}
 use Rattle.branch_bound.specs.declared.found.Found as Best
 use Rattle.branch_bound.specs.declared.ended.Ended.{Ended}
 use Rattle.branch_bound.specs.declared.ended.Ended.TheVariants.{Unbounded, Early}
@@ -83,12 +83,12 @@ abbrev pub clock_at : {L : _} {G : _} → Relaxation L G → ℕ → Clock
 clock_at r looks = record { turns = r.turns.done; looks = looks }
 
 -- the search is given up for want of memory, with the walk's best point
-abbrev pub LacksMemory : Walk → Ended → Type 0
-LacksMemory w ended = (cs : List Certificate) → outcome_of cs ended ≡ early (best w.best) Memory
+abbrev pub EndsForMemory : Walk → Ended → Type 0
+EndsForMemory w ended = (cs : List Certificate) → outcome_of cs ended ≡ early (best w.best) Memory
 
 -- or else this holds
 abbrev pub OrMemory : Walk → Ended → Type 0 → Type 0
-OrMemory w ended P = LacksMemory w ended ⊎ P
+OrMemory w ended P = EndsForMemory w ended ⊎ P
 
 -- from this point of the case at hand on, where the level has program L and the cases come of D
 abbrev pub MeetsAt : Parts → Instance → Instance → Level → Walk → ℕ → Terms → Clock → List Ratio → List Multiplier → NextOfSearch → Type 0
@@ -100,7 +100,7 @@ TakesAt p L D v w d t c x ms next = TakesPoint (problem p) t (case D w d) (rest 
 
 -- the same where its bound is better than the best value, and one more cut may be derived
 abbrev pub ImprovesAt : Parts → Instance → Instance → Level → Walk → ℕ → Terms → Clock → Clock → Ratio → List Ratio → List Multiplier → NextOfSearch → Type 0
-ImprovesAt p L D v w d t before c b x ms next = Improves (problem p) t (case D w d) (rest D w d) (moment p L D v w c) before b x ms next
+ImprovesAt p L D v w d t before c b x ms next = ImprovesBest (problem p) t (case D w d) (rest D w d) (moment p L D v w c) before b x ms next
 
 -- from this end of its run on, which began with the clock before
 abbrev pub GoesAt : Parts → Instance → Instance → Level → Walk → ℕ → Terms → Clock → Clock → End → NextOfSearch → Type 0

@@ -11,7 +11,7 @@ ghost use Rattle.branch_bound.specs.declared.level.Level as levels;
 ghost use Rattle.branch_bound.specs.Claims.{ClaimTells, is_kill};
 ghost use Rattle.branch_bound.specs.Walks.{best as best_of, IsWalk, IsAt, IsClosedBy, IsDividedBy};
 ghost use Rattle.branch_bound.specs.Levels.{moment};
-ghost use Rattle.branch_bound.specs.Cases.{outcome_of, closed_by, was_killed, LacksMemory};
+ghost use Rattle.branch_bound.specs.Cases.{outcome_of, closed_by, was_killed, EndsForMemory};
 
 use crate::ended::Ended;
 use crate::found::Found;
@@ -107,7 +107,7 @@ pub fn leaf(walk: &mut Walk, depth: usize, node: Node) -> Result<(), Ended>
     ensures walk { IfOk result (λ _. IsWalk (length walk.old.cuts.items) walk.new) }
     ensures ok { IfOk result (λ _. IsClosedBy walk.old walk.new depth (Means.node node)) }
     ensures one { IfOk result (λ _. length walk.new.nodes ≡ length walk.old.nodes + 1) }
-    ensures err { IfErr result (LacksMemory walk.old) }
+    ensures err { IfErr result (EndsForMemory walk.old) }
     ensures went_on { IfErr result (λ ended. was_killed ended ≡ false) }
 {
     match close(walk, depth, node) {
@@ -124,7 +124,7 @@ pub fn branch(walk: &mut Walk, depth: usize, at: Open) -> Result<(), Ended>
     ensures walk { IfOk result (λ _. IsWalk (length walk.old.cuts.items) walk.new) }
     ensures ok { IfOk result (λ _. IsDividedBy walk.old walk.new depth at.by at.col) }
     ensures one { IfOk result (λ _. length walk.new.nodes ≡ length walk.old.nodes + 1) }
-    ensures err { IfErr result (LacksMemory walk.old) }
+    ensures err { IfErr result (EndsForMemory walk.old) }
     ensures went_on { IfErr result (λ ended. was_killed ended ≡ false) }
 {
     match divide(walk, depth, at.col, at.by) {

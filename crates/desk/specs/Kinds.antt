@@ -18,7 +18,7 @@ module _ (right : List ℕ → List ℕ → Bool → Option (List ℕ) → Type 
     pub puts : PutsIf keeps passes too_long broken faults (planned move old.0) old.1 None new.1
 
   -- the effect of a move that may be made wasn't stored, and the table stays
-  pub record IsRefused (old : Register × S) (move : TableMove) (reply : Reply) (new : Register × S) : Type 0 where
+  pub record IsMoveRefused (old : Register × S) (move : TableMove) (reply : Reply) (new : Register × S) : Type 0 where
     pub fault : NotStored
     pub says : reply ≡ replies.NotStored fault
     pub may : May right move
@@ -26,4 +26,4 @@ module _ (right : List ℕ → List ℕ → Bool → Option (List ℕ) → Type 
     pub puts : PutsIf keeps passes too_long broken faults (planned move old.0) old.1 (Some fault) new.1
 
   abbrev pub Moves : Register × S → TableMove → Reply → Register × S → Type 0
-  Moves old move reply new = IsMade old move reply new ⊎ IsRefused old move reply new
+  Moves old move reply new = IsMade old move reply new ⊎ IsMoveRefused old move reply new

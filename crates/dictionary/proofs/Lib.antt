@@ -20,12 +20,12 @@ pub mod SolvedRows
 pub mod PutRows
 pub mod Parts
 pub mod SpreadRows
-pub mod Found
+pub mod FoundValues
 pub mod RowValues
 pub mod Changes
 pub mod Quotients
 pub mod ChangedSums
-pub mod Filled
+pub mod FilledColumns
 pub mod DictColumns
 pub mod EqualRows
 pub mod FirstDictionary

@@ -14,7 +14,7 @@ use Rattle.bases.specs.Dictionary.{Entries}
 use Rattle.dictionary.specs.ProgramRows.{with_entries, RowBeginsAt}
 use Rattle.dictionary.specs.Steps.{nonzeros}
 use Rattle.dictionary.proofs.Nonzeros.{nonzeros_most}
-use Rattle.dictionary.proofs.Found.{past_none}
+use Rattle.dictionary.proofs.FoundValues.{past_none}
 use Rattle.dictionary.proofs.ProgramRows.{entries_past}
 
 -- numbers of the first n columns alone are at most as many

@@ -4,7 +4,7 @@ ghost use Rattle.rational.specs.Ratio.{IsSame};
 ghost use Rattle.rational.specs.Width.{most};
 ghost use Rattle.evidence.specs.Sums.{none};
 ghost use Rattle.marks.specs.Words.{IsFirst, HasNone};
-ghost use Rattle.marks.specs.Walks.{Keeps};
+ghost use Rattle.marks.specs.Walks.{KeepsWord};
 ghost use Rattle.marks.specs.Marks.{size_of};
 ghost use Rattle.common_rows.specs.Row.{over};
 ghost use Rattle.dictionary.specs.Lowest.{lowest};
@@ -79,9 +79,9 @@ fn only_adds(parts: Parts) -> bool
 #[inline(always)]
 fn next_changed(marks: &Marks, by: &Marks, adds: bool, walk: &mut Walk, from: u32) -> Option<u32>
     requires size { size_of by.now ≡ size_of marks.now }
-    requires kept { Keeps (changes marks.now by.now adds) from walk.old }
+    requires kept { KeepsWord (changes marks.now by.now adds) from walk.old }
     ensures first { MatchOption result (HasNone (changes marks.now by.now adds) from) (IsFirst (changes marks.now by.now adds) from) }
-    ensures kept { IfSome result (λ c. Keeps (changes marks.now by.now adds) (c + 1) walk.new) }
+    ensures kept { IfSome result (λ c. KeepsWord (changes marks.now by.now adds) (c + 1) walk.new) }
 {
     chosen(adds, by, marks).next_of_either(by, walk, from)
 }

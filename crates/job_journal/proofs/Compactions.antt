@@ -13,9 +13,9 @@ use Rattle.job_journal.specs.declared.scanning.OpenFault.TheVariants.{ReadFault,
 use Rattle.job_journal.specs.declared.faults.CompactFault.{CompactFault}
 use Rattle.job_journal.specs.declared.faults.CompactFault.TheVariants.{Old, NewFault, Taken, Long}
 use Rattle.job_journal.proofs.Crash.{stands_before}
-use Rattle.job_journal.proofs.Opens.{stand_same}
+use Rattle.job_journal.proofs.SoleMeanings.{stand_same}
 use Rattle.job_journal.proofs.SoundFiles.{same_ledger}
-use Rattle.job_journal.proofs.Shortened.{same_table, short_fit}
+use Rattle.job_journal.proofs.ShortTables.{same_table, short_fit}
 
 module _ {D : Type 0} (seen : D → List ℕ) (may_leave : D → List ℕ → Type 0) (disk : D) (place : ℕ) where
   pub rest_stand : (deeds : List Deed) → FileRests seen may_leave disk place deeds → FileStandsFor deeds (seen disk)

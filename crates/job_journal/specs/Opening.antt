@@ -107,10 +107,10 @@ module _ (accepted : List ℕ → List ℕ → Type 0) where
     pub rests : FileRests seen may_leave disk end deeds
 
 -- a failed read, write, cut or sync was counted where that is answered, and else the count stays
-abbrev pub CountsFault : {X : Type 0} → Result X OpenFault → ℕ → ℕ → Type 0
-CountsFault (Err ReadFault) before after = HasRisen before after
-CountsFault (Err WriteFault) before after = HasRisen before after
-CountsFault _ before after = after ≡ before
+abbrev pub CountsOpening : {X : Type 0} → Result X OpenFault → ℕ → ℕ → Type 0
+CountsOpening (Err ReadFault) before after = HasRisen before after
+CountsOpening (Err WriteFault) before after = HasRisen before after
+CountsOpening _ before after = after ≡ before
 
 -- the same, of a journal, or of a disk that is given back
 abbrev pub CountsBack : {J D : Type 0} → (J → ℕ) → (D → ℕ) → Result J (OpenFault × D) → ℕ → Type 0

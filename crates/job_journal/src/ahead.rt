@@ -1,7 +1,7 @@
 //! A file that is read from its front on.
 
 ghost use Rattle.std.specs.Prelude.{◌≡◌, ◌<◌, ◌≤◌, ◌+◌, ◌-◌, true, false, nat_le, length, drop, vec_len, IfOk, IfErr, OnOk};
-ghost use Rattle.job_journal.specs.Opening.{Calm, CountsFault, IsReadingFault};
+ghost use Rattle.job_journal.specs.Opening.{Calm, CountsOpening, IsReadingFault};
 ghost use Rattle.job_journal.specs.Ahead.{StandsAhead, StandsReadOn, held_of, unread};
 
 use crate::contents::{length_of, piece_at};
@@ -23,7 +23,7 @@ impl Ahead {
         ensures front { IfOk result (λ ahead. D.told disk.old ≡ true → StandsAhead (D.seen disk.old) ahead) }
         ensures place { IfOk result (λ ahead. ahead.place ≡ 0) }
         ensures calm { Calm D.told D.seen D.may_leave D.moment D.left_since disk.old disk.new }
-        ensures cause { CountsFault result (D.faults disk.old) (D.faults disk.new) }
+        ensures cause { CountsOpening result (D.faults disk.old) (D.faults disk.new) }
         ensures err { IfErr result IsReadingFault }
     {
         let len = match length_of(disk) {
@@ -105,7 +105,7 @@ impl Ahead {
         ensures from { self.new.from ≡ self.old.from }
         ensures no_longer { self.new.len ≤ self.old.len }
         ensures calm { Calm D.told D.seen D.may_leave D.moment D.left_since disk.old disk.new }
-        ensures cause { CountsFault result (D.faults disk.old) (D.faults disk.new) }
+        ensures cause { CountsOpening result (D.faults disk.old) (D.faults disk.new) }
         ensures err { IfErr result IsReadingFault }
     {
         let end = self.end();
@@ -139,7 +139,7 @@ impl Ahead {
         ensures place { self.new.place ≡ self.old.place }
         ensures no_longer { self.new.len ≤ self.old.len }
         ensures calm { Calm D.told D.seen D.may_leave D.moment D.left_since disk.old disk.new }
-        ensures cause { CountsFault result (D.faults disk.old) (D.faults disk.new) }
+        ensures cause { CountsOpening result (D.faults disk.old) (D.faults disk.new) }
         ensures err { IfErr result IsReadingFault }
     {
         if self.to - self.from >= RECORD {

@@ -6,7 +6,7 @@ ghost use Rattle.effects.specs.Records.{Deed, AllFit};
 ghost use Rattle.effects.specs.Fold.{Ledger, nothing};
 ghost use Rattle.job_journal.specs.Journal.{FileStandsFor, FileRests};
 ghost use Rattle.job_journal.specs.Ahead.{StandsAhead};
-ghost use Rattle.job_journal.specs.Opening.{Calm, CountsFault, CountsBack, FoldsTo, LeavesFile, WasMade, IsUnfound, IsOpened, DamagedIn, IsDamaged};
+ghost use Rattle.job_journal.specs.Opening.{Calm, CountsOpening, CountsBack, FoldsTo, LeavesFile, WasMade, IsUnfound, IsOpened, DamagedIn, IsDamaged};
 
 use crate::contents::settle;
 use crate::journal::{Journal, ROOM};
@@ -23,7 +23,7 @@ fn approach<D: Disk>(alloc: Global, disk: &mut D) -> Result<Ahead, OpenFault>
     ensures durable { OnOk result (D.told disk.old ≡ true → Only (D.seen disk.old) (D.may_leave disk.new)) }
     ensures calm { Calm D.told D.seen D.may_leave D.moment D.left_since disk.old disk.new }
     ensures err { IfErr result IsUnfound }
-    ensures cause { CountsFault result (D.faults disk.old) (D.faults disk.new) }
+    ensures cause { CountsOpening result (D.faults disk.old) (D.faults disk.new) }
 {
     match settle(disk) {
         Ok(()) => Ahead::at_front(alloc, disk),
@@ -47,7 +47,7 @@ fn prepare<D: Disk, R: Replay, S: Sieve>(
     ensures any_moment { (deeds : List Deed) → D.told disk.old ≡ true → AllFit deeds → FileStandsFor deeds (D.seen disk.old)
         → LeavesOnly D.moment D.left_since disk.old disk.new (λ c. D.may_leave disk.old c ⊎ FileStandsFor deeds c) }
     ensures told { D.told disk.new ≡ D.told disk.old }
-    ensures cause { CountsFault result (D.faults disk.old) (D.faults disk.new) }
+    ensures cause { CountsOpening result (D.faults disk.old) (D.faults disk.new) }
 {
     match approach(alloc, disk) {
         Ok(mut ahead) => {

@@ -4,7 +4,7 @@ ghost use Rattle.std.specs.Prelude.{◌≡◌, ◌↔◌, ◌<◌, ◌≤◌, �
 ghost use Rattle.effects.specs.Records.{deed_of};
 ghost use Rattle.effects.specs.Fold.{nothing};
 ghost use Rattle.job_journal.specs.Ahead.{StandsAhead};
-ghost use Rattle.job_journal.specs.Opening.{Calm, CountsFault, DamagedIn, IsAdmitted, ReadsRecords, StepsTo, StopsAt, TakesOn, TakesRecord, WasMade};
+ghost use Rattle.job_journal.specs.Opening.{Calm, CountsOpening, DamagedIn, IsAdmitted, ReadsRecords, StepsTo, StopsAt, TakesOn, TakesRecord, WasMade};
 ghost use Rattle.std.specs.Option.{option_copied};
 
 use crate::pieces::Ahead;
@@ -131,7 +131,7 @@ fn pass_record<D: Disk, R: Replay, S: Sieve>(
     ensures stays { IfOk result (λ passed. passed ≡ false → ahead.new.place ≡ ahead.old.place) }
     ensures no_longer { ahead.new.len ≤ ahead.old.len }
     ensures calm { Calm D.told D.seen D.may_leave D.moment D.left_since disk.old disk.new }
-    ensures cause { CountsFault result (D.faults disk.old) (D.faults disk.new) }
+    ensures cause { CountsOpening result (D.faults disk.old) (D.faults disk.new) }
 {
     match ahead.read_on(disk) {
         Ok(()) => {}
@@ -165,7 +165,7 @@ pub(crate) fn scan<D: Disk, R: Replay, S: Sieve>(
     ensures small { IfOk result (λ place. place < 2 ^ 64 - 1) }
     ensures err { IfErr result (λ fault. D.told disk.old ≡ true → DamagedIn S.accepted (D.seen disk.old) fault) }
     ensures calm { Calm D.told D.seen D.may_leave D.moment D.left_since disk.old disk.new }
-    ensures cause { CountsFault result (D.faults disk.old) (D.faults disk.new) }
+    ensures cause { CountsOpening result (D.faults disk.old) (D.faults disk.new) }
 {
     loop {
         match pass_record(disk, ahead, table, sieve) {

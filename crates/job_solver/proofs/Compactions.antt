@@ -13,7 +13,7 @@ use Rattle.job_journal.specs.declared.faults.CompactFault.{CompactFault}
 use Rattle.job_journal.specs.Journal.{FileRests, FileStandsFor}
 use Rattle.job_journal.specs.Opening.{StepsTo, FoldsTo}
 use Rattle.job_journal.specs.Compacting.{IsShortOf}
-use Rattle.job_journal.proofs.Opens.{stand_same, weaker}
+use Rattle.job_journal.proofs.SoleMeanings.{stand_same, weaker}
 use Rattle.job_journal.proofs.SoundFiles.{undamaged}
 use Rattle.job_solver.specs.Sieves.{Sifts}
 use Rattle.job_solver.specs.Openings.{OpensAs}

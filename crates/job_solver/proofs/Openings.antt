@@ -12,12 +12,12 @@ use Rattle.job_journal.specs.declared.scanning.OpenFault.TheVariants.{ReadFault,
 use Rattle.disks.specs.Disks.{LeavesOnly}
 use Rattle.disks.proofs.Moments.{started}
 use Rattle.job_journal.specs.Journal.{FileRests, FileStandsFor, IsBeforeOrAfter}
-use Rattle.job_journal.specs.Opening.{FoldsTo, WasMade, IsOpened, LeavesFile, DamagedIn, CountsFault, CountsBack}
+use Rattle.job_journal.specs.Opening.{FoldsTo, WasMade, IsOpened, LeavesFile, DamagedIn, CountsOpening, CountsBack}
 use Rattle.job_journal.proofs.Calms.{runs_on}
-use Rattle.job_journal.proofs.Opens.{weaker}
+use Rattle.job_journal.proofs.SoleMeanings.{weaker}
 use Rattle.job_journal.proofs.Scans.{folds_push}
 use Rattle.job_solver.specs.Sieves.{Sifts}
-use Rattle.job_solver.specs.Openings.{BeginsWith, BegunWith, GoesOn, IsOfFile, IsOfNumber, IsTableOf}
+use Rattle.job_solver.specs.Openings.{NumbersBeginWith, BegunWith, TableGoesOn, IsOfFile, IsOfNumber, IsTableOf}
 use Rattle.job_solver.proofs.StoredDocuments.{going_on}
 
 pub some_same : (l m : Ledger) → Some l ≡ Some m → l ≡ m
@@ -32,7 +32,7 @@ begins_so n l none some within =
     λ i. if new i && least i && most i then Some (record l { first = n }) else None
 
 -- and so they do once that was made
-pub begins_then : (n end : ℕ) (l l' : Ledger) (made : Bool) → begins n l ≡ (if made then Some l' else None) → nat_lt 0 l.issued ≡ false → 1 ≤ n → n ≤ most_first → BeginsWith n end l'.first l'.issued
+pub begins_then : (n end : ℕ) (l l' : Ledger) (made : Bool) → begins n l ≡ (if made then Some l' else None) → nat_lt 0 l.issued ≡ false → 1 ≤ n → n ≤ most_first → NumbersBeginWith n end l'.first l'.issued
 begins_then n end l l' true is none some within =
     let same : record l { first = n } ≡ l' = some_same (record l { first = n }) l' (sym (begins_so n l none some within) ∙ is) in inr (inl (ap (λ (m : Ledger). m.first) (sym same)))
 begins_then n end l l' false is none some within = let wrong : Some (record l { first = n }) ≡ None = sym (begins_so n l none some within) ∙ is in cc
@@ -56,7 +56,7 @@ module _ {D : Type 0} (seen : D → List ℕ) (may_leave : D → List ℕ → Ty
   still_folds deeds l l' still folds = subst (λ (m : Ledger). FoldsTo Sifts nothing deeds m) (sym still) folds
 
   -- the table goes on from effects
-  pub made_on : (disk disk' : D) (end end' : ℕ) (l l' : Ledger) (table : Register) → WasMade Sifts l → Begun disk end l disk' end' l' → table ≡ table_of l' → (deeds : List Deed) × GoesOn deeds table
+  pub made_on : (disk disk' : D) (end end' : ℕ) (l l' : Ledger) (table : Register) → WasMade Sifts l → Begun disk end l disk' end' l' → table ≡ table_of l' → (deeds : List Deed) × TableGoesOn deeds table
   made_on disk disk' end end' l l' table (deeds, folds) (inl (same, there, still)) is = (deeds, going_on deeds l' table (still_folds deeds l l' still folds) is)
   made_on disk disk' end end' l l' table (deeds, folds) (inr (leads, rests)) is =
       (deeds ++ Begin first ∷ [], going_on (deeds ++ Begin first ∷ []) l' table (folds_push Sifts nothing deeds l (Begin first) l' folds (tt, leads)) is)
@@ -109,7 +109,7 @@ leaves_file Memory of_file = tt
 
 -- whatever is counted of a journal
 pub counted_back : {D : Type 0} (faults : D → ℕ) (fault : OpenFault) (disk left : D) (before mid : ℕ) → mid ≡ before → left ≡ disk
-    → CountsFault {X = Unit {0}} (Err fault) mid (faults disk) → CountsBack {J = ℕ} (λ n. n) faults (Err (fault, left)) before
+    → CountsOpening {X = Unit {0}} (Err fault) mid (faults disk) → CountsBack {J = ℕ} (λ n. n) faults (Err (fault, left)) before
 counted_back faults ReadFault disk left before mid same is counts = subst (λ (z : ℕ × ℕ). HasRisen z.0 z.1) (λ i. (same i, ap faults (sym is) i)) counts
 counted_back faults WriteFault disk left before mid same is counts = subst (λ (z : ℕ × ℕ). HasRisen z.0 z.1) (λ i. (same i, ap faults (sym is) i)) counts
 counted_back faults (Damaged place) disk left before mid same is counts = ap faults is ∙ counts ∙ same

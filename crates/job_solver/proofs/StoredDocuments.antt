@@ -12,7 +12,7 @@ use Rattle.job_table.proofs.JobLists.{same_number}
 use Rattle.job_journal.specs.Opening.{IsAcceptedFor, StepsTo, FoldsTo}
 use Rattle.job_journal.proofs.Scans.{folds_push}
 use Rattle.job_solver.specs.Sieves.{Sifts}
-use Rattle.job_solver.specs.Openings.{IsBrought, GoesOn}
+use Rattle.job_solver.specs.Openings.{IsBrought, TableGoesOn}
 
 abbrev Held : Type 0
 Held = ℕ × Stage
@@ -168,7 +168,7 @@ document_in deeds (e ∷ es) n document all is = by (document_in deeds es n docu
     by later false same here = later here
 
 -- the table that goes on
-pub going_on : (deeds : List Deed) (l : Ledger) (table : Register) → FoldsTo Sifts nothing deeds l → table ≡ table_of l → GoesOn deeds table
+pub going_on : (deeds : List Deed) (l : Ledger) (table : Register) → FoldsTo Sifts nothing deeds l → table ≡ table_of l → TableGoesOn deeds table
 going_on deeds l table folds is = record {
   ledger = l;
   folds = folds;

@@ -13,14 +13,14 @@ use Rattle.job_table.specs.Jobs.{Register, Rises, phase_of}
 use Rattle.job_table.specs.Steps.{MoveOutcome, row_of_move, May, Step}
 use Rattle.job_table.specs.Plans.{stage, ledger_of, has_room, takes_texts, ended, finished_of, killed_of, planned, Effected, PlansSo}
 use Rattle.job_table.specs.History.{MoveEntry, entry_of_move, LeadsStepwise}
-use Rattle.job_table.proofs.Planning.{stage_is}
+use Rattle.job_table.proofs.MoveEffects.{stage_is}
 use Rattle.job_table.proofs.Histories.{rises_on}
 use Rattle.job_journal.specs.Opening.{IsAcceptedFor, IsAdmitted, FoldsTo}
 use Rattle.job_journal.proofs.Scans.{all_fit_push, folds_push}
 use Rattle.solve_run.specs.JobAnswers.{Right}
 use Rattle.job_solver.specs.Sieves.{Sifts}
-use Rattle.job_solver.specs.Openings.{GoesOn}
-use Rattle.job_solver.specs.StoredEffects.{with_effect, effects_of, BringsShort, AllBringShort, AreSound, StaySound}
+use Rattle.job_solver.specs.Openings.{TableGoesOn}
+use Rattle.job_solver.specs.StoredEffects.{with_effect, effects_of, BringsShort, AllBringShort, AreSoundDeeds, StaySound}
 use Rattle.job_solver.proofs.AlikeLedgers.{IsLikeIn, GoesAlike, follows, stage_alike, goes_alike}
 use Rattle.job_solver.proofs.HeldNumbers.{AreNumbered, HasShortTexts, fits_so, numbered_after}
 
@@ -145,16 +145,16 @@ module _ (accepted : (osil osol : List ℕ) (asked : Bool) (document : List ℕ)
       ∙ ap (λ (ds : List Deed). deeds ++ ds) (effect_first one (effects_of next es) ∙ ap (λ (s : Register). with_effect one (effects_of s es)) (sym (row_after r next e step))))
       (all_hold (deeds ++ with_effect one []) next now es (holds_on deeds r next e h step texts.0) rest texts.1)
 
-  sound_of : (deeds : List Deed) (r : Register) → Holds deeds r → AreSound deeds
+  sound_of : (deeds : List Deed) (r : Register) → Holds deeds r → AreSoundDeeds deeds
   sound_of deeds r h = record { fit = h.fit; ledger = h.ledger; folds = h.folds }
 
   stay_sound : (deeds : List Deed) (r : Register) → Holds deeds r → StaySound deeds r
   stay_sound deeds r h = record { sound = sound_of deeds r h; next = next }
     where
-      next : (move : TableMove) (d : Deed) → May Right move → BringsShort move → planned move r ≡ Some d → AreSound (deeds ++ d ∷ [])
+      next : (move : TableMove) (d : Deed) → May Right move → BringsShort move → planned move r ≡ Some d → AreSoundDeeds (deeds ++ d ∷ [])
       next move d may texts is =
           let row = row_of_move move r in
-          subst (λ (o : Option Deed). AreSound (deeds ++ with_effect o [])) is
+          subst (λ (o : Option Deed). AreSoundDeeds (deeds ++ with_effect o [])) is
           (sound_of (deeds ++ with_effect (planned move r) []) row.after (holds_on deeds r row.after (entry_of_move move row.reply) h (record { may = may; is = refl }) texts))
 
   -- ---- from an opening on
@@ -163,7 +163,7 @@ module _ (accepted : (osil osol : List ℕ) (asked : Bool) (document : List ℕ)
   numbered_on old new [] all same = subst (λ (l : Ledger). AreNumbered l.jobs) (sym same) all
   numbered_on old new (d ∷ deeds) all (mid, step, rest) = numbered_on mid new deeds (numbered_after old mid all d step.1).1 rest
 
-  pub puts_sound : (deeds : List Deed) (start : Register) (entries : List MoveEntry) (now : Register) → AllFit deeds → GoesOn deeds start → Rises start → LeadsStepwise Right start entries now → AllBringShort entries
+  pub puts_sound : (deeds : List Deed) (start : Register) (entries : List MoveEntry) (now : Register) → AllFit deeds → TableGoesOn deeds start → Rises start → LeadsStepwise Right start entries now → AllBringShort entries
       → StaySound (deeds ++ effects_of start entries) now
   puts_sound deeds start entries now fit on rises leads texts =
       stay_sound (deeds ++ effects_of start entries) now (all_hold deeds start now entries

@@ -24,7 +24,7 @@ pub record IsBrought (n : ℕ) (document : List ℕ) (deeds : List Deed) : Type 
 
 -- the table is the one that goes on from what these effects leave, each possible and accepted after those before: a job that ran waits again, and each document
 -- of a job was brought so
-pub record GoesOn (deeds : List Deed) (table : Register) : Type 0 where
+pub record TableGoesOn (deeds : List Deed) (table : Register) : Type 0 where
   pub ledger : Ledger
   pub folds : FoldsTo Sifts nothing deeds ledger
   pub table_is : table ≡ table_of ledger
@@ -38,11 +38,11 @@ pub record OpensAs (file : List ℕ) (first : ℕ) (table : Register) : Type 0 w
   pub stands : FileStandsFor deeds file
   pub kept : List Deed
   pub kept_is : (kept ≡ deeds) ⊎ (kept ≡ deeds ++ Begin first ∷ [])
-  pub goes_on : GoesOn kept table
+  pub goes_on : TableGoesOn kept table
 
 -- so many numbers were given, the first of which is that; where none was, it is the one that was asked for, unless the file, which ends there, has no room to say so
-abbrev pub BeginsWith : (asked end first issued : ℕ) → Type 0
-BeginsWith asked end first issued = (1 ≤ issued) ⊎ (first ≡ asked) ⊎ (is_too_long end (length (body (Begin asked))) ≡ true)
+abbrev pub NumbersBeginWith : (asked end first issued : ℕ) → Type 0
+NumbersBeginWith asked end first issued = (1 ≤ issued) ⊎ (first ≡ asked) ⊎ (is_too_long end (length (body (Begin asked))) ≡ true)
 
 -- the fault is said of the file, which wasn't read or is damaged
 abbrev pub IsOfFile : OpenFault → Type 0

@@ -5,8 +5,8 @@ use Rattle.solve_run.specs.Runs.{AreSearchLooks, TellsText}
 
 -- the looks are those of the search of the instance, of which the last may have stopped it, and the document tells what that
 -- search found; for want of memory there may be none
-abbrev pub Makes : (osil osol : List ℕ) → List Bool → Option (List ℕ) → Type 0
-Makes osil osol looks document =
+abbrev pub MakesDocument : (osil osol : List ℕ) → List Bool → Option (List ℕ) → Type 0
+MakesDocument osil osol looks document =
     (n : ℕ) × (killed : Bool) × (looks ≡ answers n killed) × AreSearchLooks osil osol n killed × IfSome document (TellsText osil osol n killed)
 
 -- nobody is ever woken: whoever serves is alone

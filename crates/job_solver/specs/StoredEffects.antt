@@ -11,7 +11,7 @@ use Rattle.job_table.specs.History.{MoveEntry, LeadsStepwise}
 use Rattle.job_journal.specs.Opening.{FoldsTo}
 use Rattle.solve_run.specs.JobAnswers.{Right}
 use Rattle.job_solver.specs.Sieves.{Sifts}
-use Rattle.job_solver.specs.Openings.{GoesOn}
+use Rattle.job_solver.specs.Openings.{TableGoesOn}
 
 -- an effect, where there is one, before others
 abbrev pub with_effect : Option Deed → List Deed → List Deed
@@ -34,18 +34,18 @@ AllBringShort [] = Unit {0}
 AllBringShort (e ∷ es) = BringsShort e.table_move × AllBringShort es
 
 -- each is possible and accepted after those before, and no text is too long: a file that stands for these isn't damaged
-pub record AreSound (deeds : List Deed) : Type 0 where
+pub record AreSoundDeeds (deeds : List Deed) : Type 0 where
   pub fit : AllFit deeds
   pub ledger : Ledger
   pub folds : FoldsTo Sifts nothing deeds ledger
 
 -- they are, and stay so with the effect of a move that may be made next
 pub record StaySound (deeds : List Deed) (now : Register) : Type 0 where
-  pub sound : AreSound deeds
-  pub next : (move : TableMove) (d : Deed) → May Right move → BringsShort move → planned move now ≡ Some d → AreSound (deeds ++ d ∷ [])
+  pub sound : AreSoundDeeds deeds
+  pub next : (move : TableMove) (d : Deed) → May Right move → BringsShort move → planned move now ≡ Some d → AreSoundDeeds (deeds ++ d ∷ [])
 
 -- where a table of solved jobs goes on from effects of which none has too long a text, moves that bring no such text put effects behind them that are as sound
 abbrev pub PutsStaySound : Type 0
 PutsStaySound =
-    (deeds : List Deed) (start : Register) (entries : List MoveEntry) (now : Register) → AllFit deeds → GoesOn deeds start → Rises start
+    (deeds : List Deed) (start : Register) (entries : List MoveEntry) (now : Register) → AllFit deeds → TableGoesOn deeds start → Rises start
     → LeadsStepwise Right start entries now → AllBringShort entries → StaySound (deeds ++ effects_of start entries) now

@@ -7,11 +7,11 @@ ghost use Rattle.solve_run.specs.JobAnswers.{Right};
 ghost use Rattle.job_solver.specs.ProvedDocuments.{ShownAreProved};
 ghost use Rattle.job_solver.specs.Sieves.{Sifts};
 ghost use Rattle.job_solver.specs.StoredDocuments.{ShownAreProvedFrom};
-ghost use Rattle.job_solver.specs.StoredEffects.{AreSound, PutsStaySound};
+ghost use Rattle.job_solver.specs.StoredEffects.{AreSoundDeeds, PutsStaySound};
 
 use crate::solver::SolvedJobs;
 use job_table::{documents_are_right, plans_are_so};
-use solve_run::{answers_are_read_back, claims_are_accepted};
+use solve_run::{result_documents_are_read_back, claims_are_accepted};
 
 /// Law: each document that is shown in a history of solved jobs, from an empty table on, is proved by what stands before it: a finish
 /// that was kept brought it, and before that finish stand the send or the enter that brought its texts, and, where it says that the
@@ -38,7 +38,7 @@ pub fn right_documents_are_accepted()
     ensures accepted { (osil osol : List ℕ) (asked : Bool) (document : List ℕ) → Right osil osol asked (Some document) → Sifts osil document }
     ensures short { (osil osol : List ℕ) (asked : Bool) (document : List ℕ) → Right osil osol asked (Some document) → length document ≤ most_text }
 {
-    answers_are_read_back();
+    result_documents_are_read_back();
     claims_are_accepted();
 }
 
@@ -47,7 +47,7 @@ pub fn right_documents_are_accepted()
 /// damaged: the service opens again what it wrote.
 pub fn puts_stay_sound()
     ensures sound { PutsStaySound }
-    ensures undamaged { (deeds : List Deed) (file : List ℕ) (place : ℕ) → AreSound deeds → FileStandsFor deeds file → IsDamaged Sifts file place → ⊥ }
+    ensures undamaged { (deeds : List Deed) (file : List ℕ) (place : ℕ) → AreSoundDeeds deeds → FileStandsFor deeds file → IsDamaged Sifts file place → ⊥ }
 {
     right_documents_are_accepted();
     plans_are_so();

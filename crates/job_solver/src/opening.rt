@@ -6,8 +6,8 @@ ghost use Rattle.effects.specs.Records.{AllFit, Deed};
 ghost use Rattle.job_table.specs.Steps.{most_first};
 ghost use Rattle.job_table.specs.Jobs.{Rises, NobodyRuns};
 ghost use Rattle.job_journal.specs.Journal.{FileRests, FileStandsFor, IsBeforeOrAfter};
-ghost use Rattle.job_journal.specs.Opening.{Calm, CountsBack, CountsFault, DamagedIn};
-ghost use Rattle.job_solver.specs.Openings.{BeginsWith, BegunWith, GoesOn, IsOfFile, IsOfNumber, IsTableOf};
+ghost use Rattle.job_journal.specs.Opening.{Calm, CountsBack, CountsOpening, DamagedIn};
+ghost use Rattle.job_solver.specs.Openings.{NumbersBeginWith, BegunWith, TableGoesOn, IsOfFile, IsOfNumber, IsTableOf};
 ghost use Rattle.job_solver.specs.Sieves.{Sifts};
 
 use crate::sieve::DocumentSieve;
@@ -29,12 +29,12 @@ fn begin_with<D: Disk>(
     requires within { first ≤ most_first }
     requires sound { journal.old.broken ≡ false }
     ensures begun { IfOk result (λ _. BegunWith D.seen D.may_leave D.told first journal.old.disk journal.old.end table.old journal.new.disk journal.new.end table.new) }
-    ensures begins { IfOk result (λ _. BeginsWith first journal.new.end table.new.first table.new.issued) }
+    ensures begins { IfOk result (λ _. NumbersBeginWith first journal.new.end table.new.first table.new.issued) }
     ensures sound { IfOk result (λ _. journal.new.broken ≡ false) }
     ensures any_moment { (deeds : List Deed) → D.told journal.old.disk ≡ true → FileRests D.seen D.may_leave journal.old.disk journal.old.end deeds
         → LeavesOnly D.moment D.left_since journal.old.disk journal.new.disk (IsBeforeOrAfter deeds (records.Begin first)) }
     ensures err { IfErr result IsOfNumber }
-    ensures cause { CountsFault result (D.faults journal.old.disk) (D.faults journal.new.disk) }
+    ensures cause { CountsOpening result (D.faults journal.old.disk) (D.faults journal.new.disk) }
 {
     if table.has_given() || table.first() == first {
         return Ok(());
@@ -63,10 +63,10 @@ pub fn open_jobs<D: Disk>(
     ensures sound { IfOk result (λ r. (r.1.broken ≡ false) × Rises r.0 × NobodyRuns r.0) }
 
     // Numbers begin with this one where none was given yet, unless the journal has no room to say so.
-    ensures begins { IfOk result (λ r. BeginsWith first r.1.end r.0.first r.0.issued) }
+    ensures begins { IfOk result (λ r. NumbersBeginWith first r.1.end r.0.first r.0.issued) }
 
     // The table goes on from effects, and each of its documents is accepted, also where the disk doesn't tell what it holds.
-    ensures goes_on { IfOk result (λ r. (deeds : List Deed) × GoesOn deeds r.0) }
+    ensures goes_on { IfOk result (λ r. (deeds : List Deed) × TableGoesOn deeds r.0) }
 
     // These are the effects that the file stood for.
     ensures opened { IfOk result (λ r. D.told disk ≡ true → IsTableOf D.seen D.may_leave (D.seen disk) first r.0 r.1.disk r.1.end) }

@@ -21,9 +21,9 @@ impl Verdicts for SolvedJobs {
 pub struct Solver;
 
 impl Runner<SolvedJobs> for Solver {
-    ghost use Rattle.job_solver.specs.Runs.{Makes};
+    ghost use Rattle.job_solver.specs.Runs.{MakesDocument};
 
-    ghost ran = { Makes };
+    ghost ran = { MakesDocument };
 
     fn run<W: Watch>(
         &self,

@@ -2,6 +2,6 @@ pub mod JobLists
 pub mod WaitingJobs
 pub mod Changes
 pub mod Histories
-pub mod Planning
-pub mod Remaking
-pub mod Settling
+pub mod MoveEffects
+pub mod RemadeEffects
+pub mod SettledTables

@@ -5,14 +5,14 @@ use Rattle.std.proofs.lemmas.Bool.{cases_lt, cases_eq}
 use Rattle.std.proofs.lemmas.Bool.Decides.{nat_tests}
 use Rattle.std.proofs.lemmas.Nat.Bits.{bit_at-zero, bit_at-trailing_zeros, bit_at-lt, bit_at_clear_same, bit_at_clear_other}
 use Rattle.marks.specs.Words.{has_bit, IsFirst, HasNoneBelow, HasNone}
-use Rattle.marks.specs.Walks.{IsKept}
+use Rattle.marks.specs.Walks.{IsWordKept}
 
 -- a word without one bit
 abbrev pub without : ℕ → ℕ → ℕ
 without word i = bit_and word (bit_not w64 (1 * 2 ^ i % 2 ^ 64))
 
 -- at a beginning nothing is kept, and nothing was passed
-pub kept_none : (test : ℕ → Bool) → IsKept test 0 0 0
+pub kept_none : (test : ℕ → Bool) → IsWordKept test 0 0 0
 kept_none test = record {
   near = omega arith;
   last = omega arith;
@@ -21,7 +21,7 @@ kept_none test = record {
 }
 
 -- what is kept by one test is by another that says the same
-pub kept_by : (f g : ℕ → Bool) (from word stop : ℕ) → ((k : ℕ) → from ≤ k → f k ≡ g k) → IsKept f from word stop → IsKept g from word stop
+pub kept_by : (f g : ℕ → Bool) (from word stop : ℕ) → ((k : ℕ) → from ≤ k → f k ≡ g k) → IsWordKept f from word stop → IsWordKept g from word stop
 kept_by f g from word stop alike kept = record {
   near = kept.near;
   last = kept.last;
@@ -29,16 +29,16 @@ kept_by f g from word stop alike kept = record {
   passed = kept.passed;
 }
 
-pub kept_answer : (o : Option ℕ) (f g : ℕ → Bool) (word stop : ℕ) → ((k : ℕ) → f k ≡ g k) → IfSome o (λ c. IsKept f (c + 1) word stop) → IfSome o (λ c. IsKept g (c + 1) word stop)
+pub kept_answer : (o : Option ℕ) (f g : ℕ → Bool) (word stop : ℕ) → ((k : ℕ) → f k ≡ g k) → IfSome o (λ c. IsWordKept f (c + 1) word stop) → IfSome o (λ c. IsWordKept g (c + 1) word stop)
 kept_answer None f g word stop alike kept = tt
 kept_answer (Some c) f g word stop alike kept = kept_by f g (c + 1) word stop (λ k a. alike k) kept
 
 -- nothing is left where the word is 0
-pub kept_empty : (test : ℕ → Bool) (from word stop : ℕ) → word ≡ 0 → IsKept test from word stop → HasNoneBelow stop test from
+pub kept_empty : (test : ℕ → Bool) (from word stop : ℕ) → word ≡ 0 → IsWordKept test from word stop → HasNoneBelow stop test from
 kept_empty test from word stop e kept k a b = sym (kept.own k a b) ∙ ap (λ n. nat_eq (bit_at n (k % 64)) 1) e ∙ ap (λ n. nat_eq n 1) (bit_at-zero (k % 64))
 
 -- else its first bit is the next number
-module _ (test : ℕ → Bool) (from word stop : ℕ) (small : word < 2 ^ 64) (some : word ≡ 0 → ⊥) (whole : stop % 64 ≡ 0) (begun : 64 ≤ stop) (kept : IsKept test from word stop) where
+module _ (test : ℕ → Bool) (from word stop : ℕ) (small : word < 2 ^ 64) (some : word ≡ 0 → ⊥) (whole : stop % 64 ≡ 0) (begun : 64 ≤ stop) (kept : IsWordKept test from word stop) where
   abbrev bit : ℕ
   bit = trailing_zeros w64 word
 
@@ -73,7 +73,7 @@ module _ (test : ℕ → Bool) (from word stop : ℕ) (small : word < 2 ^ 64) (s
         sym (kept.own k a (omega arith)) ∙ ap (λ n. nat_eq n 1) (found.2 (k % 64) (omega arith));
   }
 
-  pub passed_rest : IsKept test (col + 1) (without word bit) stop
+  pub passed_rest : IsWordKept test (col + 1) (without word bit) stop
   passed_rest =
       let l = found.0 in
       let n = kept.last in
@@ -91,7 +91,7 @@ zero_bit : (n : ℕ) → n < 2 → nat_eq n 1 ≡ false → n ≡ 0
 zero_bit n l e = grind (arith, nat_tests)
 
 -- a word whose first numbers aren't set is kept without the first that is
-pub kept_word : (words : ℕ → ℕ) (low c : ℕ) → low % 64 ≡ 0 → IsFirst (has_bit words) low c → IsKept (has_bit words) (c + 1) (without (words (c / 64)) (c % 64)) (64 * (c / 64 + 1))
+pub kept_word : (words : ℕ → ℕ) (low c : ℕ) → low % 64 ≡ 0 → IsFirst (has_bit words) low c → IsWordKept (has_bit words) (c + 1) (without (words (c / 64)) (c % 64)) (64 * (c / 64 + 1))
 kept_word words low c whole is =
     let word : ℕ = words (c / 64) in
     let within : c % 64 < 64 = omega arith in

@@ -16,7 +16,7 @@ pub struct Marks {
 impl Marks {
     ghost use Rattle.std.specs.Prelude.{◌≡◌, ◌≢◌, ℕ, ◌+◌, ◌/◌, ◌<◌, ◌||◌, ◌&&◌, true, false, IfOk, IfSome, MatchOption};
     ghost use Rattle.marks.specs.Words.{IsFirst, HasNone};
-    ghost use Rattle.marks.specs.Walks.{Keeps};
+    ghost use Rattle.marks.specs.Walks.{KeepsWord};
     ghost use Rattle.marks.specs.Marks.{is_marked, size_of};
 
     /// A set for numbers below `count`, which has none. More than there are numbers of 32 bits find no room.
@@ -98,9 +98,9 @@ impl Marks {
     /// The first number from this one on that it has, by a walk that passed those before.
     #[inline(always)]
     pub fn next_by(&self, walk: &mut Walk, from: u32) -> Option<u32>
-        requires { Keeps (is_marked self.now) from walk.old }
+        requires { KeepsWord (is_marked self.now) from walk.old }
         ensures first { MatchOption result (HasNone (is_marked self.now) from) (IsFirst (is_marked self.now) from) }
-        ensures kept { IfSome result (λ c. Keeps (is_marked self.now) (c + 1) walk.new) }
+        ensures kept { IfSome result (λ c. KeepsWord (is_marked self.now) (c + 1) walk.new) }
     {
         let words = self.words.as_slice();
         walk.next(&One { words }, from)
@@ -110,9 +110,9 @@ impl Marks {
     #[inline(always)]
     pub fn next_of_either(&self, other: &Marks, walk: &mut Walk, from: u32) -> Option<u32>
         requires size { size_of other.now ≡ size_of self.now }
-        requires kept { Keeps (λ k. is_marked self.now k || is_marked other.now k) from walk.old }
+        requires kept { KeepsWord (λ k. is_marked self.now k || is_marked other.now k) from walk.old }
         ensures first { MatchOption result (HasNone (λ k. is_marked self.now k || is_marked other.now k) from) (IsFirst (λ k. is_marked self.now k || is_marked other.now k) from) }
-        ensures kept { IfSome result (λ c. Keeps (λ k. is_marked self.now k || is_marked other.now k) (c + 1) walk.new) }
+        ensures kept { IfSome result (λ c. KeepsWord (λ k. is_marked self.now k || is_marked other.now k) (c + 1) walk.new) }
     {
         let left = self.words.as_slice();
         let right = other.words.as_slice();
@@ -122,9 +122,9 @@ impl Marks {
     /// The first number from this one on that two sets have, by a walk that passed those before.
     #[inline(always)]
     pub fn next_of_both(&self, other: &Marks, walk: &mut Walk, from: u32) -> Option<u32>
-        requires { Keeps (λ k. is_marked self.now k && is_marked other.now k) from walk.old }
+        requires { KeepsWord (λ k. is_marked self.now k && is_marked other.now k) from walk.old }
         ensures first { MatchOption result (HasNone (λ k. is_marked self.now k && is_marked other.now k) from) (IsFirst (λ k. is_marked self.now k && is_marked other.now k) from) }
-        ensures kept { IfSome result (λ c. Keeps (λ k. is_marked self.now k && is_marked other.now k) (c + 1) walk.new) }
+        ensures kept { IfSome result (λ c. KeepsWord (λ k. is_marked self.now k && is_marked other.now k) (c + 1) walk.new) }
     {
         let left = self.words.as_slice();
         let right = other.words.as_slice();

@@ -17,11 +17,11 @@ pub struct Walk {
 impl Walk {
     ghost use Rattle.std.specs.Prelude.{ℕ, ◌+◌, ◌*◌, Bool, IfSome, MatchOption};
     ghost use Rattle.marks.specs.Words.{has_bit, IsFirst, HasNoneBelow};
-    ghost use Rattle.marks.specs.Walks.{Keeps};
+    ghost use Rattle.marks.specs.Walks.{KeepsWord};
 
     /// A walk that has passed no number yet.
     pub fn new() -> Walk
-        ensures { (test : ℕ → Bool) → Keeps test 0 result }
+        ensures { (test : ℕ → Bool) → KeepsWord test 0 result }
     {
         Walk { word: 0, stop: 0 }
     }
@@ -30,8 +30,8 @@ impl Walk {
     #[inline(always)]
     fn pass(&mut self) -> u32
         requires { self.old.word ≢ 0 }
-        ensures first { (test : ℕ → Bool) (from : ℕ) → Keeps test from self.old → IsFirst test from result }
-        ensures kept { (test : ℕ → Bool) (from : ℕ) → Keeps test from self.old → Keeps test (result + 1) self.new }
+        ensures first { (test : ℕ → Bool) (from : ℕ) → KeepsWord test from self.old → IsFirst test from result }
+        ensures kept { (test : ℕ → Bool) (from : ℕ) → KeepsWord test from self.old → KeepsWord test (result + 1) self.new }
     {
         let bit = self.word.trailing_zeros();
         self.word &= !(1 << bit);
@@ -43,8 +43,8 @@ impl Walk {
     fn read<W: Words>(&mut self, words: &W) -> Option<u32>
         requires few { 64 * W.words words.now ≤ 2 ^ 32 }
         requires none { self.old.word ≡ 0 }
-        ensures first { (from : ℕ) → Keeps (has_bit (W.word_at words.now)) from self.old → MatchOption result (HasNoneBelow (64 * W.words words.now) (has_bit (W.word_at words.now)) from) (IsFirst (has_bit (W.word_at words.now)) from) }
-        ensures kept { (from : ℕ) → Keeps (has_bit (W.word_at words.now)) from self.old → IfSome result (λ c. Keeps (has_bit (W.word_at words.now)) (c + 1) self.new) }
+        ensures first { (from : ℕ) → KeepsWord (has_bit (W.word_at words.now)) from self.old → MatchOption result (HasNoneBelow (64 * W.words words.now) (has_bit (W.word_at words.now)) from) (IsFirst (has_bit (W.word_at words.now)) from) }
+        ensures kept { (from : ℕ) → KeepsWord (has_bit (W.word_at words.now)) from self.old → IfSome result (λ c. KeepsWord (has_bit (W.word_at words.now)) (c + 1) self.new) }
     {
         match first_from(words, self.stop / 64) {
             None => None,
@@ -64,9 +64,9 @@ impl Walk {
     #[inline(always)]
     pub fn next<W: Words>(&mut self, words: &W, from: u32) -> Option<u32>
         requires few { 64 * W.words words.now ≤ 2 ^ 32 }
-        requires kept { Keeps (has_bit (W.word_at words.now)) from self.old }
+        requires kept { KeepsWord (has_bit (W.word_at words.now)) from self.old }
         ensures first { MatchOption result (HasNoneBelow (64 * W.words words.now) (has_bit (W.word_at words.now)) from) (IsFirst (has_bit (W.word_at words.now)) from) }
-        ensures kept { IfSome result (λ c. Keeps (has_bit (W.word_at words.now)) (c + 1) self.new) }
+        ensures kept { IfSome result (λ c. KeepsWord (has_bit (W.word_at words.now)) (c + 1) self.new) }
     {
         let _from = from;
         if self.word == 0 {

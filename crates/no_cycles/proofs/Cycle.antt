@@ -14,7 +14,7 @@ use Rattle.bases.specs.Program.{goal_column, columns}
 use Rattle.simplex_rules.specs.declared.columns.Status.{Status}
 use Rattle.simplex_rules.specs.declared.columns.Way.{Way}
 use Rattle.simplex_rules.specs.declared.columns.Way.TheVariants.{Rise, Fall}
-use Rattle.simplex_rules.specs.Statuses.{is_basic, basic_in, resting, has_room, HasDictionary, HasValues}
+use Rattle.simplex_rules.specs.Statuses.{is_basic, basic_in, resting, has_width, HasDictionary, HasValues}
 use Rattle.simplex_rules.specs.Turns.{rate, NoneOut, IsFirstHelp, IsFirstLimit, reached_status, left_status, flipped, pivoted}
 use Rattle.simplex_rules.specs.Runs.{HasNoClash}
 use Rattle.simplex_rules.proofs.Core.{rate-number}
@@ -85,7 +85,7 @@ pub record Outcome (I : Instance) (ss : List Status) (x : Taken) (ts : List Stat
   pub still : q.num ≡ pos 0 → IsStill I ss x ts
 
 left_nonbasic : (w : Way) (r : Range) → is_basic (reached_status w r) ≡ false
-left_nonbasic Rise r = by_bool (has_room r) (λ b. rw b refl) (λ b. rw b refl)
+left_nonbasic Rise r = by_bool (has_width r) (λ b. rw b refl) (λ b. rw b refl)
 left_nonbasic Fall r = refl
 
 module _ (I : Instance) (good : IsInstance I) (zeroed : Bool) (room : HasNoClash I) where

@@ -13,7 +13,7 @@ use Rattle.simplex_rules.specs.declared.columns.Status.{Status}
 use Rattle.simplex_rules.specs.declared.columns.Status.TheVariants.{Basic, Lower, Upper, Zero}
 use Rattle.simplex_rules.specs.declared.columns.Way.{Way}
 use Rattle.simplex_rules.specs.declared.columns.Way.TheVariants.{Rise, Fall}
-use Rattle.simplex_rules.specs.Statuses.{rest_at, has_room, upper_status}
+use Rattle.simplex_rules.specs.Statuses.{rest_at, has_width, upper_status}
 use Rattle.simplex_rules.specs.Turns.{Can, until_by, across, reached_status, way_of}
 use Rattle.simplex_rules.specs.Reports.{step_of}
 use Rattle.simplex_rules.proofs.Facts.{HasPlace, or_is}
@@ -27,12 +27,12 @@ if_is (Some x) P e p h = subst P (let z : x ≡ e = cc in z) p
 -- at the upper end, whether it has room or not
 pub upper_rest : (r : Range) (e : Ratio) → HasNumbers r → (IsEmpty r → ⊥) → r.ub ≡ Some e → IsNumber e → e ≈ rest_at r (upper_status r)
 upper_rest r e hn room f p =
-    by_bool (has_room r)
+    by_bool (has_width r)
     (λ b. rw b (≈-sym (≈-from (subst IsNumber (sym (or_is r.ub e f)) p) (or_is r.ub e f))))
     (λ b. rw b (lower r.lb refl b))
   where
-    lower : (lo : Option Ratio) → r.lb ≡ lo → has_room r ≡ false → e ≈ or_none r.lb
-    lower None g b = let z : has_room r ≡ true = rw g refl in absurd (cc)
+    lower : (lo : Option Ratio) → r.lb ≡ lo → has_width r ≡ false → e ≈ or_none r.lb
+    lower None g b = let z : has_width r ≡ true = rw g refl in absurd (cc)
     lower (Some l) g b =
         let k = no_room r.lb r.ub hn.0 hn.1 (λ a c x y z. room (a, c, x, y, z)) l g b in
         let same : e ≡ k.0 = let z = k.1 in cc in
@@ -85,7 +85,7 @@ across_is (Some l) (Some h) q a b e = (l, h, refl, refl, a, b, (let z : sum h (n
 apart_gap : (l h : Ratio) → IsBelow l h → pos 0 <ℤ (sum h (negative l)).num
 apart_gap l h b = let f = neg-times l.num (pos h.den) in omega (arith, ints)
 
-room_gap : (lo hi : Option Ratio) (l h : Ratio) → has_room (record { lb = lo; ub = hi }) ≡ true → lo ≡ Some l → hi ≡ Some h → IsBelow l h
+room_gap : (lo hi : Option Ratio) (l h : Ratio) → has_width (record { lb = lo; ub = hi }) ≡ true → lo ≡ Some l → hi ≡ Some h → IsBelow l h
 room_gap None hi l h e p q = absurd (cc)
 room_gap (Some k) None l h e p q = absurd (cc)
 room_gap (Some k) (Some g) l h e p q =
@@ -128,7 +128,7 @@ own_limit w r s q hn place can e = by w s place can (across_is r.lb r.ub q hn.0 
           limit = record {
             number = gap l h pl ph k;
             not_below = omega (arith, ints);
-            ends = let b : has_room r ≡ true = can in rw (b, or_is r.lb l f, or_is r.ub h g) (subst (λ z. sum l (product z (whole (pos 1))) ≈ h) k (gap_up l h pl ph));
+            ends = let b : has_width r ≡ true = can in rw (b, or_is r.lb l f, or_is r.ub h g) (subst (λ z. sum l (product z (whole (pos 1))) ≈ h) k (gap_up l h pl ph));
           };
           above = up;
         }

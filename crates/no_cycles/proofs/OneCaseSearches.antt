@@ -9,7 +9,7 @@ use Rattle.simplex_rules.specs.Ends.{Terms, Clock, End, Clash, Empty, Best, Endl
 use Rattle.simplex_rules.specs.Runs.{Run, looked_once}
 use Rattle.search_rules.specs.Branching.{Case}
 use Rattle.search_rules.specs.Cuts.{Trial, NoCut, WideCut, Cut}
-use Rattle.search_rules.specs.Search.{Found, SearchMoment, Outcome, To, Out, StopsBefore, Branches, Takes, TakesPoint, MeetsPoint, GoesFromTrial, GoesFromBest, GoesFrom, Closes, IsNextInSearch, IsVisit, ComesInSearch, begins, goes_on, IsSearchAnswer, searched, given_up, given_up_after, first, early, undivided}
+use Rattle.search_rules.specs.Search.{Found, SearchMoment, Outcome, To, Out, StopsBefore, Branches, TakesFound, TakesPoint, MeetsPoint, GoesFromTrial, GoesFromBest, GoesFrom, ClosesLevel, IsNextInSearch, IsVisit, ComesInSearch, begins, goes_on, IsSearchAnswer, searched, given_up, given_up_after, first, early, undivided}
 use Rattle.search_rules.specs.Outcomes.{HaveOneRange, IsPlain}
 use Rattle.search_rules.proofs.PlainSearches.{comes_plain, visit_closed}
 use Rattle.no_cycles.specs.Beginning.{BeginsFeasible}
@@ -30,7 +30,7 @@ module _ (P : Problem) (t : Terms) (m : SearchMoment) (o : Outcome) (c : Clock) 
   stops_within (inl (limit, e)) = told e (early_is is_turn_limit m.best _)
   stops_within (inr (under, stop, e)) = told e (early_is is_turn_limit m.best _)
 
-  closes_within : (best : Option Found) (gs : List Goal) → Closes P t m best gs (Out o c) → is_out_of_turns o ≡ false
+  closes_within : (best : Option Found) (gs : List Goal) → ClosesLevel P t m best gs (Out o c) → is_out_of_turns o ≡ false
   closes_within None gs e = told e refl
   closes_within (Some f) [] e = told e refl
   closes_within (Some f) (g ∷ gs) (inl (e, end, q)) = absurd (cc)
@@ -42,7 +42,7 @@ module _ (P : Problem) (t : Terms) (m : SearchMoment) (o : Outcome) (c : Clock) 
     branches_on x (inl (j, k, s, e)) = absurd (cc)
     branches_on x (inr (j, s, e)) = absurd (cc)
 
-    taken_within : (ray : Option (List Ratio)) (f : Found) (ms : List Multiplier) → Takes P t ray rest m f ms (Out o c) → is_out_of_turns o ≡ false
+    taken_within : (ray : Option (List Ratio)) (f : Found) (ms : List Multiplier) → TakesFound P t ray rest m f ms (Out o c) → is_out_of_turns o ≡ false
     taken_within None f ms e = absurd (cc)
     taken_within (Some r) f ms e = told e refl
 
@@ -86,7 +86,7 @@ module _ (I : Instance) (t : Terms) (plain : IsPlain I) (ranges : HaveOneRange I
   abbrev IsWholeOrClosed : SearchMoment → Type 0
   IsWholeOrClosed m = (m ≡ first P) ⊎ ((m.waiting ≡ []) × (m.level.later ≡ []))
 
-  closed_ends : (m n : SearchMoment) (best : Option Found) (gs : List Goal) → gs ≡ [] → Closes P t m best gs (To n) → ⊥
+  closed_ends : (m n : SearchMoment) (best : Option Found) (gs : List Goal) → gs ≡ [] → ClosesLevel P t m best gs (To n) → ⊥
   closed_ends m n None gs e f = cc
   closed_ends m n (Some f) [] e q = cc
   closed_ends m n (Some f) (g ∷ gs) e q = cc

@@ -11,7 +11,7 @@ use Rattle.simplex_rules.specs.declared.columns.Way.TheVariants.{Rise, Fall}
 use Rattle.simplex_rules.specs.Statuses.{HasDictionary}
 use Rattle.simplex_rules.specs.Turns.{IsFirstHelp}
 use Rattle.simplex_rules.specs.Ends.{Terms, Clock}
-use Rattle.simplex_rules.specs.Runs.{Moment, To, PassesTurn, BeginsTurn, MovesOn, Improves, IsNext, ComesInRun, goes_on, HasNoClash}
+use Rattle.simplex_rules.specs.Runs.{Moment, To, PassesTurn, BeginsTurn, MovesColumn, Improves, IsNext, ComesInRun, goes_on, HasNoClash}
 use Rattle.simplex_rules.proofs.Soundness.{IsPlaced}
 use Rattle.simplex_rules.proofs.Moments.{comes_placed}
 use Rattle.no_cycles.specs.Phase.{IsImprovingTurn, AreTurns, HaveSamePlaces}
@@ -37,7 +37,7 @@ IsTakenAt I zeroed ss x ts = HasDictionary I zeroed ss x.u × IsTaken I ss x ts
 pub taken : (I : Instance) (zeroed : Bool) (t : Terms) (m n : Moment) → IsImprovingTurn I zeroed t m n → (x : Taken) × IsTakenAt I zeroed m.statuses x n.statuses
 taken I zeroed t m n x = by x.improves
   where
-    moves : (e : ℕ) (way : Way) → IsFirstHelp I m.statuses x.entries x.columns (goal_column I) Fall e way → MovesOn I zeroed t m x.entries x.columns e way (To n) → (y : Taken) × IsTakenAt I zeroed m.statuses y n.statuses
+    moves : (e : ℕ) (way : Way) → IsFirstHelp I m.statuses x.entries x.columns (goal_column I) Fall e way → MovesColumn I zeroed t m x.entries x.columns e way (To n) → (y : Taken) × IsTakenAt I zeroed m.statuses y n.statuses
     moves e way help (inl (a, f)) = absurd (cc)
     moves e way help (inr (inl (v, d, f, g, p, q, h))) = absurd (cc)
     moves e way help (inr (inr (inl (f, l, g)))) = (

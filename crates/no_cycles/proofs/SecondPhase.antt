@@ -10,7 +10,7 @@ use Rattle.simplex_rules.specs.declared.columns.Status.{Status}
 use Rattle.simplex_rules.specs.declared.columns.Way.{Way}
 use Rattle.simplex_rules.specs.Statuses.{status_at, IsFirstBasis}
 use Rattle.simplex_rules.specs.Ends.{Terms, Clock, TurnsOut}
-use Rattle.simplex_rules.specs.Runs.{Moment, To, Out, PassesTurn, BeginsTurn, MovesOn, IsNext, ComesInRun, begins, goes_on, HasNoClash, Run}
+use Rattle.simplex_rules.specs.Runs.{Moment, To, Out, PassesTurn, BeginsTurn, MovesColumn, IsNext, ComesInRun, begins, goes_on, HasNoClash, Run}
 use Rattle.simplex_rules.proofs.Moments.{comes_placed}
 use Rattle.no_cycles.specs.Phase.{IsImprovingTurn, AreTurns, IsSettled, BeginsSettled, HasNoneTwice, came_through}
 use Rattle.no_cycles.proofs.Repeats.{is_next, taken, once}
@@ -52,7 +52,7 @@ begins_clock t c F ss n (inl (a, e)) = absurd (cc)
 begins_clock t c F ss n (inr (inl (a, b, e))) = absurd (cc)
 begins_clock t c F ss n (inr (inr (a, b, e))) = passes_clock t _ ss n e
 
-moves_clock : (I : Instance) (zeroed : Bool) (t : Terms) (m n : Moment) (u : Entries) (w : Values) (e : ℕ) (way : Way) → MovesOn I zeroed t m u w e way (To n) → n.clock.turns ≡ m.clock.turns + 1
+moves_clock : (I : Instance) (zeroed : Bool) (t : Terms) (m n : Moment) (u : Entries) (w : Values) (e : ℕ) (way : Way) → MovesColumn I zeroed t m u w e way (To n) → n.clock.turns ≡ m.clock.turns + 1
 moves_clock I zeroed t m n u w e way (inl (a, f)) = absurd (cc)
 moves_clock I zeroed t m n u w e way (inr (inl (v, d, f, g, p, q, h))) = absurd (cc)
 moves_clock I zeroed t m n u w e way (inr (inr (inl (f, l, g)))) = begins_clock t m.clock _ _ n g
@@ -177,7 +177,7 @@ begins_out t c F ss d (inr (inr (a, b, inl (f, e)))) = absurd (cc)
 begins_out t c F ss d (inr (inr (a, b, inr (inl (f, g, e))))) = absurd (cc)
 begins_out t c F ss d (inr (inr (a, b, inr (inr (f, g, e))))) = absurd (cc)
 
-moves_out : (I : Instance) (zeroed : Bool) (t : Terms) (m : Moment) (d : Clock) (u : Entries) (w : Values) (e : ℕ) (way : Way) → MovesOn I zeroed t m u w e way (Out TurnsOut d) → t.turns ≤ m.clock.turns
+moves_out : (I : Instance) (zeroed : Bool) (t : Terms) (m : Moment) (d : Clock) (u : Entries) (w : Values) (e : ℕ) (way : Way) → MovesColumn I zeroed t m u w e way (Out TurnsOut d) → t.turns ≤ m.clock.turns
 moves_out I zeroed t m d u w e way (inl (a, f)) = absurd (cc)
 moves_out I zeroed t m d u w e way (inr (inl (v, x, f, g, p, q, h))) = absurd (cc)
 moves_out I zeroed t m d u w e way (inr (inr (inl (f, l, g)))) = begins_out t m.clock _ _ d g

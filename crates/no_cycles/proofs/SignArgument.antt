@@ -19,7 +19,7 @@ use Rattle.simplex_rules.specs.declared.columns.Status.TheVariants.{Basic}
 use Rattle.simplex_rules.specs.declared.columns.Way.{Way}
 use Rattle.simplex_rules.specs.declared.columns.Way.TheVariants.{Fall}
 use Rattle.simplex_rules.specs.Statuses.{status_at, is_basic, basic_in, resting, HasDictionary, HasValues}
-use Rattle.simplex_rules.specs.Turns.{rate, Moves, Can, IsFirstHelp, IsFirstLimit, limit_at, until_by}
+use Rattle.simplex_rules.specs.Turns.{rate, MovesIn, Can, IsFirstHelp, IsFirstLimit, limit_at, until_by}
 use Rattle.simplex_rules.specs.Reports.{movement, step_of}
 use Rattle.simplex_rules.specs.Runs.{HasNoClash}
 use Rattle.simplex_rules.proofs.Core.{value_≈, unit_step, unit_step-number, unit_value, rate-number}
@@ -136,7 +136,7 @@ module _ (I : Instance) (good : IsInstance I) (zeroed : Bool) (room : HasNoClash
     at_t : (c : ℕ) → c < goal → c ≡ t → basic_in ssp c ≡ false → basic_in ssq c ≡ true → IsUp c (rate sq (uq c e))
     at_t c h f b i =
         let can = subst (λ k. Can sp (column_at I k) (status_at ssp k)) (sym f) helpp.helps.can in
-        let moves = subst (λ k. Moves Fall (rate sp (up goal k))) (sym f) helpp.helps.moves in
+        let moves = subst (λ k. MovesIn Fall (rate sp (up goal k))) (sym f) helpp.helps.moves in
         let lim = subst (λ k. limit_at I ssq uq wq e sq k ≡ Some limited.limit) (sym f) limited.is in
         let r = valuesq.reduced c in
         enters_and_leaves sp (column_at I c) (wq c) (up goal c) (rate sq (uq c e)) moves

@@ -11,8 +11,8 @@ use Rattle.simplex_rules.specs.declared.columns.Status.{Status}
 use Rattle.simplex_rules.specs.declared.columns.Status.TheVariants.{Basic, Lower, Upper, Zero}
 use Rattle.simplex_rules.specs.declared.columns.Way.{Way}
 use Rattle.simplex_rules.specs.declared.columns.Way.TheVariants.{Rise, Fall}
-use Rattle.simplex_rules.specs.Statuses.{is_basic, rest_at, has_room}
-use Rattle.simplex_rules.specs.Turns.{rate, Moves, Can, until_by, until_end}
+use Rattle.simplex_rules.specs.Statuses.{is_basic, rest_at, has_width}
+use Rattle.simplex_rules.specs.Turns.{rate, MovesIn, Can, until_by, until_end}
 use Rattle.simplex_rules.specs.Reports.{step_of}
 use Rattle.simplex_rules.proofs.Facts.{HasPlace, or_is}
 use Rattle.no_cycles.proofs.Signs.{both_up, both_down, difference_zero, zero_difference, quotient_zero, zero_quotient, at_end, room_apart, no_room}
@@ -58,12 +58,12 @@ pub zero_right : (a b : ℤ) → b ≡ pos 0 → pos 0 ≤ℤ (a *ℤ b)
 zero_right a b h = let e : a *ℤ b ≡ pos 0 = ap (λ z. a *ℤ z) h ∙ *ℤ_comm a (pos 0) ∙ zero-*ℤ a in omega (arith, ints)
 
 -- a column that doesn't help and goes on doesn't let the goal fall
-pub no_help : (r : Range) (s : Status) (x cost by : Ratio) → HasNumbers r → (IsEmpty r → ⊥) → HasPlace r s → is_basic s ≡ false → x ≈ rest_at r s → ((v : Way) → Can v r s → Moves Fall (rate v cost) → ⊥) → GoesOn r x by → pos 0 ≤ℤ (cost.num *ℤ by.num)
+pub no_help : (r : Range) (s : Status) (x cost by : Ratio) → HasNumbers r → (IsEmpty r → ⊥) → HasPlace r s → is_basic s ≡ false → x ≈ rest_at r s → ((v : Way) → Can v r s → MovesIn Fall (rate v cost) → ⊥) → GoesOn r x by → pos 0 ≤ℤ (cost.num *ℤ by.num)
 no_help r Basic x cost by hn room place nb h off on = absurd (cc)
 no_help r Lower x cost by hn room place nb h off on =
     let l = at_end r.lb place in
     let up : pos 0 ≤ℤ by.num = by_lt_z by.num (pos 0) (λ g. absurd (on.down g l.0 l.1 (≈-sym (rest_lower r l.0 x l.1 h)))) (λ g. g) in
-    by_bool (has_room r)
+    by_bool (has_width r)
     (λ e. both_up cost.num by.num (by_lt_z cost.num (pos 0) (λ g. absurd (off Rise e g)) (λ g. g)) up)
     (λ e.
     let k = no_room r.lb r.ub hn.0 hn.1 (λ a b p q z. room (a, b, p, q, z)) l.0 l.1 e in
@@ -115,7 +115,7 @@ limit_down r x by e up f s = (quotient (sum e (negative x)) by, by_sign by.num u
     by_sign (negsuc k) g = rw f refl
 
 -- the column that enters, at the end to which it goes as it leaves: the goal would rise with it
-pub enters_and_leaves : (v : Way) (r : Range) (x cost by : Ratio) → Moves Fall (rate v cost) → GoesOn r x (step_of v) → IsAtEnd r x by → pos 0 ≤ℤ (cost.num *ℤ by.num)
+pub enters_and_leaves : (v : Way) (r : Range) (x cost by : Ratio) → MovesIn Fall (rate v cost) → GoesOn r x (step_of v) → IsAtEnd r x by → pos 0 ≤ℤ (cost.num *ℤ by.num)
 enters_and_leaves Rise r x cost by m on (above e g f s) = absurd (on.up (let z : pos 0 <ℤ pos 1 = omega (arith, ints) in z) e f s)
 enters_and_leaves Rise r x cost by m on (below e g f s) = both_down cost.num by.num (let z : cost.num <ℤ pos 0 = m in omega (arith, ints)) (omega (arith, ints))
 enters_and_leaves Fall r x cost by m on (above e g f s) = both_up cost.num by.num (let z : neg_ℤ cost.num <ℤ pos 0 = m in omega (arith, ints)) (omega (arith, ints))

@@ -11,7 +11,7 @@ use Rattle.job_table.specs.Jobs.{Register}
 use Rattle.job_journal.specs.declared.journal.Journal.{Journal}
 use Rattle.job_journal.specs.declared.scanning.OpenFault.{OpenFault}
 use Rattle.job_journal.specs.declared.scanning.OpenFault.TheVariants.{ReadFault, WriteFault, Damaged, Memory}
-use Rattle.job_journal.specs.Opening.{CountsBack, CountsFault}
+use Rattle.job_journal.specs.Opening.{CountsBack, CountsOpening}
 use Rattle.serving.specs.declared.setup.Setup.{Setup}
 use Rattle.command_line.specs.Words.{Command, Session, asks, meant}
 use Rattle.command_line.specs.declared.words.Asked.TheVariants.{Serve}
@@ -20,7 +20,7 @@ use Rattle.command_answers.specs.Outputs.{IsTold}
 use Rattle.os_app.specs.ProgramRuns.{ProgramRun, StoresRun, LeavesInput, NamesNoJournal, asks_to_serve, journal_of, setup_of, stores_run}
 use Rattle.os_app.specs.Runs.{AllFilesRead, Runs}
 use Rattle.os_app.specs.JournalFaults.{damaged_line, IsSaidOf}
-use Rattle.os_app.specs.StoredRuns.{IsOpen, GivesBack, IsOver, EndsOver, KeepsSession, KeepsServer, done, unopened, kept, hosted}
+use Rattle.os_app.specs.StoredRuns.{IsOpen, GivesBack, IsOverJournal, EndsOver, KeepsSession, KeepsServer, done, unopened, kept, hosted}
 use Rattle.os_app.specs.Statuses.{session_status, serve_status}
 use Rattle.os_app.proofs.Words.{command_runs, no_check, serve_never, session_never}
 
@@ -42,7 +42,7 @@ pub journal_none : (words : List (List ℕ)) (it : Command) (name : List ℕ) �
 journal_none words it name asked named none = let e = none it asked in absurd (cc)
 
 -- a disk that is given back was counted, whatever its journal would have been
-pub counts_left : {D : Type 0} (faults : D → ℕ) (fault : OpenFault) (left : D) (n : ℕ) → CountsBack {J = ℕ} (λ k. k) faults (Err (fault, left)) n → CountsFault {X = Unit {0}} (Err fault) n (faults left)
+pub counts_left : {D : Type 0} (faults : D → ℕ) (fault : OpenFault) (left : D) (n : ℕ) → CountsBack {J = ℕ} (λ k. k) faults (Err (fault, left)) n → CountsOpening {X = Unit {0}} (Err fault) n (faults left)
 counts_left faults ReadFault left n h = h
 counts_left faults WriteFault left n h = h
 counts_left faults (Damaged place) left n h = h
@@ -79,7 +79,7 @@ module _ {D : Type 0} (g : Ghosts D) where
 
     -- what was done over a journal that was open, and whose disk is given back
     pub over_of : (name : List ℕ) (first : ℕ) (table : Register) (journal : Journal D g) (Does : Register → Journal D g → D → Type 0) → IsOpen g name first table journal (stores_run held back failed a b)
-        → Does table journal left → IsOver g Does name first (stores_run held back failed a c)
+        → Does table journal left → IsOverJournal g Does name first (stores_run held back failed a c)
     over_of name first table journal Does opened does = record {
       disk = opened.disk;
       table = table;

@@ -8,12 +8,12 @@ use Rattle.job_journal.specs.declared.journal.Journal.{Journal}
 use Rattle.job_journal.specs.declared.scanning.OpenFault.{OpenFault}
 use Rattle.job_journal.specs.declared.scanning.OpenFault.TheVariants.{ReadFault, Memory}
 use Rattle.job_journal.specs.Journal.{FileStandsFor, IsBeforeOrAfter}
-use Rattle.job_journal.specs.Opening.{Calm, CountsFault, DamagedIn}
+use Rattle.job_journal.specs.Opening.{Calm, CountsOpening, DamagedIn}
 use Rattle.disks.specs.declared.disk.Disk.{Ghosts}
 use Rattle.disks.specs.Disks.{LeavesOnly}
 use Rattle.disks.specs.Stores.{IsBack, IsHeld}
 use Rattle.job_solver.specs.Sieves.{Sifts}
-use Rattle.job_solver.specs.Openings.{BeginsWith, GoesOn, IsOfFile, IsTableOf}
+use Rattle.job_solver.specs.Openings.{NumbersBeginWith, TableGoesOn, IsOfFile, IsTableOf}
 use Rattle.os_server.specs.Talk.{both_ends}
 use Rattle.sessions.specs.StoredSessions.{IsStoredSession}
 use Rattle.serving.specs.declared.setup.Setup.{Setup}
@@ -38,8 +38,8 @@ module _ {D : Type 0} (g : Ghosts D) where
     pub unbroken : journal.broken ≡ false
     pub rises : Rises table
     pub nobody : NobodyRuns table
-    pub begins : BeginsWith first journal.end table.first table.issued
-    pub goes_on : (deeds : List Deed) × GoesOn deeds table
+    pub begins : NumbersBeginWith first journal.end table.first table.issued
+    pub goes_on : (deeds : List Deed) × TableGoesOn deeds table
     pub opened : g.told disk ≡ true → IsTableOf g.seen g.may_leave (g.seen disk) first table journal.disk journal.end
     pub still : g.faults journal.disk ≡ g.faults disk
     pub any_moment : LeavesEffects first disk journal.disk
@@ -57,7 +57,7 @@ module _ {D : Type 0} (g : Ghosts D) where
     pub all_opened : stores.faults_after ≡ stores.faults
 
   -- the journal of this name was opened, this was done over the table and the journal, and the disk that was left was given back
-  pub record IsOver (Does : Register → Journal D g → D → Type 0) (name : List ℕ) (first : ℕ) (stores : StoresRun) : Type 0 where
+  pub record IsOverJournal (Does : Register → Journal D g → D → Type 0) (name : List ℕ) (first : ℕ) (stores : StoresRun) : Type 0 where
     pub disk : D
     pub table : Register
     pub journal : Journal D g
@@ -76,13 +76,13 @@ module _ {D : Type 0} (g : Ghosts D) where
   pub data Unopened (name : List ℕ) (first : ℕ) (stores : StoresRun) (fault : OpenFault) : Type 0 where
     no_disk : fault ≡ ReadFault → HasRisen stores.faults stores.faults_after → stores.back_after ≡ stores.back → Unopened name first stores fault
     no_memory : fault ≡ Memory → stores.faults_after ≡ stores.faults → stores.back_after ≡ stores.back → Unopened name first stores fault
-    no_journal : (disk left : D) → IsHeld (stores.held name) (g.told disk) (g.seen disk) → (g.told disk ≡ true → DamagedIn Sifts (g.seen disk) fault) → CountsFault {X = Unit {0}} (Err fault) (g.faults disk) (g.faults left)
+    no_journal : (disk left : D) → IsHeld (stores.held name) (g.told disk) (g.seen disk) → (g.told disk ≡ true → DamagedIn Sifts (g.seen disk) fault) → CountsOpening {X = Unit {0}} (Err fault) (g.faults disk) (g.faults left)
         → KeepsFile first fault disk left → GivesBack stores left → Unopened name first stores fault
 
   -- how a command over the journal of this name ends: it did what it does, which ended so, with that status; or the journal wasn't opened, which is said, and
   -- nothing else was touched
   pub data EndsOver {How : Type 0} (status_of : How → ℕ) (Does : How → Register → Journal D g → D → Type 0) (Untouched : Type 0) (name : List ℕ) (first status : ℕ) (stores : StoresRun) (output output_after : Tells) : Type 0 where
-    done : (how : How) → status ≡ status_of how → IsOver (Does how) name first stores → EndsOver status_of Does Untouched name first status stores output output_after
+    done : (how : How) → status ≡ status_of how → IsOverJournal (Does how) name first stores → EndsOver status_of Does Untouched name first status stores output output_after
     unopened : (fault : OpenFault) → Unopened name first stores fault → IsSaidOf fault status output output_after → Untouched → EndsOver status_of Does Untouched name first status stores output output_after
 
   -- a session over the journal of this name

@@ -22,7 +22,7 @@ use Rattle.simplex_rules.proofs.Moments.{run_true}
 use Rattle.search_rules.specs.Branching.{Case, AreMetBelow, NoneMoves, split_cases, divided_cases}
 use Rattle.search_rules.specs.Cuts.{MakesCut, Trial, NoCut, WideCut, Cut, TriesMultipliers, TriesEquation, TriesBasis}
 use Rattle.search_rules.specs.Rays.{IsScaled}
-use Rattle.search_rules.specs.Search.{Found, Level, SearchMoment, To, first, undivided, shown_at, reached, closed_by_leaf, branch, divide, with_cut, next_level_at, IsPassed, IsHopeful, IsValue, AreValuesAt, Branches, MayCut, Takes, TakesPoint, MeetsPoint, GoesFromTrial, Improves, GoesFromBest, GoesFrom, Closes, IsNextInSearch, ComesInSearch, begins, goes_on}
+use Rattle.search_rules.specs.Search.{Found, Level, SearchMoment, To, first, undivided, shown_at, reached, closed_by_leaf, branch, divide, with_cut, next_level_at, IsPassed, IsHopeful, IsValue, AreValuesAt, Branches, MayCut, TakesFound, TakesPoint, MeetsPoint, GoesFromTrial, ImprovesBest, GoesFromBest, GoesFrom, ClosesLevel, IsNextInSearch, ComesInSearch, begins, goes_on}
 use Rattle.search_rules.specs.Outcomes.{IsPoint, Proves, CertificateProves}
 use Rattle.search_rules.proofs.Nodes.{ProvesAll, no_nodes, Within, Leads, leads_first, leads_on, leads_out, clash_first, farkas_first, bound_first, split_first, zero_first, at_most-trans, at_most-below, at_most-same, minimising_by-same}
 use Rattle.search_rules.proofs.Cases.{IsCase, itself, case_cut, IsEndless, IsOpen, open_most, open_least, open_zero, open_own, open_undivided, feasible, objective_of}
@@ -186,7 +186,7 @@ module _ (P : Problem) (C : Case) (rest : List Case) (m : SearchMoment) (h : Hol
   branches_hold x n (inr (j, s, e)) = let q : divide m C rest j ≡ n = cc in subst (Holds P) q (divide_holds j s.branch)
 
   -- a point is taken where there is no ray
-  taken : (t : Terms) (ray : Option (List Ratio)) (f : Found) (ms : List Multiplier) (n : SearchMoment) → Takes P t ray rest m f ms (To n) → (ray ≡ None) × (closed_by_leaf (record m { best = Some f }) rest (BoundBy ms) ≡ n)
+  taken : (t : Terms) (ray : Option (List Ratio)) (f : Found) (ms : List Multiplier) (n : SearchMoment) → TakesFound P t ray rest m f ms (To n) → (ray ≡ None) × (closed_by_leaf (record m { best = Some f }) rest (BoundBy ms) ≡ n)
   taken t None f ms n e = (refl, cc)
   taken t (Some r) f ms n e = absurd (cc)
 
@@ -282,7 +282,7 @@ module _ (P : Problem) (C : Case) (rest : List Case) (m : SearchMoment) (is : m.
         let q : with_cut m C rest ms cs k ≡ n = cc in
         subst (Holds P) q (cut_holds ms cs k may.one_goal may.first_case (cut_of C.program x ss ms cs k tries))
 
-    improves_hold : (before : Clock) (b : Ratio) (x : List Ratio) (ms : List Multiplier) (n : SearchMoment) → IsBest C.program b x ms → IsHopeful m.level m.best b → Improves P t C rest m before b x ms (To n) → Holds P n
+    improves_hold : (before : Clock) (b : Ratio) (x : List Ratio) (ms : List Multiplier) (n : SearchMoment) → IsBest C.program b x ms → IsHopeful m.level m.best b → ImprovesBest P t C rest m before b x ms (To n) → Holds P n
     improves_hold before b x ms n best hope (inl p) = takes_hold P C rest m h this others so_far t x ms n (λ e. (b, best, hope)) p
     improves_hold before b x ms n best hope (inr (inl (never, p))) = here_hold x n p
     improves_hold before b x ms n best hope (inr (inr (ss, trial, may, other, ends, tries, g))) = trial_holds x ss trial n may tries g
@@ -345,7 +345,7 @@ module _ (P : Problem) (m : SearchMoment) (h : Holds P m) (none : m.waiting ≡ 
       (λ k q. let same : f ≡ k = cc in subst (IsFound P (next_level_at m f e g gs).level) same (record { feasible = there; values = found.values; fits = found.fits }))
       (λ q. absurd (cc)) (rounds_on g gs later)
 
-  closes_hold : (t : Terms) (n : SearchMoment) (best : Option Found) (gs : List Goal) → m.best ≡ best → m.level.later ≡ gs → Closes P t m best gs (To n) → Holds P n
+  closes_hold : (t : Terms) (n : SearchMoment) (best : Option Found) (gs : List Goal) → m.best ≡ best → m.level.later ≡ gs → ClosesLevel P t m best gs (To n) → Holds P n
   closes_hold t n None gs some later e = absurd (cc)
   closes_hold t n (Some f) [] some later e = absurd (cc)
   closes_hold t n (Some f) (g ∷ gs) some later (inl (e, end, q)) = let same : next_level_at m f e g gs ≡ n = cc in subst (Holds P) same (next_level_holds f e g gs some later end)

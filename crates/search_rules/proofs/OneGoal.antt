@@ -13,7 +13,7 @@ use Rattle.simplex_rules.specs.Ends.{Terms, Clock, End, Shown, Clash, Empty, Bes
 use Rattle.simplex_rules.specs.Runs.{Run, looked_once}
 use Rattle.simplex_rules.proofs.Moments.{run_true}
 use Rattle.search_rules.specs.Branching.{Case, IsWholeBelow, IsEither, AreMetBelow, IsSplit, NoneMoves}
-use Rattle.search_rules.specs.Search.{Found, Level, SearchMoment, Outcome, NextOfSearch, To, Out, early, IsPassed, IsHopeful, IsValue, AreValuesAt, Branches, MayCut, Takes, TakesPoint, MeetsPoint, Improves, GoesFromBest, GoesFrom, IsCaseRun, IsVisit, Closes, IsNextInSearch, ComesInSearch, begins, goes_on, Search, IsSearchAnswer, searched, given_up, given_up_after}
+use Rattle.search_rules.specs.Search.{Found, Level, SearchMoment, Outcome, NextOfSearch, To, Out, early, IsPassed, IsHopeful, IsValue, AreValuesAt, Branches, MayCut, TakesFound, TakesPoint, MeetsPoint, ImprovesBest, GoesFromBest, GoesFrom, IsCaseRun, IsVisit, ClosesLevel, IsNextInSearch, ComesInSearch, begins, goes_on, Search, IsSearchAnswer, searched, given_up, given_up_after}
 use Rattle.search_rules.specs.OneGoal.{lifted, IsWholeAlone}
 use Rattle.search_rules.specs.WholeSearch as Whole
 use Rattle.search_rules.proofs.Cases.{IsCase}
@@ -120,7 +120,7 @@ module _ (I : Instance) where
             v ∷ [],
             fits,
             value_on x v value,
-            subst (λ r. Takes (alone I) t r (behind m) (lift I m) (record { point = x; values = v ∷ [] }) ms (lift_next I n)) (sym none) (ap (lift_next I) e),
+            subst (λ r. TakesFound (alone I) t r (behind m) (lift I m) (record { point = x; values = v ∷ [] }) ms (lift_next I n)) (sym none) (ap (lift_next I) e),
           ),
         )
     takes_on m x ms n (inr (inr (inr (v, r, w, fits, value, some, e)))) =
@@ -130,7 +130,7 @@ module _ (I : Instance) where
             v ∷ [],
             fits,
             value_on x v value,
-            subst (λ r. Takes (alone I) t r (behind m) (lift I m) (record { point = x; values = v ∷ [] }) ms (lift_next I n)) (sym some) (ap (lift_next I) e),
+            subst (λ r. TakesFound (alone I) t r (behind m) (lift I m) (record { point = x; values = v ∷ [] }) ms (lift_next I n)) (sym some) (ap (lift_next I) e),
           ),
         )
 
@@ -143,9 +143,9 @@ module _ (I : Instance) where
         (Whole.Out (Whole.too_wide m Point) m.clock, e ∙ ap (λ o. Out o m.clock) (sym (early_lifted m.best _)), inr (inl (met_back J one x (width J) met, f, refl)))
     takes_back m x ms n (met, inr (vs, fits, values, takes)) =
         let (v, is, value) = value_back x vs values in
-        by v value m.ray refl (subst (λ vs. Takes (alone I) t m.ray (behind m) (lift I m) (record { point = x; values = vs }) ms n) is takes)
+        by v value m.ray refl (subst (λ vs. TakesFound (alone I) t m.ray (behind m) (lift I m) (record { point = x; values = vs }) ms n) is takes)
       where
-        by : (v : Ratio) → Whole.IsValue I x v → (r : Option (List Ratio)) → m.ray ≡ r → Takes (alone I) t r (behind m) (lift I m) (record { point = x; values = v ∷ [] }) ms n → IsOf (Whole.MeetsPoint I J rest m x ms) n
+        by : (v : Ratio) → Whole.IsValue I x v → (r : Option (List Ratio)) → m.ray ≡ r → TakesFound (alone I) t r (behind m) (lift I m) (record { point = x; values = v ∷ [] }) ms n → IsOf (Whole.MeetsPoint I J rest m x ms) n
         by v value None none e = (Whole.To (Whole.closed_by_leaf (record m { best = Some (record { point = x; value = v }) }) rest (BoundBy ms)), e, inr (inr (inl (v, met_back J one x (width J) met, fits, value, none, refl))))
         by v value (Some r) some e = (Whole.Out (Whole.Unbounded x v r) m.clock, e, inr (inr (inr (v, r, met_back J one x (width J) met, fits, value, some, refl))))
 
@@ -157,11 +157,11 @@ module _ (I : Instance) where
     no_cut m may = let f = may.fewer in omega (arith, no_cuts)
 
     -- without cuts a better point is met
-    improves_on : (m : Whole.WholeMoment) (before : Clock) (b : Ratio) (x : List Ratio) (ms : List Multiplier) (n : NextOfSearch) → MeetsPoint (alone I) t (C m) (behind m) (lift I m) x ms n → Improves (alone I) t (C m) (behind m) (lift I m) before b x ms n
+    improves_on : (m : Whole.WholeMoment) (before : Clock) (b : Ratio) (x : List Ratio) (ms : List Multiplier) (n : NextOfSearch) → MeetsPoint (alone I) t (C m) (behind m) (lift I m) x ms n → ImprovesBest (alone I) t (C m) (behind m) (lift I m) before b x ms n
     improves_on m before b x ms n (inl p) = inr (inl (no_cut (lift I m), p))
     improves_on m before b x ms n (inr p) = inl p
 
-    improves_back : (m : Whole.WholeMoment) (before : Clock) (b : Ratio) (x : List Ratio) (ms : List Multiplier) (n : NextOfSearch) → Improves (alone I) t (C m) (behind m) (lift I m) before b x ms n → MeetsPoint (alone I) t (C m) (behind m) (lift I m) x ms n
+    improves_back : (m : Whole.WholeMoment) (before : Clock) (b : Ratio) (x : List Ratio) (ms : List Multiplier) (n : NextOfSearch) → ImprovesBest (alone I) t (C m) (behind m) (lift I m) before b x ms n → MeetsPoint (alone I) t (C m) (behind m) (lift I m) x ms n
     improves_back m before b x ms n (inl p) = inr p
     improves_back m before b x ms n (inr (inl (never, p))) = inl p
     improves_back m before b x ms n (inr (inr (ss, trial, may, other, ends, tries, g))) = absurd (no_cut (lift I m) may)
@@ -311,11 +311,11 @@ module _ (I : Instance) (good : IsInstance I) (t : Terms) (whole : IsWholeAlone 
         (run_true l.case (is_some m.ray) t (looked_once m.clock) v.end v.clock c.numbers w.run) g in
         (k, q, record { end = v.end; clock = v.clock; visit = w; goes = goes })
 
-    closes_on : (best : Option Whole.Found) (n : NextOfSearch) → n ≡ Out (lifted (Whole.closed best m.nodes)) m.clock → Closes P t (lift I m) (lift_best best) [] n
+    closes_on : (best : Option Whole.Found) (n : NextOfSearch) → n ≡ Out (lifted (Whole.closed best m.nodes)) m.clock → ClosesLevel P t (lift I m) (lift_best best) [] n
     closes_on None n e = e
     closes_on (Some f) n e = e
 
-    closes_back : (best : Option Whole.Found) (n : NextOfSearch) → Closes P t (lift I m) (lift_best best) [] n → n ≡ Out (lifted (Whole.closed best m.nodes)) m.clock
+    closes_back : (best : Option Whole.Found) (n : NextOfSearch) → ClosesLevel P t (lift I m) (lift_best best) [] n → n ≡ Out (lifted (Whole.closed best m.nodes)) m.clock
     closes_back None n e = e
     closes_back (Some f) n e = e
 

@@ -21,7 +21,7 @@ use Rattle.simplex_rules.proofs.Moments.{run_true}
 use Rattle.simplex_rules.proofs.OneEnd.{run_once, basis_once}
 use Rattle.search_rules.specs.Branching.{Case, IsMet, AreMetBelow, IsSplit, IsDividedAt, IsFirstMoving}
 use Rattle.search_rules.specs.Cuts.{Trial, NoCut, WideCut, Cut, TriesBasis}
-use Rattle.search_rules.specs.Search.{Found, Level, SearchMoment, Outcome, NextOfSearch, To, Out, first, branch, divide, next_level_at, reached, IsPassed, IsHopeful, IsValue, AreValuesAt, StopsBefore, Begins, Branches, Takes, TakesPoint, MeetsPoint, GoesFromTrial, Improves, GoesFromBest, GoesAlong, GoesFrom, AsksNext, Closes, IsVisit, IsNextInSearch, ComesInSearch, begins, goes_on, Search}
+use Rattle.search_rules.specs.Search.{Found, Level, SearchMoment, Outcome, NextOfSearch, To, Out, first, branch, divide, next_level_at, reached, IsPassed, IsHopeful, IsValue, AreValuesAt, StopsBefore, BeginsCase, Branches, TakesFound, TakesPoint, MeetsPoint, GoesFromTrial, ImprovesBest, GoesFromBest, GoesAlong, GoesFrom, AsksNext, ClosesLevel, IsVisit, IsNextInSearch, ComesInSearch, begins, goes_on, Search}
 use Rattle.search_rules.proofs.Rays.{one_ray}
 use Rattle.search_rules.proofs.OneCut.{one_floor, trial_once}
 use Rattle.search_rules.proofs.Moments.{Holds, holds_first, this, best_number, objective-number, next_holds}
@@ -76,7 +76,7 @@ module _ (P : Problem) (good : IsProblem P) where
       one_value (asking P k) x (value_at vs k) (value_at ws k) (asking_numbers k) (p.values k low) (q.values k low))
 
   module _ (t : Terms) (C : Case) (rest : List Case) (m : SearchMoment) where
-    taken_once : (ray : Option (List Ratio)) (f : Found) (ms : List Multiplier) (a b : NextOfSearch) → Takes P t ray rest m f ms a → Takes P t ray rest m f ms b → a ≡ b
+    taken_once : (ray : Option (List Ratio)) (f : Found) (ms : List Multiplier) (a b : NextOfSearch) → TakesFound P t ray rest m f ms a → TakesFound P t ray rest m f ms b → a ≡ b
     taken_once None f ms a b p q = p ∙ sym q
     taken_once (Some r) f ms a b p q = p ∙ sym q
 
@@ -86,7 +86,7 @@ module _ (P : Problem) (good : IsProblem P) where
     takes_once x ms a b (met, inr (vs, fits, v, p)) (also, inl (g, h)) = absurd (g fits)
     takes_once x ms a b (met, inr (vs, fits, v, p)) (also, inr (ws, fit, w, q)) =
         let e : vs ≡ ws = one_values x vs ws v w in
-        taken_once C.ray (record { point = x; values = ws }) ms a b (subst (λ vs. Takes P t C.ray rest m (record { point = x; values = vs }) ms a) e p) q
+        taken_once C.ray (record { point = x; values = ws }) ms a b (subst (λ vs. TakesFound P t C.ray rest m (record { point = x; values = vs }) ms a) e p) q
 
     meets_once : (x : List Ratio) (ms : List Multiplier) (a b : NextOfSearch) → MeetsPoint P t C rest m x ms a → MeetsPoint P t C rest m x ms b → a ≡ b
     meets_once x ms a b (inl p) (inl q) = branches_once C rest m x a b p q
@@ -100,7 +100,7 @@ module _ (P : Problem) (good : IsProblem P) where
     trials_once x (Cut ms cs k) a b p q = p ∙ sym q
 
     module _ (here : IsInstance C.program) (before : Clock) where
-      improves_once : (c : Ratio) (x : List Ratio) (ms : List Multiplier) (a b : NextOfSearch) → Improves P t C rest m before c x ms a → Improves P t C rest m before c x ms b → a ≡ b
+      improves_once : (c : Ratio) (x : List Ratio) (ms : List Multiplier) (a b : NextOfSearch) → ImprovesBest P t C rest m before c x ms a → ImprovesBest P t C rest m before c x ms b → a ≡ b
       improves_once c x ms a b (inl p) (inl q) = takes_once x ms a b p q
       improves_once c x ms a b (inl p) (inr (inl (never, q))) = absurd (branches_met C rest m x b q p.0)
       improves_once c x ms a b (inl p) (inr (inr (ss, trial, may, other, ends, tries, q))) = absurd (other p.0)
@@ -158,7 +158,7 @@ module _ (P : Problem) (good : IsProblem P) where
     stops_once m a b (inr (l, s, e)) (inl (k, f)) = absurd (omega arith)
     stops_once m a b (inr (l, s, e)) (inr (k, u, f)) = e ∙ sym f
 
-    stops_begun : (m : SearchMoment) (a : NextOfSearch) → StopsBefore P t m a → Begins P t m → ⊥
+    stops_begun : (m : SearchMoment) (a : NextOfSearch) → StopsBefore P t m a → BeginsCase P t m → ⊥
     stops_begun m a (inl (l, e)) g = let k = g.within in omega arith
     stops_begun m a (inr (l, s, e)) g = g.goes_on s
 
@@ -171,7 +171,7 @@ module _ (P : Problem) (good : IsProblem P) where
     asks_once m f g gs a b here n (inr (wide, inr (k, p))) (inr (far, inl q)) = absurd (stops_begun m b q k)
     asks_once m f g gs a b here n (inr (wide, inr (k, p))) (inr (far, inr (i, q))) = p ∙ sym q
 
-    closes_once : (m : SearchMoment) (a b : NextOfSearch) → Holds P m → (best : Option Found) (gs : List Goal) → m.best ≡ best → Closes P t m best gs a → Closes P t m best gs b → a ≡ b
+    closes_once : (m : SearchMoment) (a b : NextOfSearch) → Holds P m → (best : Option Found) (gs : List Goal) → m.best ≡ best → ClosesLevel P t m best gs a → ClosesLevel P t m best gs b → a ≡ b
     closes_once m a b h None gs e p q = p ∙ sym q
     closes_once m a b h (Some f) [] e p q = p ∙ sym q
     closes_once m a b h (Some f) (g ∷ gs) e p q = asks_once m f g gs a b (let l = h.level in l.good) (best_number P m.level f h.level (h.best f e)) p q

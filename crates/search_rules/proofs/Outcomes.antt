@@ -13,7 +13,7 @@ use Rattle.simplex_rules.specs.Runs.{looked_once}
 use Rattle.simplex_rules.proofs.Moments.{run_true}
 use Rattle.search_rules.specs.Branching.{Case}
 use Rattle.search_rules.specs.Cuts.{Trial, NoCut, WideCut, Cut}
-use Rattle.search_rules.specs.Search.{Found, SearchMoment, Outcome, Optimal, Infeasible, Out, early, shown_at, reached, StopsBefore, Branches, Takes, TakesPoint, MeetsPoint, GoesFromTrial, GoesFromBest, GoesFrom, Closes, IsNextInSearch, Search, IsSearchAnswer, searched, given_up, given_up_after}
+use Rattle.search_rules.specs.Search.{Found, SearchMoment, Outcome, Optimal, Infeasible, Out, early, shown_at, reached, StopsBefore, Branches, TakesFound, TakesPoint, MeetsPoint, GoesFromTrial, GoesFromBest, GoesFrom, ClosesLevel, IsNextInSearch, Search, IsSearchAnswer, searched, given_up, given_up_after}
 use Rattle.search_rules.specs.Outcomes.{CertificateProves, IsShown}
 use Rattle.search_rules.proofs.Cases.{IsOpen, feasible}
 use Rattle.search_rules.proofs.Nodes.{Within}
@@ -67,7 +67,7 @@ module _ (P : Problem) (m : SearchMoment) (h : Holds P m) where
         let reaches = subst (λ gs. Reaches P.program P.later f.values m.level.shown m.level.program gs) later (h.level.reaches f.point f.values found.feasible found.values) in
         (found_point P m.level f h.level found, rounds_closed P m h, reaches_end m.level.program (shown_at m) (reached m.level f) (best_proves P m h none f e) m.level.shown P.program P.later f.values count refl reaches)
 
-    closes_shown : (t : Terms) (o : Outcome) (d : Clock) (best : Option Found) (gs : List Goal) → m.best ≡ best → m.level.later ≡ gs → Closes P t m best gs (Out o d) → IsShown P o
+    closes_shown : (t : Terms) (o : Outcome) (d : Clock) (best : Option Found) (gs : List Goal) → m.best ≡ best → m.level.later ≡ gs → ClosesLevel P t m best gs (Out o d) → IsShown P o
     closes_shown t o d None gs some later e = subst (IsShown P) (out_is e) (infeasible_shown some)
     closes_shown t o d (Some f) [] some later e = subst (IsShown P) (out_is e) (optimal_shown f some later)
     closes_shown t o d (Some f) (g ∷ gs) some later (inl (e, end, q)) = absurd (cc)
@@ -80,7 +80,7 @@ module _ (P : Problem) (m : SearchMoment) (h : Holds P m) where
     takes_shown x ms o d relaxed (met, inl (f, e)) = given_shown _ o d _ e
     takes_shown x ms o d relaxed (met, inr (vs, fits, values, takes)) = by C.ray refl takes
       where
-        by : (ray : Option (List Ratio)) → C.ray ≡ ray → Takes P t ray rest m (record { point = x; values = vs }) ms (Out o d) → IsShown P o
+        by : (ray : Option (List Ratio)) → C.ray ≡ ray → TakesFound P t ray rest m (record { point = x; values = vs }) ms (Out o d) → IsShown P o
         by None e q = absurd (cc)
         by (Some r) e q =
             let there = feasible m.level.program C.program x opened.case relaxed met in

@@ -8,7 +8,7 @@ use Rattle.simplex_rules.specs.Runs.{looked_once}
 use Rattle.simplex_rules.specs.declared.columns.Status.{Status}
 use Rattle.search_rules.specs.Branching.{Case}
 use Rattle.search_rules.specs.Cuts.{Trial, NoCut, WideCut, Cut, TriesBasis}
-use Rattle.search_rules.specs.Search.{Found, SearchMoment, To, undivided, next_level_at, Branches, Takes, TakesPoint, GoesFromTrial, GoesFrom, Closes, IsVisit, IsNextInSearch, ComesInSearch, begins, goes_on}
+use Rattle.search_rules.specs.Search.{Found, SearchMoment, To, undivided, next_level_at, Branches, TakesFound, TakesPoint, GoesFromTrial, GoesFrom, ClosesLevel, IsVisit, IsNextInSearch, ComesInSearch, begins, goes_on}
 use Rattle.search_rules.specs.Outcomes.{HaveOneRange, IsPlain}
 
 -- the level's own program is still to be searched, or nothing is
@@ -51,7 +51,7 @@ module _ (P : Problem) (t : Terms) (plain : IsPlain P.program) (ranges : HaveOne
     takes_plain D x ms n (met, inl (f, e)) = absurd (cc)
     takes_plain D x ms n (met, inr (vs, fits, values, takes)) = by D.ray takes
       where
-        by : (ray : Option (List Ratio)) → Takes P t ray [] m (record { point = x; values = vs }) ms (To n) → IsClosedIn n
+        by : (ray : Option (List Ratio)) → TakesFound P t ray [] m (record { point = x; values = vs }) ms (To n) → IsClosedIn n
         by None e = (cc, cc)
         by (Some r) e = absurd (cc)
 
@@ -79,7 +79,7 @@ module _ (P : Problem) (t : Terms) (plain : IsPlain P.program) (ranges : HaveOne
     goes_plain before Stopped n e = absurd (cc)
 
     -- the next level's program has the same variables
-    closes_plain : (best : Option Found) (gs : List Goal) (n : SearchMoment) → Closes P t m best gs (To n) → IsPlainMoment P n
+    closes_plain : (best : Option Found) (gs : List Goal) (n : SearchMoment) → ClosesLevel P t m best gs (To n) → IsPlainMoment P n
     closes_plain None gs n e = absurd (cc)
     closes_plain (Some f) [] n e = absurd (cc)
     closes_plain (Some f) (g ∷ gs) n (inl (e, end, q)) =

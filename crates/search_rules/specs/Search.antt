@@ -151,16 +151,16 @@ module _ (P : Problem) (t : Terms) where
     pub fewer : length m.rounds < t.rounds
 
   -- a point that was found becomes the best one, and multipliers ms close the case; or, where there is a ray, the search ends with it
-  abbrev pub Takes : Option (List Ratio) → List Case → SearchMoment → Found → List Multiplier → NextOfSearch → Type 0
-  Takes None rest m f ms next = next ≡ To (closed_by_leaf (record m { best = Some f }) rest (BoundBy ms))
-  Takes (Some r) rest m f ms next = next ≡ Out (Unbounded f.point f.values m.level.shown r) m.clock
+  abbrev pub TakesFound : Option (List Ratio) → List Case → SearchMoment → Found → List Multiplier → NextOfSearch → Type 0
+  TakesFound None rest m f ms next = next ≡ To (closed_by_leaf (record m { best = Some f }) rest (BoundBy ms))
+  TakesFound (Some r) rest m f ms next = next ≡ Out (Unbounded f.point f.values m.level.shown r) m.clock
 
   -- from a point of case C on whose values are as they must be: its sums, those of the problem's own rows and of all goals, don't fit; or it is found
   abbrev pub TakesPoint : Case → List Case → SearchMoment → List Ratio → List Multiplier → NextOfSearch → Type 0
   TakesPoint C rest m x ms next =
       AreMetBelow C.program x (width C.program)
       × (((PointFits P x → ⊥) × (next ≡ Out (too_wide m Point) m.clock))
-      ⊎ ((vs : List Ratio) × PointFits P x × AreValuesAt P x vs × Takes C.ray rest m (record { point = x; values = vs }) ms next))
+      ⊎ ((vs : List Ratio) × PointFits P x × AreValuesAt P x vs × TakesFound C.ray rest m (record { point = x; values = vs }) ms next))
 
   -- from point x of case C on: the case is branched, or the point is found
   abbrev pub MeetsPoint : Case → List Case → SearchMoment → List Ratio → List Multiplier → NextOfSearch → Type 0
@@ -173,8 +173,8 @@ module _ (P : Problem) (t : Terms) where
   GoesFromTrial C rest m x (Cut ms cs k) next = next ≡ To (with_cut m C rest ms cs k)
 
   -- from a point on whose bound is better than the best value: it is found; or the case is branched; or, where one more cut may be derived, that is tried before
-  abbrev pub Improves : Case → List Case → SearchMoment → Clock → Ratio → List Ratio → List Multiplier → NextOfSearch → Type 0
-  Improves C rest m before b x ms next =
+  abbrev pub ImprovesBest : Case → List Case → SearchMoment → Clock → Ratio → List Ratio → List Multiplier → NextOfSearch → Type 0
+  ImprovesBest C rest m before b x ms next =
       TakesPoint C rest m x ms next
       ⊎ ((MayCut m → ⊥) × Branches C rest m x next)
       ⊎ ((ss : List Status) × (trial : Trial) × MayCut m × (AreMetBelow C.program x (width C.program) → ⊥) × EndsAtBasis C.program false t before (Best b x ms) m.clock ss × TriesBasis C.program x ss trial × GoesFromTrial C rest m x trial next)
@@ -182,7 +182,7 @@ module _ (P : Problem) (t : Terms) where
   -- from a best point of the run of case C on: where there is no ray, a bound that isn't better than the best value closes the case; where there is one, any point will do
   abbrev pub GoesFromBest : Option (List Ratio) → Case → List Case → SearchMoment → Clock → Ratio → List Ratio → List Multiplier → NextOfSearch → Type 0
   GoesFromBest None C rest m before b x ms next =
-      (IsPassed m.level m.best b × (next ≡ To (closed_by_leaf m rest (BoundBy ms)))) ⊎ (IsHopeful m.level m.best b × Improves C rest m before b x ms next)
+      (IsPassed m.level m.best b × (next ≡ To (closed_by_leaf m rest (BoundBy ms)))) ⊎ (IsHopeful m.level m.best b × ImprovesBest C rest m before b x ms next)
   GoesFromBest (Some r) C rest m before b x ms next = MeetsPoint C rest m x ms next
 
   -- from a direction of case C on: the first variable that may be 0 besides, moves and wasn't divided yet divides the case; where there is none, the direction gives the ray of this case and of those that come of it
@@ -209,7 +209,7 @@ module _ (P : Problem) (t : Terms) where
       ⊎ ((nodes_so_far m < t.nodes) × IsStop t m × (next ≡ Out (early m.best Killed) (looked_once m.clock)))
 
   -- one more node is begun
-  pub record Begins (m : SearchMoment) : Type 0 where
+  pub record BeginsCase (m : SearchMoment) : Type 0 where
     pub within : nodes_so_far m < t.nodes
     pub goes_on : IsStop t m → ⊥
 
@@ -218,7 +218,7 @@ module _ (P : Problem) (t : Terms) where
     pub case : Case
     pub rest : List Case
     pub is : m.waiting ≡ case ∷ rest
-    pub begins : Begins m
+    pub begins : BeginsCase m
     pub run : Run case.program (is_some case.ray) t (looked_once m.clock) e c
 
   -- the search goes by the end of that run
@@ -236,18 +236,18 @@ module _ (P : Problem) (t : Terms) where
       ((e : Ratio) × IsReachedEnd I v e × (next ≡ To (next_level_at m f e g gs)))
       ⊎ ((SumFits (minimising I v) (negative (minimising I I.goal.constant)) → ⊥)
       × (StopsBefore m next
-      ⊎ (Begins m × (next ≡ Out (early m.best (Wide (record { node = 1; turn = m.clock.turns; step = Values }))) (looked_once m.clock)))))
+      ⊎ (BeginsCase m × (next ≡ Out (early m.best (Wide (record { node = 1; turn = m.clock.turns; step = Values }))) (looked_once m.clock)))))
 
   -- no case of the level is left: without a point the search ends, and with one it asks the next goal, or ends where there is none
-  abbrev pub Closes : SearchMoment → Option Found → List Goal → NextOfSearch → Type 0
-  Closes m None gs next = next ≡ Out (Infeasible (shown_at m)) m.clock
-  Closes m (Some f) [] next = next ≡ Out (Optimal f.point f.values (m.level.shown ++ shown_at m ∷ [])) m.clock
-  Closes m (Some f) (g ∷ gs) next = AsksNext m f g gs next
+  abbrev pub ClosesLevel : SearchMoment → Option Found → List Goal → NextOfSearch → Type 0
+  ClosesLevel m None gs next = next ≡ Out (Infeasible (shown_at m)) m.clock
+  ClosesLevel m (Some f) [] next = next ≡ Out (Optimal f.point f.values (m.level.shown ++ shown_at m ∷ [])) m.clock
+  ClosesLevel m (Some f) (g ∷ gs) next = AsksNext m f g gs next
 
   -- what comes after a moment, in this order: the level is closed where no case is left; the limit of nodes, or a look, ends the search; or the next case brings it
   abbrev pub IsNextInSearch : SearchMoment → NextOfSearch → Type 0
   IsNextInSearch m next =
-      ((m.waiting ≡ []) × Closes m m.best m.level.later next)
+      ((m.waiting ≡ []) × ClosesLevel m m.best m.level.later next)
       ⊎ ((m.waiting ≡ [] → ⊥) × StopsBefore m next)
       ⊎ IsVisit m next
 

@@ -34,7 +34,7 @@ use Rattle.server_threads.specs.Talks.{LinkTalk, Shift, talk_met, shift_met, Cam
 use Rattle.server_threads.specs.Serving as threads
 use Rattle.server_threads.specs.Serving.{Opens, AtOnce}
 use Rattle.solve_run.specs.JobAnswers.{Right}
-use Rattle.job_solver.specs.Runs.{Makes}
+use Rattle.job_solver.specs.Runs.{MakesDocument}
 use Rattle.job_solver.specs.ProvedDocuments.{ShownAreProved}
 use Rattle.os_server.proofs.Pieces.{talk_so}
 use Rattle.serving.specs.declared.setup.Setup.{Setup}
@@ -82,18 +82,18 @@ neat_met : (n : ℕ) (said : List Said) → IsNeat said → IsOrderly None (move
 neat_met n said is = subst (λ (es : List Said). IsOrderly None es) (sym (moves_by_one n said)) is.0
 
 conversation_neat : (came back : Tells) (said : List Said) (short : Bool) → Converses Untold came said back short → IsNeat said
-conversation_neat came back said short (end, s, is) = subst IsNeat s.moves (talk_so Makes IsNeat (neat Makes) Untold end _ s.part s.talk)
+conversation_neat came back said short (end, s, is) = subst IsNeat s.moves (talk_so MakesDocument IsNeat (neat MakesDocument) Untold end _ s.part s.talk)
 
-shift_so : (said : List Said) → IsShift Makes said → IsNeat said
+shift_so : (said : List Said) → IsShift MakesDocument said → IsNeat said
 shift_so said (inl none) = subst IsNeat (sym none) (tt, refl)
-shift_so said (inr works) = shift_neat Makes said works
+shift_so said (inr works) = shift_neat MakesDocument said works
 
 talks_orderly : (n : ℕ) (links : List LinkTalk) → AllTalked (Converses Untold) n links → All IsOrderlyMet (map talk_met links)
 talks_orderly n [] all = All-nil IsOrderlyMet
 talks_orderly n (t ∷ ts) all =
     All-cons IsOrderlyMet (talk_met t) (map talk_met ts) (neat_met t.seat t.said (conversation_neat t.came t.back t.said t.short all.1)) (talks_orderly (n + 1) ts all.2)
 
-shifts_orderly : (n : ℕ) (staff : List Shift) → AllWorked Makes n staff → All IsOrderlyMet (map shift_met staff)
+shifts_orderly : (n : ℕ) (staff : List Shift) → AllWorked MakesDocument n staff → All IsOrderlyMet (map shift_met staff)
 shifts_orderly n [] all = All-nil IsOrderlyMet
 shifts_orderly n (s ∷ ss) all =
     All-cons IsOrderlyMet (shift_met s) (map shift_met ss) (neat_met s.seat s.said (shift_so s.said all.1)) (shifts_orderly (n + 1) ss all.2)
@@ -124,11 +124,11 @@ at_once_grown servers log more links =
     (λ t is. (is.0, record { out = is.1.out; few = is.1.few; begins = starts_grown log is.0 more is.1.begins; none = is.1.none; earlier = is.1.earlier })) links
 
 -- what lies behind the closing shift: no job waits
-pub none_waits_behind : (start table : Register) (seen log : List SeatEntry) (own : List Said) → log ≡ seen ++ by 0 own → WorksThrough Makes own → LeadsOn Right start (moves_in log) table → waiting_jobs table.jobs ≡ 0
+pub none_waits_behind : (start table : Register) (seen log : List SeatEntry) (own : List Said) → log ≡ seen ++ by 0 own → WorksThrough MakesDocument own → LeadsOn Right start (moves_in log) table → waiting_jobs table.jobs ≡ 0
 none_waits_behind start table seen log own whole works leads =
     let all : moves_in log ≡ moves_in seen ++ own = ap moves_in whole ∙ moves_then seen 0 own in
     let (mid, earlier, shift) = chains_split (MovesOn Right) start table (moves_in seen) own (subst (λ (es : List Said). LeadsOn Right start es table) all leads) in
-    shift_leaves_none Makes Right mid table own works shift
+    shift_leaves_none MakesDocument Right mid table own works shift
 
 module _ (kept : FirstFinishIsKept Right) (numbers : NumbersAreGivenOnce Right) where
   -- each finish in a history that links and workers share is kept, where it is stored
@@ -145,11 +145,11 @@ module _ (kept : FirstFinishIsKept Right) (numbers : NumbersAreGivenOnce Right) 
 
 -- links that were served by moves of a new desk, whose first seat worked off what waited then and closed it: what its history makes, and what the movers made of it, says what holds of it
 module _ (History : List LinkTalk → List Shift → Shift → List SeatEntry → Type 0) (E : List LinkTalk → List SeatEntry → Type 0) (setup : Setup) (old new : NetTells) {is_legal makes : List SeatEntry → Type 0}
-    (story : (links : List LinkTalk) (staff : List Shift) (own : List Said) (seen log : List SeatEntry) → makes log → log ≡ seen ++ by 0 own → WorksThrough Makes own
+    (story : (links : List LinkTalk) (staff : List Shift) (own : List Said) (seen log : List SeatEntry) → makes log → log ≡ seen ++ by 0 own → WorksThrough MakesDocument own
     → IsShared setup.limits.servers links staff (record { seat = 0; said = own }) log → History links staff (record { seat = 0; said = own }) log) where
   pub hosts_of : (v w last : View) (links : List LinkTalk) (own : List Said)
-      → (s : threads.ServesLinks Makes (Converses Untold) setup.limits.servers setup.limits.workers (stood v old) (stood w new) links) → v ≡ first_view → entries_by w.number w.seen ≡ w.mine
-      → HasMet w.seen w.met → (asked : AskedBy is_legal w last own) → WorksThrough Makes own → (c : ClosesBy makes last) → E links c.log
+      → (s : threads.ServesLinks MakesDocument (Converses Untold) setup.limits.servers setup.limits.workers (stood v old) (stood w new) links) → v ≡ first_view → entries_by w.number w.seen ≡ w.mine
+      → HasMet w.seen w.met → (asked : AskedBy is_legal w last own) → WorksThrough MakesDocument own → (c : ClosesBy makes last) → E links c.log
       → HostsBy History E setup old new
   hosts_of v w last links own s fresh stand known asked works c ends =
       let closer : Shift = record { seat = 0; said = own } in
@@ -175,7 +175,7 @@ module _ (History : List LinkTalk → List Shift → Shift → List SeatEntry �
         came = s.came;
         back = s.back;
         history = story links s.shifts own w.seen c.log c.leads whole works record {
-          worked = (refl, inr works, subst (λ (n : ℕ). AllWorked Makes n s.shifts) given s.worked);
+          worked = (refl, inr works, subst (λ (n : ℕ). AllWorked MakesDocument n s.shifts) given s.worked);
           talked = subst (λ (n : ℕ). AllTalked (Converses Untold) (n + length s.shifts) links) given s.all_talked;
           made = all_with (λ m. entries_by m.seat c.log ≡ m.entries) (shift_met closer) talks shifts mine
               (All-permutation (λ m. entries_by m.seat c.log ≡ m.entries) back (talks ++ shifts) same
@@ -192,7 +192,7 @@ module _ (History : List LinkTalk → List Shift → Shift → List SeatEntry �
 -- of a desk of a table alone
 module _ (kept : FirstFinishIsKept Right) (numbers : NumbersAreGivenOnce Right) (shown_proved : ShownAreProved) where
   plain_story : (first servers : ℕ) (table : Register) → table.first ≡ first → (links : List LinkTalk) (staff : List Shift) (own : List Said) (seen log : List SeatEntry) → LeadsTo Right log table
-      → log ≡ seen ++ by 0 own → WorksThrough Makes own → IsShared servers links staff (record { seat = 0; said = own }) log → IsHistory first servers links staff (record { seat = 0; said = own }) log
+      → log ≡ seen ++ by 0 own → WorksThrough MakesDocument own → IsShared servers links staff (record { seat = 0; said = own }) log → IsHistory first servers links staff (record { seat = 0; said = own }) log
   plain_story first servers table begins links staff own seen log leads whole works shared =
       let start = beginning table.first in
       let runs = on_stepwise Right start table (moves_in log) leads in record {
@@ -207,8 +207,8 @@ module _ (kept : FirstFinishIsKept Right) (numbers : NumbersAreGivenOnce Right) 
 
   -- the same of what serving answered, and of how many numbers the table gave that was closed
   pub hosted : (setup : Setup) (given : ℕ) (served : Result ℕ ServeFault) (old new : NetTells) (v w last : View) (own : List Said) (table : Register)
-      → (o : (links : List LinkTalk) × threads.ServesLinks Makes (Converses Untold) setup.limits.servers setup.limits.workers (stood v old) (stood w new) links × threads.EndsServing served setup.limits.connections links old.faults new.faults) → v ≡ first_view → entries_by w.number w.seen ≡ w.mine
-      → HasMet w.seen w.met → Asked Right w last own → WorksThrough Makes own → table.first ≡ setup.first → Closes Right last table → given ≡ table.issued
+      → (o : (links : List LinkTalk) × threads.ServesLinks MakesDocument (Converses Untold) setup.limits.servers setup.limits.workers (stood v old) (stood w new) links × threads.EndsServing served setup.limits.connections links old.faults new.faults) → v ≡ first_view → entries_by w.number w.seen ≡ w.mine
+      → HasMet w.seen w.met → Asked Right w last own → WorksThrough MakesDocument own → table.first ≡ setup.first → Closes Right last table → given ≡ table.issued
       → HostsBy (λ links staff closer log. IsHistory setup.first setup.limits.servers links staff closer log)
       (λ links log. (given ≡ given_in log) × threads.EndsServing served setup.limits.connections links old.faults new.faults) setup old new
   hosted setup given served old new v w last own table o fresh stand known asked works begins c is =

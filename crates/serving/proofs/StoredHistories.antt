@@ -18,7 +18,7 @@ use Rattle.desk.specs.History.{moves_in, entries_by, by}
 use Rattle.desk.specs.Rule.{first_view, HasMet}
 use Rattle.desk.specs.SeatMoves.{ClosesBy}
 use Rattle.desk.specs.SeatHistory.{AskedBy}
-use Rattle.desk.proofs.Storing.{closes_nothing}
+use Rattle.desk.proofs.StoreHistories.{closes_nothing}
 use Rattle.workers.specs.Shifts.{WorksThrough}
 use Rattle.workers.specs.Bells.{Untold}
 use Rattle.server_threads.specs.declared.means.ServeFault.{ServeFault}
@@ -26,7 +26,7 @@ use Rattle.server_threads.specs.declared.means.ServeFault.TheVariants.{Failed, M
 use Rattle.server_threads.specs.Talks.{LinkTalk, Shift}
 use Rattle.server_threads.specs.Serving as threads
 use Rattle.solve_run.specs.JobAnswers.{Right}
-use Rattle.job_solver.specs.Runs.{Makes}
+use Rattle.job_solver.specs.Runs.{MakesDocument}
 use Rattle.job_solver.specs.StoredDocuments.{ShownAreProvedFrom}
 use Rattle.serving.specs.declared.setup.Setup.{Setup}
 use Rattle.serving.specs.declared.ending.Ending.{Ending}
@@ -114,7 +114,7 @@ module _ {D : Type 0} {g : _} (told : D → Bool) (seen : D → List ℕ) (may_l
 
   module _ (rises : Rises first) (nobody : NobodyRuns first) (kept : FirstFinishIsKept Right) (numbers : NumbersAreGivenOnce Right) (shown_proved : ShownAreProvedFrom) where
     stored_story : (servers : ℕ) (table : Register) (after : Journal D g) → left ≡ after.disk → had_desk how ≡ true → (links : List LinkTalk) (staff : List Shift) (own : List Said) (had log : List SeatEntry)
-        → ClosesJournal told seen may_leave moment left_since faults first journal log table after → log ≡ had ++ by 0 own → WorksThrough Makes own
+        → ClosesJournal told seen may_leave moment left_since faults first journal log table after → log ≡ had ++ by 0 own → WorksThrough MakesDocument own
         → IsShared servers links staff (record { seat = 0; said = own }) log → StoredBy servers links staff (record { seat = 0; said = own }) log
     stored_story servers table after home desk links staff own had log closes whole works shared = record {
       table = table;
@@ -129,8 +129,8 @@ module _ {D : Type 0} {g : _} (told : D → Bool) (seen : D → List ℕ) (may_l
 
     -- links that were served by moves of a desk over a journal, whose first seat worked off what waited then and closed it, and the end that was told
     pub served_over : {is_legal : List SeatEntry → Type 0} (setup : Setup) (given : ℕ) (served : Result ℕ ServeFault) (old new : NetTells) (output output' : Tells) (v w last : View) (own : List Said) (table : Register) (after : Journal D g)
-        → (o : (links : List LinkTalk) × threads.ServesLinks Makes (Converses Untold) setup.limits.servers setup.limits.workers (stood v old) (stood w new) links × threads.EndsServing served setup.limits.connections links old.faults new.faults)
-        → v ≡ first_view → entries_by w.number w.seen ≡ w.mine → HasMet w.seen w.met → AskedBy is_legal w last own → WorksThrough Makes own
+        → (o : (links : List LinkTalk) × threads.ServesLinks MakesDocument (Converses Untold) setup.limits.servers setup.limits.workers (stood v old) (stood w new) links × threads.EndsServing served setup.limits.connections links old.faults new.faults)
+        → v ≡ first_view → entries_by w.number w.seen ≡ w.mine → HasMet w.seen w.met → AskedBy is_legal w last own → WorksThrough MakesDocument own
         → ClosesBy (λ log. ClosesJournal told seen may_leave moment left_since faults first journal log table after) last → given ≡ table.issued → left ≡ after.disk → TellsEnd served given how output output'
         → ServesOver told seen may_leave moment left_since faults first journal left how setup old new output output'
     served_over setup given served old new output output' v w last own table after o fresh stand known asked works c is home tells = (

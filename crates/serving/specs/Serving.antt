@@ -25,7 +25,7 @@ use Rattle.os_server.specs.declared.serve.Served.{Served}
 use Rattle.os_server.specs.declared.serve.Served.TheVariants as served
 use Rattle.os_server.specs.Talk.{Serves}
 use Rattle.solve_run.specs.JobAnswers.{Right}
-use Rattle.job_solver.specs.Runs.{Makes}
+use Rattle.job_solver.specs.Runs.{MakesDocument}
 use Rattle.job_solver.specs.ProvedDocuments.{AreProved}
 use Rattle.command_answers.specs.Outputs.{IsSent, BreaksOff}
 use Rattle.serving.specs.declared.setup.Setup.{Setup}
@@ -47,7 +47,7 @@ lacks_memory served.Memory = true
 -- after it, and whether it ended for want of memory
 abbrev pub Converses : (Bool → Type 0) → Tells → List Said → Tells → Bool → Type 0
 Converses rang came said back short =
-    (end : Served) × Serves Makes rang (λ made. made ≡ said) end came back × (short ≡ lacks_memory end)
+    (end : Served) × Serves MakesDocument rang (λ made. made ≡ said) end came back × (short ≡ lacks_memory end)
 
 -- who made moves: the links that came, and the workers, each with its number and its moves
 abbrev pub movers : List LinkTalk → List Shift → List Met
@@ -56,7 +56,7 @@ movers links staff = map talk_met links ++ map shift_met staff
 -- whoever closes the table worked a whole shift, and its moves stand last: before them stand the moves of others alone
 pub record WorksLast (closer : Shift) (log : List SeatEntry) : Type 0 where
   pub others : List SeatEntry
-  pub worked : WorksThrough Makes closer.said
+  pub worked : WorksThrough MakesDocument closer.said
   pub none : entries_by closer.seat others ≡ []
   pub last : log ≡ others ++ by closer.seat closer.said
 
@@ -65,7 +65,7 @@ pub record WorksLast (closer : Shift) (log : List SeatEntry) : Type 0 where
 -- the number 0, whose shift stands last; or nobody made a move. Under the number of each stand its moves, in their order, and nobody else has any.
 -- At most so many links are served at once, as far as moves show it
 pub record IsShared (servers : ℕ) (links : List LinkTalk) (staff : List Shift) (closer : Shift) (log : List SeatEntry) : Type 0 where
-  pub worked : AllWorked Makes 0 (closer ∷ staff)
+  pub worked : AllWorked MakesDocument 0 (closer ∷ staff)
   pub talked : AllTalked (Converses Untold) (1 + length staff) links
   pub made : All (λ m. entries_by m.seat log ≡ m.entries) (movers links (closer ∷ staff))
   pub no_others : (n : ℕ) → All (λ m. m.seat ≢ n) (movers links (closer ∷ staff)) → entries_by n log ≡ []
@@ -171,7 +171,7 @@ TellsEnd (Err fault) given how output output' = (how ≡ ending_of fault) × (ou
 -- links were served beside workers from this first seat on, and then it worked a shift
 abbrev pub ServesOn : {T N : Type 0} → (legal : List SeatEntry → Type 0) → (tells : N → NetTells) → ServeLimits → (seat seat' : DeskSeat T) → (net net' : N) → Result ℕ ServeFault → Type 0
 ServesOn {T} {N} legal tells limits seat seat' net net' answer =
-    (mid : DeskSeat T) × (own : List Said) × HasServed Makes (Converses Untold) tells limits seat mid net net' answer × IsSeatOf seat.table_id mid × AskedBy legal mid.me.0 seat'.me.0 own × WorksThrough Makes own
+    (mid : DeskSeat T) × (own : List Said) × HasServed MakesDocument (Converses Untold) tells limits seat mid net net' answer × IsSeatOf seat.table_id mid × AskedBy legal mid.me.0 seat'.me.0 own × WorksThrough MakesDocument own
 
 -- a server listened at this host and port, served links as it was set up, and ended so; what holds of its history, and how many numbers its table had given
 -- behind it, is given

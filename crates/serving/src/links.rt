@@ -24,9 +24,9 @@ struct Ringing<'a, R, B> {
 pub(crate) struct LinkServer<B>(pub(crate) B);
 
 impl<B> Runner<SolvedJobs> for LinkServer<B> {
-    ghost use Rattle.job_solver.specs.Runs.{Makes};
+    ghost use Rattle.job_solver.specs.Runs.{MakesDocument};
 
-    ghost ran = { Makes };
+    ghost ran = { MakesDocument };
 
     fn run<W: Watch>(
         &self,

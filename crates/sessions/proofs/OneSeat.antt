@@ -13,7 +13,7 @@ use Rattle.desk.specs.History.{entries_by, by}
 use Rattle.desk.specs.Rule.{first_view, HasMet}
 use Rattle.desk.specs.SeatMoves.{Closes, ClosesBy}
 use Rattle.desk.specs.SeatHistory.{Asked, AskedBy}
-use Rattle.desk.proofs.Storing.{closes_nothing}
+use Rattle.desk.proofs.StoreHistories.{closes_nothing}
 use Rattle.desk.proofs.WholeHistory.{moves_by_one, whole_history}
 use Rattle.job_journal.specs.declared.journal.Journal.{Journal}
 use Rattle.job_journal.specs.Stores.{keeps_these, passes_between, too_long_behind}
@@ -22,7 +22,7 @@ use Rattle.os_server.specs.Laws.{ConversationsAreKept}
 use Rattle.os_server.specs.Talk.{ServesWhole}
 use Rattle.os_server.proofs.Rounds.{serves_so}
 use Rattle.solve_run.specs.JobAnswers.{Right}
-use Rattle.job_solver.specs.Runs.{Makes, WakesNobody}
+use Rattle.job_solver.specs.Runs.{MakesDocument, WakesNobody}
 use Rattle.job_solver.specs.ProvedDocuments.{ShownAreProved}
 use Rattle.job_solver.specs.StoredDocuments.{ShownAreProvedFrom}
 use Rattle.sessions.specs.Sessions.{ServesAlone, IsSession}
@@ -44,23 +44,23 @@ closed_runs first v fresh said asked table c begins =
     subst (λ (z : ℕ × List MoveEntry). LeadsStepwise Right (beginning z.0) z.1 table) (λ i. (begins i, moves_by_one 0 said i)) (closed_with_all first v fresh said asked c)
 
 -- a conversation by moves of a new desk, which was closed
-pub served_alone : (did : List MoveEntry → Type 0) (end : Served) (old new : Tells) (table : Register) → (s : ServesWhole Makes WakesNobody did end old new)
+pub served_alone : (did : List MoveEntry → Type 0) (end : Served) (old new : Tells) (table : Register) → (s : ServesWhole MakesDocument WakesNobody did end old new)
     → LeadsStepwise Right (beginning 1) s.0.part.entries table → ServesAlone end old new
-served_alone did end old new table (s, whole) runs = (table, (serves_so Makes WakesNobody did (λ made. LeadsStepwise Right (beginning 1) made table) end old new s runs, whole))
+served_alone did end old new table (s, whole) runs = (table, (serves_so MakesDocument WakesNobody did (λ made. LeadsStepwise Right (beginning 1) made table) end old new s runs, whole))
 
 -- a conversation without a move
-pub served_without : (end : Served) (old new : Tells) → ServesWhole Makes WakesNobody (λ made. made ≡ []) end old new → ServesAlone end old new
+pub served_without : (end : Served) (old new : Tells) → ServesWhole MakesDocument WakesNobody (λ made. made ≡ []) end old new → ServesAlone end old new
 served_without end old new s =
     served_alone (λ made. made ≡ []) end old new (beginning 1) s (subst (λ (es : List MoveEntry). LeadsStepwise Right (beginning 1) es (beginning 1)) (sym s.0.moves) refl)
 
 -- a conversation whose moves were all that were made is a session
-pub session_of : ConversationsAreKept Makes WakesNobody Right → ShownAreProved → (end : Served) (old new : Tells) → ServesAlone end old new → IsSession end old new
+pub session_of : ConversationsAreKept MakesDocument WakesNobody Right → ShownAreProved → (end : Served) (old new : Tells) → ServesAlone end old new → IsSession end old new
 session_of kept shown end old new (table, (s, whole)) =
     let runs : LeadsTo Right s.part.entries table = subst (λ (k : ℕ). LeadsStepwise Right (beginning k) s.part.entries table) (sym (first_led Right 1 s.part.entries table s.moves)) s.moves in record {
       entries = s.part.entries;
       table = table;
       runs = s.moves;
-      serves = (serves_so Makes WakesNobody (λ made. LeadsStepwise Right (beginning 1) made table) (λ made. made ≡ s.part.entries) end old new s refl, whole);
+      serves = (serves_so MakesDocument WakesNobody (λ made. LeadsStepwise Right (beginning 1) made table) (λ made. made ≡ s.part.entries) end old new s refl, whole);
       kept = kept_stepwise Right (beginning 1) table s.part.entries s.moves
           (kept end s.past old.left new.left s.part (beginning 1) [] table (omega arith) s.talk (on_stepwise Right (beginning 1) table s.part.entries s.moves));
       proved = shown s.part.entries table runs;
@@ -68,13 +68,13 @@ session_of kept shown end old new (table, (s, whole)) =
 
 -- a conversation without a move, over a journal
 pub stored_without : {D : Type 0} {g : _} (told : D → Bool) (seen : D → List ℕ) (may_leave : D → List ℕ → Type 0) (moment : D → ℕ) (left_since : D → ℕ → List ℕ → Type 0) (faults : D → ℕ) (first : Register) (journal : Journal D g) (end : Served) (disk : D) (old new : Tells)
-    → disk ≡ journal.disk → ServesWhole Makes WakesNobody (λ made. made ≡ []) end old new → ServesStored told seen may_leave moment left_since faults first journal end disk old new
+    → disk ≡ journal.disk → ServesWhole MakesDocument WakesNobody (λ made. made ≡ []) end old new → ServesStored told seen may_leave moment left_since faults first journal end disk old new
 stored_without told seen may_leave moment left_since faults first journal end disk old new left serves =
     ([], first, journal, left, closes_nothing Right (keeps_these told seen may_leave) (passes_between told moment left_since) too_long_behind (λ j. j.broken) (λ j. faults j.disk) first journal, serves)
 
 -- a conversation over a journal whose moves were all that were made is a session, by what was told to the desk
 pub stored_session_of : {D : Type 0} {g : _} (told : D → Bool) (seen : D → List ℕ) (may_leave : D → List ℕ → Type 0) (moment : D → ℕ) (left_since : D → ℕ → List ℕ → Type 0) (faults : D → ℕ) (first held : Register) (journal store : Journal D g) (end : Served) (disk : D) (old new : Tells)
-    → held ≡ first → store ≡ journal → Rises first → NobodyRuns first → ConversationsAreKept Makes WakesNobody Right → ShownAreProvedFrom
+    → held ≡ first → store ≡ journal → Rises first → NobodyRuns first → ConversationsAreKept MakesDocument WakesNobody Right → ShownAreProvedFrom
     → ServesStored told seen may_leave moment left_since faults held store end disk old new → IsStoredSession told seen may_leave moment left_since faults first journal end disk old new
 stored_session_of {D} {g} told seen may_leave moment left_since faults first held journal store end disk old new same kept_in rises nobody kept shown serves =
     let (own, table, after, left, closes, (s, whole)) = subst (λ (z : Register × Journal D g). ServesStored told seen may_leave moment left_since faults z.0 z.1 end disk old new) (λ i. (same i, kept_in i)) serves in

@@ -14,9 +14,9 @@ use Rattle.simplex.specs.declared.choosing.Choice.{Choice}
 use Rattle.simplex.specs.declared.choosing.Choice.TheVariants as Has
 use Rattle.dictionary.specs.Dict.{width_of, height_of, basic_of, entry_of, Holds}
 use Rattle.simplex.specs.Tables.{AreStatuses, HasSizeOf}
-use Rattle.simplex.specs.Choices.{LeadsOn}
+use Rattle.simplex.specs.Choices.{ChoiceLeadsTo}
 
-pub leads_map : (I : Instance) (ss : List Status) (u : Entries) (w : Values) (t : Terms) (c : Clock) (R S : Next → Type 0) → ((next : Next) → R next → S next) → (r : Choice) → LeadsOn I ss u w t c R r → LeadsOn I ss u w t c S r
+pub leads_map : (I : Instance) (ss : List Status) (u : Entries) (w : Values) (t : Terms) (c : Clock) (R S : Next → Type 0) → ((next : Next) → R next → S next) → (r : Choice) → ChoiceLeadsTo I ss u w t c R r → ChoiceLeadsTo I ss u w t c S r
 leads_map I ss u w t c R S f (Has.Swap s) h = λ next p. f next (h next p)
 leads_map I ss u w t c R S f (Has.Flip s) h = λ next p. f next (h next p)
 leads_map I ss u w t c R S f (Has.Done d) h = f _ h

@@ -9,7 +9,7 @@ use Rattle.evidence.specs.Instance.{Instance, Minimum}
 use Rattle.simplex_rules.specs.declared.columns.Way.{Way}
 use Rattle.simplex_rules.specs.declared.columns.Way.TheVariants.{Rise, Fall}
 use Rattle.simplex.specs.declared.ends.Ends.{Ends}
-use Rattle.simplex_rules.specs.Turns.{rate, Moves}
+use Rattle.simplex_rules.specs.Turns.{rate, MovesIn}
 use Rattle.simplex.specs.Cuts.{range_of, AreEndsOf}
 
 pub plain : List Ends → Instance
@@ -26,7 +26,7 @@ plain_ends es = record {
 }
 
 -- a column that moves another has an entry
-pub moves_nonzero : (wanted way : Way) (x : Ratio) → Moves wanted (rate way x) → x.num ≡ pos 0 → ⊥
+pub moves_nonzero : (wanted way : Way) (x : Ratio) → MovesIn wanted (rate way x) → x.num ≡ pos 0 → ⊥
 moves_nonzero Rise Rise x h e = omega (arith, ints)
 moves_nonzero Rise Fall x h e = let k : pos 0 <ℤ neg_ℤ x.num = h in omega (arith, ints)
 moves_nonzero Fall Rise x h e = omega (arith, ints)

@@ -18,10 +18,10 @@ use Rattle.simplex.specs.Tables.{AreStatuses}
 use Rattle.simplex.specs.Finishes.{end_at, is_stop, IsFinishReady}
 
 -- R holds of what comes next, whatever the turn that was chosen makes of it, or else of the end
-abbrev pub LeadsOn : Instance → List Status → Entries → Values → Terms → Clock → (Next → Type 0) → Choice → Type 0
-LeadsOn I ss u w t c R (Has.Swap s) = (next : Next) → BeginsTurn t c (PivotFits u s.basic s.nonbasic) (pivoted ss s.basic s.nonbasic s.status) next → R next
-LeadsOn I ss u w t c R (Has.Flip f) = (next : Next) → BeginsTurn t c (Unit {0}) (slice_set ss f.col f.status) next → R next
-LeadsOn I ss u w t c R (Has.Done f) = R (Out (end_at I ss u w f) c)
+abbrev pub ChoiceLeadsTo : Instance → List Status → Entries → Values → Terms → Clock → (Next → Type 0) → Choice → Type 0
+ChoiceLeadsTo I ss u w t c R (Has.Swap s) = (next : Next) → BeginsTurn t c (PivotFits u s.basic s.nonbasic) (pivoted ss s.basic s.nonbasic s.status) next → R next
+ChoiceLeadsTo I ss u w t c R (Has.Flip f) = (next : Next) → BeginsTurn t c (Unit {0}) (slice_set ss f.col f.status) next → R next
+ChoiceLeadsTo I ss u w t c R (Has.Done f) = R (Out (end_at I ss u w f) c)
 
 -- a basic column that another one, with an entry that isn't 0, can take the place of
 pub record IsSwap (ss : List Status) (u : Entries) (s : Swap) : Type 0 where

@@ -17,7 +17,7 @@ ghost use Rattle.dictionary.specs.Dict.{IsLoaded, width_of, height_of, columns_o
 ghost use Rattle.simplex.specs.Cuts.{AreEndsOf, ranges_in};
 ghost use Rattle.simplex.specs.Tables.{AreStatuses, HasSizeOf};
 ghost use Rattle.simplex.specs.Values.{cost_in, AreTerms, AreResting};
-ghost use Rattle.simplex.specs.Choices.{LeadsOn};
+ghost use Rattle.simplex.specs.Choices.{ChoiceLeadsTo};
 ghost use Rattle.simplex.specs.Finishes.{is_stop, IsFinishReady};
 ghost use Rattle.simplex.specs.declared.choosing.Choice.TheVariants.{Done};
 
@@ -98,7 +98,7 @@ pub fn best<L: Ledger>(
     requires resting { AreResting (ranges_in ends.now) statuses.now (place_values rest.now) }
     ensures on { is_stop result ≡ false }
     ensures ready { IsFinishReady statuses.now result }
-    ensures next { (I : Instance) (zeroed : Bool) (w : Values) (t : Terms) (c : Clock) → AreEndsOf I ends.now → HasSizeOf I dict.now → AreEntries (columns_of dict.now) (basic_of dict.now) (entry_of dict.now) → IsStart zeroed (minimising I I.goal.constant) start → NoneHelps I statuses.now (entry_of dict.now) w (goal_column I) Way.Fall → LeadsOn I statuses.now (entry_of dict.now) w t c (Improves I zeroed t (record { statuses = statuses.now; clock = c }) (entry_of dict.now) w) (Done result) }
+    ensures next { (I : Instance) (zeroed : Bool) (w : Values) (t : Terms) (c : Clock) → AreEndsOf I ends.now → HasSizeOf I dict.now → AreEntries (columns_of dict.now) (basic_of dict.now) (entry_of dict.now) → IsStart zeroed (minimising I I.goal.constant) start → NoneHelps I statuses.now (entry_of dict.now) w (goal_column I) Way.Fall → ChoiceLeadsTo I statuses.now (entry_of dict.now) w t c (Improves I zeroed t (record { statuses = statuses.now; clock = c }) (entry_of dict.now) w) (Done result) }
     ensures counted { steps.old ≤ steps.new }
 {
     let _ends = ends;

@@ -7,13 +7,13 @@ ghost use Rattle.bases.specs.Program.{rows_with_goal};
 ghost use Rattle.simplex_rules.specs.Statuses.{is_basic, basic_in, upper_status};
 ghost use Rattle.simplex_rules.specs.Turns.{missed_status, reached_status, left_status, way_of};
 ghost use Rattle.simplex_rules.specs.Ends.{Terms, Clock};
-ghost use Rattle.simplex_rules.specs.Runs.{Repairs, MovesOn, Improves, IsNext};
+ghost use Rattle.simplex_rules.specs.Runs.{Repairs, MovesColumn, Improves, IsNext};
 ghost use Rattle.dictionary.specs.Dict.{IsLoaded, Holds, columns_of, basic_of, entry_of, count_of, place_values};
 ghost use Rattle.simplex.specs.Cuts.{AreEndsOf, range_of, ranges_in};
 ghost use Rattle.simplex.specs.Tables.{AreStatuses, HasSizeOf, values_in};
 ghost use Rattle.marks.specs.Marks.{size_of};
 ghost use Rattle.simplex.specs.Values.{AreResting, AreKnown};
-ghost use Rattle.simplex.specs.Choices.{LeadsOn, IsChoiceAllowed};
+ghost use Rattle.simplex.specs.Choices.{ChoiceLeadsTo, IsChoiceAllowed};
 
 use crate::bounding::best;
 use crate::ends::{Ends, has_room};
@@ -107,7 +107,7 @@ fn repair<L: Ledger>(
     requires inside { out.col < goal }
     requires basic { basic_in statuses.now out.col ≡ true }
     ensures allowed { IsChoiceAllowed statuses.now (entry_of dict.now) result }
-    ensures next { (I : Instance) (w : Values) (zeroed : Bool) (t : Terms) (c : Clock) → AreEndsOf I ends.now → HasSizeOf I dict.now → LeadsOn I statuses.now (entry_of dict.now) w t c (Repairs I zeroed t (record { statuses = statuses.now; clock = c }) (entry_of dict.now) w out.col out.way) result }
+    ensures next { (I : Instance) (w : Values) (zeroed : Bool) (t : Terms) (c : Clock) → AreEndsOf I ends.now → HasSizeOf I dict.now → ChoiceLeadsTo I statuses.now (entry_of dict.now) w t c (Repairs I zeroed t (record { statuses = statuses.now; clock = c }) (entry_of dict.now) w out.col out.way) result }
     ensures counted { steps.old ≤ steps.new }
 {
     match first_help(dict, ends, statuses, out.col, out.way, goal, steps) {
@@ -171,7 +171,7 @@ fn move_on<L: Ledger>(
     requires nonbasic_inside { moving.col < goal }
     requires nonbasic { basic_in statuses.now moving.col ≡ false }
     ensures allowed { IsChoiceAllowed statuses.now (entry_of dict.now) result }
-    ensures next { (I : Instance) (zeroed : Bool) (t : Terms) (c : Clock) → AreEndsOf I ends.now → HasSizeOf I dict.now → LeadsOn I statuses.now (entry_of dict.now) (values_in values.now) t c (MovesOn I zeroed t (record { statuses = statuses.now; clock = c }) (entry_of dict.now) (values_in values.now) moving.col moving.way) result }
+    ensures next { (I : Instance) (zeroed : Bool) (t : Terms) (c : Clock) → AreEndsOf I ends.now → HasSizeOf I dict.now → ChoiceLeadsTo I statuses.now (entry_of dict.now) (values_in values.now) t c (MovesColumn I zeroed t (record { statuses = statuses.now; clock = c }) (entry_of dict.now) (values_in values.now) moving.col moving.way) result }
     ensures counted { steps.old ≤ steps.new }
 {
     match first_limit(dict, ends, statuses, values, moving, goal, steps) {
@@ -207,7 +207,7 @@ fn improve<L: Ledger>(
     requires statuses { AreStatuses dict.now statuses.now }
     requires goal { goal ≡ length statuses.now }
     ensures allowed { IsChoiceAllowed statuses.now (entry_of dict.now) result }
-    ensures next { (I : Instance) (zeroed : Bool) (t : Terms) (c : Clock) → AreEndsOf I ends.now → HasSizeOf I dict.now → AreEntries (columns_of dict.now) (basic_of dict.now) (entry_of dict.now) → IsStart zeroed (minimising I I.goal.constant) start → LeadsOn I statuses.now (entry_of dict.now) (values_in values.now) t c (Improves I zeroed t (record { statuses = statuses.now; clock = c }) (entry_of dict.now) (values_in values.now)) result }
+    ensures next { (I : Instance) (zeroed : Bool) (t : Terms) (c : Clock) → AreEndsOf I ends.now → HasSizeOf I dict.now → AreEntries (columns_of dict.now) (basic_of dict.now) (entry_of dict.now) → IsStart zeroed (minimising I I.goal.constant) start → ChoiceLeadsTo I statuses.now (entry_of dict.now) (values_in values.now) t c (Improves I zeroed t (record { statuses = statuses.now; clock = c }) (entry_of dict.now) (values_in values.now)) result }
     ensures counted { steps.old ≤ steps.new }
 {
     match first_help(dict, ends, statuses, goal, Way::Fall, goal, steps) {
@@ -239,7 +239,7 @@ pub fn choose<L: Ledger>(
     ensures known { AreKnown dict.now rest.now statuses.now values.new unknown.new }
     ensures size { size_of unknown.new ≡ size_of unknown.old }
     ensures allowed { IsChoiceAllowed statuses.now (entry_of dict.now) result }
-    ensures next { (I : Instance) (zeroed : Bool) (t : Terms) (c : Clock) → AreEndsOf I ends.now → HasSizeOf I dict.now → Holds (rows_with_goal zeroed I) dict.now → IsStart zeroed (minimising I I.goal.constant) start → LeadsOn I statuses.now (entry_of dict.now) (values_in values.new) t c (IsNext I zeroed t (record { statuses = statuses.now; clock = c })) result }
+    ensures next { (I : Instance) (zeroed : Bool) (t : Terms) (c : Clock) → AreEndsOf I ends.now → HasSizeOf I dict.now → Holds (rows_with_goal zeroed I) dict.now → IsStart zeroed (minimising I I.goal.constant) start → ChoiceLeadsTo I statuses.now (entry_of dict.now) (values_in values.new) t c (IsNext I zeroed t (record { statuses = statuses.now; clock = c })) result }
     ensures counted { steps.old ≤ steps.new }
 {
     match find_values(dict, ends, statuses, rest, values, unknown, goal, steps) {

@@ -3,7 +3,7 @@ ghost use Rattle.std.specs.Prelude.{◌≡◌, ◌↔◌, IsTrue, pos, ◌<ℤ�
 ghost use Rattle.fraction.specs.Frac.{ratio};
 ghost use Rattle.evidence.specs.Sums.{is_below};
 ghost use Rattle.evidence.specs.Cases.{IsEmpty};
-ghost use Rattle.simplex_rules.specs.Statuses.{has_room};
+ghost use Rattle.simplex_rules.specs.Statuses.{has_width};
 ghost use Rattle.simplex_rules.specs.Turns.{Can};
 ghost use Rattle.simplex.specs.Cuts.{range_of};
 ghost use Rattle.simplex.specs.Signs.{moves_by};
@@ -39,8 +39,8 @@ pub fn is_empty(e: Ends) -> bool
 }
 
 /// Whether the ends differ.
-pub fn has_room(e: Ends) -> bool
-    ensures { result ≡ has_room (range_of e) }
+pub fn has_width(e: Ends) -> bool
+    ensures { result ≡ has_width (range_of e) }
 {
     match e.lb {
         End::At(l) => match e.ub {
@@ -58,7 +58,7 @@ fn can(e: Ends, status: Status, way: Way) -> bool
     match way {
         Way::Rise => match status {
             Status::Basic => false,
-            Status::Lower => has_room(e),
+            Status::Lower => has_width(e),
             Status::Upper => false,
             Status::Zero => true,
         },

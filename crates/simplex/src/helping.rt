@@ -6,7 +6,7 @@ ghost use Rattle.bases.specs.Dictionary.{Values};
 ghost use Rattle.dictionary.specs.Dict.{IsLoaded, width_of, height_of, columns_of, basic_of, entry_of, IsNonbasic};
 ghost use Rattle.simplex_rules.specs.declared.columns.Way.{Way};
 ghost use Rattle.simplex_rules.specs.Statuses.{is_basic, basic_in};
-ghost use Rattle.simplex_rules.specs.Turns.{Can, Moves, rate, NoneHelps, IsFirstHelp};
+ghost use Rattle.simplex_rules.specs.Turns.{Can, MovesIn, rate, NoneHelps, IsFirstHelp};
 ghost use Rattle.simplex.specs.Cuts.{AreEndsOf, range_of};
 ghost use Rattle.simplex.specs.Tables.{AreStatuses};
 
@@ -56,7 +56,7 @@ fn help_at<L: Ledger>(
     requires basic { basic_of dict.now row ≡ true }
     requires nonbasic { IsNonbasic dict.now col }
     requires status { is_basic status ≡ basic_of dict.now col }
-    ensures help { MatchOption result ((v : Way) → Can v (range_of ends.now) status → Moves wanted (rate v (entry_of dict.now row col)) → ⊥) (λ v. (is_basic status ≡ false) × Can v (range_of ends.now) status × Moves wanted (rate v (entry_of dict.now row col))) }
+    ensures help { MatchOption result ((v : Way) → Can v (range_of ends.now) status → MovesIn wanted (rate v (entry_of dict.now row col)) → ⊥) (λ v. (is_basic status ≡ false) × Can v (range_of ends.now) status × MovesIn wanted (rate v (entry_of dict.now row col))) }
     ensures counted { steps.old ≤ steps.new }
 {
     help(*ends, status, wanted, dict.entry_sign(row, col, steps))

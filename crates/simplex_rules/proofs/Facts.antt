@@ -15,8 +15,8 @@ use Rattle.simplex_rules.specs.declared.columns.Status.{Status}
 use Rattle.simplex_rules.specs.declared.columns.Status.TheVariants.{Basic, Lower, Upper, Zero}
 use Rattle.simplex_rules.specs.declared.columns.Way.{Way}
 use Rattle.simplex_rules.specs.declared.columns.Way.TheVariants.{Rise, Fall}
-use Rattle.simplex_rules.specs.Statuses.{is_basic, rest_at, has_room, less}
-use Rattle.simplex_rules.specs.Turns.{rate, Moves, Can, Misses}
+use Rattle.simplex_rules.specs.Statuses.{is_basic, rest_at, has_width, less}
+use Rattle.simplex_rules.specs.Turns.{rate, MovesIn, Can, Misses}
 use Rattle.simplex_rules.specs.Reports.{against}
 use Rattle.evidence.proofs.Examples.{times_one}
 use Rattle.evidence.proofs.UniqueRows.{or_none-number}
@@ -86,7 +86,7 @@ below_no x y e h = decide (x.num *ℤ pos y.den) (y.num *ℤ pos x.den) e h
 abbrev pub HasPlace : Range → Status → Type 0
 HasPlace r Basic = Unit {0}
 HasPlace r Lower = IsSome r.lb
-HasPlace r Upper = IsSome r.ub × (has_room r ≡ true)
+HasPlace r Upper = IsSome r.ub × (has_width r ≡ true)
 HasPlace r Zero = (r.lb ≡ None) × (r.ub ≡ None)
 
 -- both ends, where they don't differ
@@ -98,33 +98,33 @@ no_room (Some l) (Some h) p q r s e =
     let b : IsAtMost l h = not_below h l (r l h refl refl) in
     (refl, record { left = q; right = p; is = let z : IsSame h l = omega (arith, ints) in z })
 
-falls : (w : Way) (x : Ratio) → pos 0 <ℤ (against w x).num → Moves w (rate Fall x)
+falls : (w : Way) (x : Ratio) → pos 0 <ℤ (against w x).num → MovesIn w (rate Fall x)
 falls Rise x h = h
 falls Fall x h = let z : neg_ℤ x.num <ℤ pos 0 = omega (arith, ints) in z
 
-rises : (w : Way) (x : Ratio) → (against w x).num <ℤ pos 0 → Moves w (rate Rise x)
+rises : (w : Way) (x : Ratio) → (against w x).num <ℤ pos 0 → MovesIn w (rate Rise x)
 rises Rise x h = let k : neg_ℤ x.num <ℤ pos 0 = h in let z : pos 0 <ℤ x.num = omega (arith, ints) in z
 rises Fall x h = h
 
 -- where a column doesn't help, its multiplier has an end on its side, and the column stands there
-pub met : (w : Way) (r : Range) (s : Status) (x : Ratio) → HasNumbers r → (IsEmpty r → ⊥) → HasPlace r s → is_basic s ≡ false → ((v : Way) → Can v r s → Moves w (rate v x) → ⊥) → ((against w x).num ≡ pos 0 → ⊥) → IsSome (end_by (against w x).num r) × (or_none (end_by (against w x).num r) ≈ rest_at r s)
+pub met : (w : Way) (r : Range) (s : Status) (x : Ratio) → HasNumbers r → (IsEmpty r → ⊥) → HasPlace r s → is_basic s ≡ false → ((v : Way) → Can v r s → MovesIn w (rate v x) → ⊥) → ((against w x).num ≡ pos 0 → ⊥) → IsSome (end_by (against w x).num r) × (or_none (end_by (against w x).num r) ≈ rest_at r s)
 met w r s x hn room place nb off nz = by (against w x).num refl s place nb off
   where
-    up : (s : Status) → HasPlace r s → is_basic s ≡ false → ((v : Way) → Can v r s → Moves w (rate v x) → ⊥) → pos 0 <ℤ (against w x).num → IsSome r.lb × (or_none r.lb ≈ rest_at r s)
+    up : (s : Status) → HasPlace r s → is_basic s ≡ false → ((v : Way) → Can v r s → MovesIn w (rate v x) → ⊥) → pos 0 <ℤ (against w x).num → IsSome r.lb × (or_none r.lb ≈ rest_at r s)
     up Basic place nb off h = absurd (cc)
     up Lower place nb off h = (place, ≈-refl (or_none-number r.lb hn.0))
     up Upper place nb off h = absurd (off Fall tt (falls w x h))
     up Zero place nb off h = absurd (off Fall tt (falls w x h))
 
-    down : (s : Status) → HasPlace r s → is_basic s ≡ false → ((v : Way) → Can v r s → Moves w (rate v x) → ⊥) → (against w x).num <ℤ pos 0 → IsSome r.ub × (or_none r.ub ≈ rest_at r s)
+    down : (s : Status) → HasPlace r s → is_basic s ≡ false → ((v : Way) → Can v r s → MovesIn w (rate v x) → ⊥) → (against w x).num <ℤ pos 0 → IsSome r.ub × (or_none r.ub ≈ rest_at r s)
     down Basic place nb off h = absurd (cc)
     down Lower place nb off h =
-        by_bool (has_room r) (λ e. absurd (off Rise e (rises w x h)))
+        by_bool (has_width r) (λ e. absurd (off Rise e (rises w x h)))
         (λ e. no_room r.lb r.ub hn.0 hn.1 (λ l k p q b. room (l, k, p, q, b)) place e)
     down Upper place nb off h = (place.0, ≈-refl (or_none-number r.ub hn.1))
     down Zero place nb off h = absurd (off Rise tt (rises w x h))
 
-    by : (z : ℤ) → (against w x).num ≡ z → (s : Status) → HasPlace r s → is_basic s ≡ false → ((v : Way) → Can v r s → Moves w (rate v x) → ⊥) → IsSome (end_by z r) × (or_none (end_by z r) ≈ rest_at r s)
+    by : (z : ℤ) → (against w x).num ≡ z → (s : Status) → HasPlace r s → is_basic s ≡ false → ((v : Way) → Can v r s → MovesIn w (rate v x) → ⊥) → IsSome (end_by z r) × (or_none (end_by z r) ≈ rest_at r s)
     by (pos zero) e s place nb off = absurd (nz e)
     by (pos (suc n)) e s place nb off = up s place nb off (let h : pos 0 <ℤ (against w x).num = omega (arith, ints) in h)
     by (negsuc n) e s place nb off = down s place nb off (let h : (against w x).num <ℤ pos 0 = omega (arith, ints) in h)

@@ -13,11 +13,11 @@ use Rattle.simplex_rules.specs.declared.columns.Status.{Status}
 use Rattle.simplex_rules.specs.declared.columns.Status.TheVariants.{Basic}
 use Rattle.simplex_rules.specs.declared.columns.Way.{Way}
 use Rattle.simplex_rules.specs.declared.columns.Way.TheVariants.{Rise, Fall}
-use Rattle.simplex_rules.specs.Statuses.{status_at, basic_in, has_room, less, first_status, upper_status, IsFirstBasis, HasDictionary, HasValues}
-use Rattle.simplex_rules.specs.Turns.{rate, Moves, Can, Misses, missed_status, reached_status, NoneOut, IsFirstHelp, NoneHelps, until_by, until_end, across, way_of, left_status}
+use Rattle.simplex_rules.specs.Statuses.{status_at, basic_in, has_width, less, first_status, upper_status, IsFirstBasis, HasDictionary, HasValues}
+use Rattle.simplex_rules.specs.Turns.{rate, MovesIn, Can, Misses, missed_status, reached_status, NoneOut, IsFirstHelp, NoneHelps, until_by, until_end, across, way_of, left_status}
 use Rattle.simplex_rules.specs.Ends.{Terms, Clock, End, Empty, Best, Endless, TurnsOut, TooWide, Stopped, Shown}
 use Rattle.simplex_rules.specs.Reports.{IsBoundAt, multipliers_of}
-use Rattle.simplex_rules.specs.Runs.{HasNoClash, Moment, To, Out, PassesTurn, BeginsTurn, MovesOn, Chooses, IsNext, ComesInRun, begins, goes_on, Run}
+use Rattle.simplex_rules.specs.Runs.{HasNoClash, Moment, To, Out, PassesTurn, BeginsTurn, MovesColumn, Chooses, IsNext, ComesInRun, begins, goes_on, Run}
 use Rattle.simplex_rules.proofs.Facts.{HasPlace, some_is, has_number}
 use Rattle.simplex_rules.proofs.Soundness.{IsPlaced, end_missed, IsMissed, farkas, basic_is, relaxed, best, direction, not_zeroed}
 
@@ -58,7 +58,7 @@ placed_set I ss b s p h = record {
 -- the upper end, or the lower one where they don't differ
 upper_place : (r : Range) → IsSome r.ub → HasPlace r (upper_status r)
 upper_place r s =
-    by_bool (has_room r)
+    by_bool (has_width r)
     (λ e. rw e (s, e))
     (λ e. rw e (low_some r.lb r.ub e))
   where
@@ -102,7 +102,7 @@ module _ (I : Instance) (zeroed : Bool) (t : Terms) (m : Moment) (u : Entries) (
   abbrev after : Moment → Type 0
   after n = IsPlaced I n.statuses
 
-  limits_placed : (c : ℕ) (way : Way) (n : Moment) → IsFirstHelp I m.statuses u w (goal_column I) Fall c way → MovesOn I zeroed t m u w c way (To n) → after n
+  limits_placed : (c : ℕ) (way : Way) (n : Moment) → IsFirstHelp I m.statuses u w (goal_column I) Fall c way → MovesColumn I zeroed t m u w c way (To n) → after n
   limits_placed c way n h (inl (a, e)) = absurd (cc)
   limits_placed c way n h (inr (inl (x, d, f, g, p, q, e))) = absurd (cc)
   limits_placed c way n h (inr (inr (inl (f, l, e)))) =
@@ -155,10 +155,10 @@ module _ (I : Instance) (good : IsInstance I) (zeroed : Bool) (t : Terms) (m : M
   turns_true c F ss e d (inr (inl (a, b, f))) = subst IsTrueOf (let g : TooWide At.Pivot ≡ e = cc in g) tt
   turns_true c F ss e d (inr (inr (a, b, f))) = passes_true _ ss e d f
 
-  off_helps : (g : ℕ) (wanted : Way) → NoneHelps I m.statuses u w g wanted → (k : ℕ) → k < goal_column I → (v : Way) → basic_in m.statuses k ≡ false → Can v (column_at I k) (status_at m.statuses k) → Moves wanted (rate v (u g k)) → ⊥
+  off_helps : (g : ℕ) (wanted : Way) → NoneHelps I m.statuses u w g wanted → (k : ℕ) → k < goal_column I → (v : Way) → basic_in m.statuses k ≡ false → Can v (column_at I k) (status_at m.statuses k) → MovesIn wanted (rate v (u g k)) → ⊥
   off_helps g wanted off k h v b c x = off k h v (record { nonbasic = b; can = c; moves = x })
 
-  limits_true : (c : ℕ) (way : Way) (e : End) (d : Clock) → NoneOut I m.statuses u w → IsFirstHelp I m.statuses u w (goal_column I) Fall c way → MovesOn I zeroed t m u w c way (Out e d) → IsTrueOf e
+  limits_true : (c : ℕ) (way : Way) (e : End) (d : Clock) → NoneOut I m.statuses u w → IsFirstHelp I m.statuses u w (goal_column I) Fall c way → MovesColumn I zeroed t m u w c way (Out e d) → IsTrueOf e
   limits_true c way e d none_out h (inl (a, f)) = subst IsTrueOf (let g : TooWide At.Ratio ≡ e = cc in g) tt
   limits_true c way e d none_out h (inr (inl (x, v, f, free, p, q, g))) =
       subst IsTrueOf (let k : Endless x v ≡ e = cc in k) (

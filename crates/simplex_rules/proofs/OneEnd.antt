@@ -21,11 +21,11 @@ use Rattle.simplex_rules.specs.declared.columns.Status.TheVariants.{Basic}
 use Rattle.simplex_rules.specs.declared.columns.Way.{Way}
 use Rattle.simplex_rules.specs.declared.columns.Way.TheVariants.{Rise, Fall}
 use Rattle.simplex_rules.specs.Statuses.{status_at, basic_in, resting, basic_value, IsFirstBasis, HasDictionary, HasValues}
-use Rattle.simplex_rules.specs.Turns.{rate, Moves, Misses, IsLeastOut, IsFirstHelp, IsFirstLimit, NoLimit, pivoted, missed_status, left_status}
+use Rattle.simplex_rules.specs.Turns.{rate, MovesIn, Misses, IsLeastOut, IsFirstHelp, IsFirstLimit, NoLimit, pivoted, missed_status, left_status}
 use Rattle.simplex_rules.specs.Widths.{ValuesFit}
 use Rattle.simplex_rules.specs.Ends.{Terms, Clock, End, Clash, TooWide}
 use Rattle.simplex_rules.specs.Reports.{AreValues, movement, IsBoundAt, bound_sum}
-use Rattle.simplex_rules.specs.Runs.{HasNoClash, Moment, Next, To, Out, PassesTurn, BeginsTurn, MovesOn, Repairs, Improves, Chooses, IsNext, ComesInRun, begins, goes_on, IsRun, Run, EndsAtBasis}
+use Rattle.simplex_rules.specs.Runs.{HasNoClash, Moment, Next, To, Out, PassesTurn, BeginsTurn, MovesColumn, Repairs, Improves, Chooses, IsNext, ComesInRun, begins, goes_on, IsRun, Run, EndsAtBasis}
 use Rattle.bases.proofs.Lists as Lists
 use Rattle.bases.proofs.Lists.{value_by-number}
 use Rattle.simplex_rules.proofs.Facts.{has_number}
@@ -81,7 +81,7 @@ misses_once r x hn p room Fall Fall a b = refl
 misses_once r x hn p room Rise Fall (l, e, a) (h, f, b) = absurd (crossed r x hn p room l h e f a b)
 misses_once r x hn p room Fall Rise (h, f, b) (l, e, a) = absurd (crossed r x hn p room l h e f a b)
 
-moves_once : (wanted : Way) (x : Ratio) (v w : Way) → Moves wanted (rate v x) → Moves wanted (rate w x) → v ≡ w
+moves_once : (wanted : Way) (x : Ratio) (v w : Way) → MovesIn wanted (rate v x) → MovesIn wanted (rate w x) → v ≡ w
 moves_once wanted x Rise Rise a b = refl
 moves_once wanted x Fall Fall a b = refl
 moves_once Rise x Rise Fall a b = let k : pos 0 <ℤ neg_ℤ x.num = b in absurd (omega (arith, ints))
@@ -141,7 +141,7 @@ module _ (I : Instance) (good : IsInstance I) (zeroed : Bool) (t : Terms) (m : M
   limited : (n : ℕ) (way : Way) (b : ℕ) → NoLimit I ss u w n way → IsFirstLimit I ss u w n way b → ⊥
   limited n way b f p = let e = f b p.inside in let g = p.is in let h : None ≡ Some p.limit = sym e ∙ g in cc
 
-  limits_once : (n : ℕ) (way : Way) (a b : Next) → MovesOn I zeroed t m u w n way a → MovesOn I zeroed t m u w n way b → a ≡ b
+  limits_once : (n : ℕ) (way : Way) (a b : Next) → MovesColumn I zeroed t m u w n way a → MovesColumn I zeroed t m u w n way b → a ≡ b
   limits_once n way a b (inl (f, e)) (inl (g, h)) = e ∙ sym h
   limits_once n way a b (inl (f, e)) (inr (inl (x, d, g, i, p, q, h))) = absurd (f g)
   limits_once n way a b (inl (f, e)) (inr (inr (inl (g, l, h)))) = absurd (f g)
@@ -190,8 +190,8 @@ module _ (I : Instance) (good : IsInstance I) (zeroed : Bool) (t : Terms) (m : M
       let q : c ≡ d = one_help goal Fall c d v x h k in
       let h' : IsFirstHelp I ss u w goal Fall d v = subst (λ z. IsFirstHelp I ss u w goal Fall z v) q h in
       let r : v ≡ x = one_way goal Fall d v x h' k in
-      let i' : MovesOn I zeroed t m u w d v a = subst (λ z. MovesOn I zeroed t m u w z v a) q i in
-      limits_once d x a b (subst (λ z. MovesOn I zeroed t m u w d z a) r i') l
+      let i' : MovesColumn I zeroed t m u w d v a = subst (λ z. MovesColumn I zeroed t m u w z v a) q i in
+      limits_once d x a b (subst (λ z. MovesColumn I zeroed t m u w d z a) r i') l
 
   steps_once : (a b : Next) → Chooses I zeroed t m u w a → Chooses I zeroed t m u w b → a ≡ b
   steps_once a b (inl (c, v, p, e)) (inl (d, x, q, f)) =

@@ -28,7 +28,7 @@ use Rattle.simplex_rules.specs.declared.columns.Status.TheVariants.{Basic, Lower
 use Rattle.simplex_rules.specs.declared.columns.Way.{Way}
 use Rattle.simplex_rules.specs.declared.columns.Way.TheVariants.{Rise, Fall}
 use Rattle.simplex_rules.specs.Statuses.{status_at, is_basic, basic_in, resting, basic_value, HasDictionary, HasValues}
-use Rattle.simplex_rules.specs.Turns.{rate, Moves, NoneOut, Helps, NoLimit, until_by, until_end, across, Can}
+use Rattle.simplex_rules.specs.Turns.{rate, MovesIn, NoneOut, Helps, NoLimit, until_by, until_end, across, Can}
 use Rattle.simplex_rules.specs.Ends.{IsRelaxed, IsDirection, IsBest}
 use Rattle.simplex_rules.specs.Reports.{base, against, factor_at, multipliers_of, AreValues, movement, step_of, bound_sum}
 use Rattle.simplex_rules.specs.Runs.{HasNoClash}
@@ -159,7 +159,7 @@ module _ (I : Instance) (good : IsInstance I) (zeroed : Bool) (ss : List Status)
     abbrev HasEnd : ℕ → Type 0
     HasEnd c = IsSome (end_by (y c).num (column_at I c)) × (or_none (end_by (y c).num (column_at I c)) ≈ ended c)
 
-    module _ (g_basic : basic g ≡ true) (none_helps : (k : ℕ) → k < goal → (v : Way) → basic k ≡ false → Can v (column_at I k) (status_at ss k) → Moves wanted (rate v (u g k)) → ⊥) (own : g < goal → IsSome (end_by (against wanted (whole (negsuc 0))).num (column_at I g)) × (or_none (end_by (against wanted (whole (negsuc 0))).num (column_at I g)) ≈ missed)) where
+    module _ (g_basic : basic g ≡ true) (none_helps : (k : ℕ) → k < goal → (v : Way) → basic k ≡ false → Can v (column_at I k) (status_at ss k) → MovesIn wanted (rate v (u g k)) → ⊥) (own : g < goal → IsSome (end_by (against wanted (whole (negsuc 0))).num (column_at I g)) × (or_none (end_by (against wanted (whole (negsuc 0))).num (column_at I g)) ≈ missed)) where
       has_end : (c : ℕ) → c < goal → ((y c).num ≡ pos 0 → ⊥) → HasEnd c
       has_end c h nz =
           by_eq c g
@@ -229,7 +229,7 @@ module _ (I : Instance) (good : IsInstance I) (zeroed : Bool) (ss : List Status)
   own_missed g Rise missed r e p = (some_is e, let f = or_is r.lb missed e in rw f (≈-refl p))
   own_missed g Fall missed r e p = (some_is e, let f = or_is r.ub missed e in rw f (≈-refl p))
 
-  pub farkas : (g : ℕ) (wanted : Way) (missed v : Ratio) → g < goal → basic g ≡ true → end_missed wanted (column_at I g) ≡ Some missed → IsNumber missed → IsMissed wanted missed v → v ≈ basic_value I ss u g → ((k : ℕ) → k < goal → (w : Way) → basic k ≡ false → Can w (column_at I k) (status_at ss k) → Moves wanted (rate w (u g k)) → ⊥) → IsFarkas I (multipliers_of I u g wanted)
+  pub farkas : (g : ℕ) (wanted : Way) (missed v : Ratio) → g < goal → basic g ≡ true → end_missed wanted (column_at I g) ≡ Some missed → IsNumber missed → IsMissed wanted missed v → v ≈ basic_value I ss u g → ((k : ℕ) → k < goal → (w : Way) → basic k ≡ false → Can w (column_at I k) (status_at ss k) → MovesIn wanted (rate w (u g k)) → ⊥) → IsFarkas I (multipliers_of I u g wanted)
   farkas g wanted missed v h b e p out same off =
       let own = own_missed g wanted missed (column_at I g) e p in
       record {
@@ -267,7 +267,7 @@ module _ (I : Instance) (good : IsInstance I) (zeroed : Bool) (ss : List Status)
       apart Fall missed v h = above_difference missed v h
 
   -- the goal's column, which nothing lets fall
-  module _ (off : (k : ℕ) → k < goal → (w : Way) → basic k ≡ false → Can w (column_at I k) (status_at ss k) → Moves Fall (rate w (u goal k)) → ⊥) where
+  module _ (off : (k : ℕ) → k < goal → (w : Way) → basic k ≡ false → Can w (column_at I k) (status_at ss k) → MovesIn Fall (rate w (u goal k)) → ⊥) where
     not_own : goal < goal → {P : Type 0} → P
     not_own h = absurd (omega arith)
 
@@ -379,7 +379,7 @@ module _ (I : Instance) (good : IsInstance I) (zeroed : Bool) (ss : List Status)
           let closed : bound_sum I ss u ≡ sum start (basic_value I ss u goal) = total-start start (columns I) (λ c. product (u goal c) (rest c)) in
           ≈-sym (≈-sym (sum-≈ (≈-refl p) row ▹ sym closed) ▹ sym opened)
 
-      pub best : zeroed ≡ false → NoneOut I ss u w → ((k : ℕ) → k < goal → (v : Way) → basic k ≡ false → Can v (column_at I k) (status_at ss k) → Moves Fall (rate v (u goal k)) → ⊥) → (b : Ratio) → IsReduced b → IsSame b (bound_sum I ss u) → IsBest I b x (multipliers_of I u goal Fall)
+      pub best : zeroed ≡ false → NoneOut I ss u w → ((k : ℕ) → k < goal → (v : Way) → basic k ≡ false → Can v (column_at I k) (status_at ss k) → MovesIn Fall (rate v (u goal k)) → ⊥) → (b : Ratio) → IsReduced b → IsSame b (bound_sum I ss u) → IsBest I b x (multipliers_of I u goal Fall)
       best z none_out off b reduced same =
           let start = minimising I I.goal.constant in
           let p : IsNumber start = minimising-number I I.goal.constant good.constant in

@@ -59,8 +59,8 @@ module _ (I : Instance) (zeroed : Bool) (t : Terms) (m : Moment) (u : Entries) (
   goal = goal_column I
 
   -- column n moves: a limit doesn't fit; or there is none; or the first limit is its own, and it goes to its other end; or that of a basic column, which leaves the basis at the end that it reached
-  abbrev pub MovesOn : ℕ → Way → Next → Type 0
-  MovesOn n way next =
+  abbrev pub MovesColumn : ℕ → Way → Next → Type 0
+  MovesColumn n way next =
       ((LimitsFit I ss u w n way → ⊥) × (next ≡ Out (TooWide At.Ratio) m.clock))
       ⊎ ((x d : List Ratio) × LimitsFit I ss u w n way × NoLimit I ss u w n way × AreValues I w x × AreValues I (movement ss u n way) d × (next ≡ Out (Endless x d) m.clock))
       ⊎ (LimitsFit I ss u w n way × IsFirstLimit I ss u w n way n × BeginsTurn t m.clock (Unit {0}) (flipped I ss n way) next)
@@ -77,7 +77,7 @@ module _ (I : Instance) (zeroed : Bool) (t : Terms) (m : Moment) (u : Entries) (
   Improves next =
       (NoneHelps I ss u w goal Fall × (zeroed ≡ false) × (BoundFits I ss u → ⊥) × (next ≡ Out (TooWide At.Point) m.clock))
       ⊎ ((b : Ratio) × (x : List Ratio) × NoneHelps I ss u w goal Fall × (zeroed ≡ false → BoundFits I ss u) × IsBoundAt zeroed I ss u b × AreValues I w x × (next ≡ Out (Best b x (multipliers_of I u goal Fall)) m.clock))
-      ⊎ ((n : ℕ) × (way : Way) × IsFirstHelp I ss u w goal Fall n way × MovesOn n way next)
+      ⊎ ((n : ℕ) × (way : Way) × IsFirstHelp I ss u w goal Fall n way × MovesColumn n way next)
 
   -- the first phase where a basic column is out of its ends, else the second
   abbrev pub Chooses : Next → Type 0

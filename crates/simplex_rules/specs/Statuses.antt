@@ -55,8 +55,8 @@ less (Some l) None = true
 less (Some l) (Some u) = is_below l u
 
 -- the ends differ: no lower end is above its upper one in a run, so one that differs from it is below it
-abbrev pub has_room : Range → Bool
-has_room r = less r.lb r.ub
+abbrev pub has_width : Range → Bool
+has_width r = less r.lb r.ub
 
 -- at the lower end where there is one, else at the upper one, else at 0
 abbrev pub first_status : Option Ratio → Option Ratio → Status
@@ -66,7 +66,7 @@ first_status None None = Zero
 
 -- at the upper end; a column whose ends are equal is always at the lower one
 abbrev pub upper_status : Range → Status
-upper_status r = cond (has_room r) Upper Lower
+upper_status r = cond (has_width r) Upper Lower
 
 -- the first basis: the rows are basic, and each variable stands at an end or at 0
 pub record IsFirstBasis (I : Instance) (ss : List Status) : Type 0 where

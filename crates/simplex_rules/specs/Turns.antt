@@ -8,12 +8,12 @@ use Rattle.simplex_rules.specs.declared.columns.Status.{Status}
 use Rattle.simplex_rules.specs.declared.columns.Status.TheVariants.{Basic, Lower, Upper, Zero}
 use Rattle.simplex_rules.specs.declared.columns.Way.{Way}
 use Rattle.simplex_rules.specs.declared.columns.Way.TheVariants.{Rise, Fall}
-use Rattle.simplex_rules.specs.Statuses.{status_at, basic_in, has_room, upper_status}
+use Rattle.simplex_rules.specs.Statuses.{status_at, basic_in, has_width, upper_status}
 
 -- a number above 0 moves up, one below 0 down
-abbrev pub Moves : Way → Ratio → Type 0
-Moves Rise x = pos 0 <ℤ x.num
-Moves Fall x = x.num <ℤ pos 0
+abbrev pub MovesIn : Way → Ratio → Type 0
+MovesIn Rise x = pos 0 <ℤ x.num
+MovesIn Fall x = x.num <ℤ pos 0
 
 -- how fast a column moves while another one rises or falls, of its entry at that one
 abbrev pub rate : Way → Ratio → Ratio
@@ -23,7 +23,7 @@ rate Fall x = negative x
 -- a column that isn't basic can move this way from where it stands: up from the lower end where the ends differ, down from the upper one, both ways from 0
 abbrev pub Can : Way → Range → Status → Type 0
 Can Rise r Basic = ⊥
-Can Rise r Lower = has_room r ≡ true
+Can Rise r Lower = has_width r ≡ true
 Can Rise r Upper = ⊥
 Can Rise r Zero = Unit {0}
 Can Fall r Basic = ⊥
@@ -111,7 +111,7 @@ module _ (I : Instance) (ss : List Status) (u : Entries) (w : Values) where
   pub record Helps (g : ℕ) (wanted : Way) (c : ℕ) (way : Way) : Type 0 where
     pub nonbasic : basic_in ss c ≡ false
     pub can : Can way (column_at I c) (status_at ss c)
-    pub moves : Moves wanted (rate way (u g c))
+    pub moves : MovesIn wanted (rate way (u g c))
 
   -- the least such column
   pub record IsFirstHelp (g : ℕ) (wanted : Way) (c : ℕ) (way : Way) : Type 0 where

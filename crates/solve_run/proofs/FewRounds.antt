@@ -12,7 +12,7 @@ use Rattle.simplex_rules.specs.Ends.{Terms, Clock, End, Clash, Empty, Best, Endl
 use Rattle.simplex_rules.specs.Runs.{looked_once}
 use Rattle.search_rules.specs.Branching.{Case}
 use Rattle.search_rules.specs.Cuts.{Trial, NoCut, WideCut, Cut}
-use Rattle.search_rules.specs.Search.{Found, Outcome, SearchMoment, NextOfSearch, To, Out, early, shown_at, StopsBefore, Branches, MayCut, Takes, TakesPoint, MeetsPoint, GoesFromTrial, Improves, GoesFromBest, GoesFrom, Closes, IsNextInSearch, ComesInSearch, begins, goes_on, Search, IsSearchAnswer, searched, given_up, given_up_after}
+use Rattle.search_rules.specs.Search.{Found, Outcome, SearchMoment, NextOfSearch, To, Out, early, shown_at, StopsBefore, Branches, MayCut, TakesFound, TakesPoint, MeetsPoint, GoesFromTrial, ImprovesBest, GoesFromBest, GoesFrom, ClosesLevel, IsNextInSearch, ComesInSearch, begins, goes_on, Search, IsSearchAnswer, searched, given_up, given_up_after}
 use Rattle.branch_bound.specs.Claims.{said}
 use Rattle.solve_run.proofs.ClaimNodes.{said_certificates}
 
@@ -49,7 +49,7 @@ module _ (P : Problem) (t : Terms) where
   closed_few : (m : SearchMoment) → AreFew m → All HasFew (m.level.shown ++ shown_at m ∷ [])
   closed_few m few = All-push HasFew m.level.shown (shown_at m) few.0 few.1
 
-  closes_few : (m : SearchMoment) (best : Option Found) (gs : List Goal) (next : NextOfSearch) → AreFew m → Closes P t m best gs next → AreFewThen next
+  closes_few : (m : SearchMoment) (best : Option Found) (gs : List Goal) (next : NextOfSearch) → AreFew m → ClosesLevel P t m best gs next → AreFewThen next
   closes_few m None gs next few e = of_next next _ e (All-cons HasFew (shown_at m) [] few.1 (All-nil HasFew))
   closes_few m (Some f) [] next few e = of_next next _ e (closed_few m few)
   closes_few m (Some f) (g ∷ gs) next few (inl (d, end, e)) = of_next next _ e (closed_few m few, omega arith)
@@ -61,7 +61,7 @@ module _ (P : Problem) (t : Terms) where
     branches_few C x (inl (j, k, s, e)) = of_next next _ e few
     branches_few C x (inr (j, s, e)) = of_next next _ e few
 
-    takes_few : (ray : Option (List Ratio)) (f : Found) (ms : List Multiplier) → Takes P t ray rest m f ms next → AreFewThen next
+    takes_few : (ray : Option (List Ratio)) (f : Found) (ms : List Multiplier) → TakesFound P t ray rest m f ms next → AreFewThen next
     takes_few None f ms e = of_next next _ e few
     takes_few (Some r) f ms e = of_next next _ e few.0
 

@@ -103,7 +103,7 @@ pub fn ended_searches_are_told()
 
 /// Law: whatever an answer says, be it a claim, that nothing is known, or why the options or the instance were refused, its document
 /// is read as that answer, and isn't longer than a document may be.
-pub fn answers_are_read_back()
+pub fn result_documents_are_read_back()
     ensures read { (osil osol : List ℕ) (asked : Bool) (r : Report) → AnswersJob osil osol asked r → IsReportText (report_text r) r }
     ensures short { (osil osol : List ℕ) (asked : Bool) (r : Report) → AnswersJob osil osol asked r → length (report_text r) ≤ document_limit }
 {
@@ -119,7 +119,7 @@ pub fn claims_are_accepted()
     ensures accepted { (osil osol : List ℕ) (asked : Bool) (r : Report) (c : Claim) (k : Kind) → AnswersJob osil osol asked r → r.claim ≡ Some c → kind c ≡ Some k → IsAcceptedText osil (report_text r) k }
     ensures is_true { (osil osol : List ℕ) (asked : Bool) (p : Parts) (r : Report) (c : Claim) (k : Kind) → IsInstanceText osil p → AnswersJob osil osol asked r → r.claim ≡ Some c → kind c ≡ Some k → IsTrueOf (problem p) (Means.claim c) }
 {
-    answers_are_read_back();
+    result_documents_are_read_back();
     options_have_names();
     problems_have_numbers();
     answers_are_shown();

@@ -9,7 +9,7 @@ use Rattle.fraction.specs.Frac.{ratio}
 use Rattle.marks.specs.Marks.{size_of}
 use Rattle.dictionary.specs.Lowest.{lowest}
 use Rattle.dictionary.specs.Rows.{changes}
-use Rattle.dictionary.proofs.Filled.{filled_none, filled_next, filled_all}
+use Rattle.dictionary.proofs.FilledColumns.{filled_none, filled_next, filled_all}
 use Rattle.dictionary.proofs.changing.reduce_sums.Goals as goal
 use Rattle.dictionary.proofs.changing.reduce_sums.Goals.{In-Some, After-index}
 

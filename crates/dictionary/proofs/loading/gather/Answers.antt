@@ -6,7 +6,7 @@ use Rattle.evidence.specs.Instance.{entry_at}
 use Rattle.evidence.proofs.Columns.{by_eq, by_lt}
 use Rattle.instance.specs.Program.{entries}
 use Rattle.dictionary.specs.Scratch.{found_at}
-use Rattle.dictionary.proofs.Found.{nonzeros_none}
+use Rattle.dictionary.proofs.FoundValues.{nonzeros_none}
 use Rattle.dictionary.proofs.Nonzeros.{changed_one}
 use Rattle.dictionary.proofs.ProgramRows.{begun_none, next_own, next_other, begins_next, nothing_later}
 use Rattle.dictionary.proofs.loading.gather.Goals as goal

@@ -9,7 +9,7 @@ use Rattle.instance.proofs.Terms.{read}
 use Rattle.marks.specs.Marks.{size_of}
 use Rattle.dictionary.specs.ProgramRows.{times_sign}
 use Rattle.dictionary.proofs.ProgramRows.{times_past}
-use Rattle.dictionary.proofs.Filled.{filled_none, filled_next}
+use Rattle.dictionary.proofs.FilledColumns.{filled_none, filled_next}
 use Rattle.dictionary.proofs.loading.gather_costs.Goals as goal
 
 pub loop-j-init : goal.loop-j-init

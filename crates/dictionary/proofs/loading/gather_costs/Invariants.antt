@@ -2,7 +2,7 @@ use Rattle.std.proofs.Common.{◌≡◌, true, length}
 use Rattle.fraction.specs.Frac.{ratios}
 use Rattle.evidence.specs.Point.{value_at}
 use Rattle.dictionary.specs.ProgramRows.{times_sign}
-use Rattle.dictionary.proofs.Filled.{IsFilled}
+use Rattle.dictionary.proofs.FilledColumns.{IsFilled}
 use Rattle.dictionary.proofs.loading.gather_costs.Given as goal
 
 abbrev pub invariant-loop-j : goal.invariant-loop-j

@@ -13,7 +13,7 @@ use Rattle.dictionary.specs.Rows.{numbers_in, IsRow}
 use Rattle.dictionary.specs.Scratch.{found_at}
 use Rattle.dictionary.specs.Steps.{nonzeros}
 use Rattle.dictionary.proofs.Nonzeros.{nonzeros_most}
-use Rattle.dictionary.proofs.Found.{past_none}
+use Rattle.dictionary.proofs.FoundValues.{past_none}
 use Rattle.dictionary.proofs.PivotRows.{row_there, rows_set, set_numbers, other_numbers}
 use Rattle.dictionary.proofs.ProgramRows.{entries_past, times_past}
 use Rattle.dictionary.proofs.loading.load_rows.Goals as goal

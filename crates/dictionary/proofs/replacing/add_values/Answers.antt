@@ -8,7 +8,7 @@ use Rattle.instance.proofs.Terms.{at_err}
 use Rattle.marks.specs.Marks.{size_of}
 use Rattle.dictionary.specs.Rows.{numbers_of, either_at}
 use Rattle.dictionary.proofs.ChangedSums.{either_below, either_has}
-use Rattle.dictionary.proofs.Filled.{IsSumAt, filled_none, filled_next, filled_all, sum_none, sum_told, spread_value}
+use Rattle.dictionary.proofs.FilledColumns.{IsSumAt, filled_none, filled_next, filled_all, sum_none, sum_told, spread_value}
 use Rattle.dictionary.proofs.replacing.add_values.Goals as goal
 use Rattle.dictionary.proofs.replacing.add_values.Goals.{In-Some, After-value_of-x, After-value_of-y}
 

@@ -10,7 +10,7 @@ use Rattle.dictionary.specs.Rows.{numbers_of, IsRow, IsSpread, HasRoomFor}
 use Rattle.dictionary.specs.Scratch.{found_at}
 use Rattle.dictionary.specs.Steps.{nonzeros}
 use Rattle.dictionary.proofs.ChangedSums.{few_of_both}
-use Rattle.dictionary.proofs.Filled.{found_replaced, found_fit, found_wide, found_room}
+use Rattle.dictionary.proofs.FilledColumns.{found_replaced, found_fit, found_wide, found_room}
 use Rattle.dictionary.proofs.replacing.change_fractions.Goals as goal
 use Rattle.dictionary.proofs.replacing.change_fractions.Goals.{After-index-factor, After-add_values}
 

@@ -8,7 +8,7 @@ use Rattle.instance.proofs.Terms.{read}
 use Rattle.marks.specs.Marks.{size_of, is_marked}
 use Rattle.dictionary.specs.Numbers.{IsOver}
 use Rattle.dictionary.specs.Scratch.{found_at}
-use Rattle.dictionary.proofs.Found.{found_unmarked, begun_over, entry_inside, counted_found, counted_before, room_left, after_others, done_next, rest_next}
+use Rattle.dictionary.proofs.FoundValues.{found_unmarked, begun_over, entry_inside, counted_found, counted_before, room_left, after_others, done_next, rest_next}
 use Rattle.dictionary.proofs.Changes.{counted_to}
 use Rattle.dictionary.proofs.settling.settle.Goals as goal
 use Rattle.dictionary.proofs.settling.settle.Goals.{After-index}

@@ -4,7 +4,7 @@ use Rattle.fraction.specs.Frac.{ratios}
 use Rattle.evidence.specs.Sums.{none}
 use Rattle.evidence.specs.Point.{value_at}
 use Rattle.marks.specs.Marks.{is_marked}
-use Rattle.marks.specs.Walks.{Keeps}
+use Rattle.marks.specs.Walks.{KeepsWord}
 use Rattle.dictionary.specs.Numbers.{IsOver}
 use Rattle.dictionary.specs.Rows.{numbers_of, IsRow}
 use Rattle.dictionary.specs.Scratch.{found_at}
@@ -13,7 +13,7 @@ use Rattle.dictionary.proofs.settling.settle.Given as goal
 
 abbrev pub invariant-loop-c : goal.invariant-loop-c
 invariant-loop-c g l = record {
-  kept : Keeps (is_marked l.scratch.found) l.from l.walk;
+  kept : KeepsWord (is_marked l.scratch.found) l.from l.walk;
   row : (k n : ℕ) → IsRow k n l.fn.row → IsRow k n l.row;
   over : l.row.is_common ≡ true → (c : ℕ) → is_marked l.scratch.found c ≡ true → IsOver (unsigned_abs l.row.denom) (value_at (ratios l.scratch.values.items) c);
   done : (c : ℕ) → c < l.from → numbers_of l.row c ≡ found_at l.scratch c;

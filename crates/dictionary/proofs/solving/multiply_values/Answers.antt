@@ -8,7 +8,7 @@ use Rattle.instance.proofs.Terms.{read, at_err}
 use Rattle.marks.specs.Marks.{is_marked, size_of}
 use Rattle.dictionary.specs.Rows.{numbers_of, entries_at}
 use Rattle.dictionary.proofs.RowForms.{marked_has}
-use Rattle.dictionary.proofs.Filled.{IsProductAt, filled_none, filled_next, filled_all, product_none, product_told}
+use Rattle.dictionary.proofs.FilledColumns.{IsProductAt, filled_none, filled_next, filled_all, product_none, product_told}
 use Rattle.dictionary.proofs.solving.multiply_values.Goals as goal
 use Rattle.dictionary.proofs.solving.multiply_values.Goals.{In-Some, After-index}
 

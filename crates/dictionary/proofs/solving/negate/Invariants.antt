@@ -1,5 +1,5 @@
 use Rattle.std.proofs.Common.{◌≡◌, ℕ, ◌+◌, ◌-◌, ◌*◌, ◌^◌, ◌<◌, ◌≤◌, true, neg_ℤ}
-use Rattle.marks.specs.Walks.{Keeps}
+use Rattle.marks.specs.Walks.{KeepsWord}
 use Rattle.marks.specs.Marks.{is_marked}
 use Rattle.dictionary.specs.Rows.{numbers_of, numer_at, IsRow}
 use Rattle.dictionary.specs.Steps.{nonzeros}
@@ -7,7 +7,7 @@ use Rattle.dictionary.proofs.solving.negate.Given as goal
 
 abbrev pub invariant-loop-c : goal.invariant-loop-c
 invariant-loop-c g l = record {
-  kept : Keeps (is_marked l.row.marks) l.from l.walk;
+  kept : KeepsWord (is_marked l.row.marks) l.from l.walk;
   form : l.row.is_common ≡ true;
   denom : l.row.denom ≡ l.initial.row.denom;
   rows : (k n : ℕ) → IsRow k n l.initial.row → IsRow k n l.row;

@@ -13,7 +13,7 @@ use Rattle.dictionary.specs.Rows.{numbers_of, IsRow, IsSpread, IsSolvedFor}
 use Rattle.dictionary.specs.Scratch.{found_at}
 use Rattle.dictionary.specs.Steps.{nonzeros}
 use Rattle.dictionary.proofs.RowForms.{numbers-number, numbers-reduced, has_inside}
-use Rattle.dictionary.proofs.Found.{found-reduced}
+use Rattle.dictionary.proofs.FoundValues.{found-reduced}
 use Rattle.dictionary.proofs.AsideRows.{solved_few}
 use Rattle.dictionary.proofs.SolvedFractions.{fractions_solved, fractions_fit, fractions_wide}
 use Rattle.dictionary.proofs.solving.solve_fractions.Goals as goal

@@ -9,8 +9,8 @@ use Rattle.job_journal.specs.Compacting.{IsShortOf, is_held, shortened}
 use Rattle.job_journal.specs.CompactFaults.{IsOfLook}
 use Rattle.job_journal.proofs.Calms.{calm_on, calm_start, runs_on}
 use Rattle.job_journal.proofs.Crash.{stands_before}
-use Rattle.job_journal.proofs.Opens.{weaker}
-use Rattle.job_journal.proofs.Copying.{undamaged_is}
+use Rattle.job_journal.proofs.SoleMeanings.{weaker}
+use Rattle.job_journal.proofs.RecordCopies.{undamaged_is}
 use Rattle.job_journal.proofs.Compactions.{both_faults, gives_table, leaves_file, leaves_none, opened_ends, looked_old, looked_undamaged, rest_stand, short_of}
 use Rattle.job_journal.proofs.compacting.compact.Goals as goal
 

@@ -10,8 +10,8 @@ use Rattle.job_journal.specs.Compacting.{is_held, next_behind, shortened, shorte
 use Rattle.job_journal.specs.Copies.{CopiesOne, StopsShort}
 use Rattle.job_journal.proofs.Calms.{calm_then, runs_on}
 use Rattle.job_journal.proofs.Scans.{all_fit_push}
-use Rattle.job_journal.proofs.Drafting.{stands_for_none}
-use Rattle.job_journal.proofs.Copying.{next_push, shortened_push, all_copied, copied_on, none_there}
+use Rattle.job_journal.proofs.ClosedDrafts.{stands_for_none}
+use Rattle.job_journal.proofs.RecordCopies.{next_push, shortened_push, all_copied, copied_on, none_there}
 use Rattle.job_journal.proofs.compacting.copy.Goals as goal
 
 pub loop-after-init : goal.loop-after-init

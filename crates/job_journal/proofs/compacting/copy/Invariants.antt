@@ -8,7 +8,7 @@ use Rattle.job_journal.specs.Opening.{Calm}
 use Rattle.job_journal.specs.Drafts.{IsDrafted}
 use Rattle.job_journal.specs.Compacting.{is_held, shortened}
 use Rattle.job_journal.specs.Copies.{IsCopiedUpTo}
-use Rattle.job_journal.proofs.Copying.{next_after}
+use Rattle.job_journal.proofs.RecordCopies.{next_after}
 use Rattle.job_journal.proofs.compacting.copy.Given as goal
 
 abbrev pub invariant-loop-after : goal.invariant-loop-after

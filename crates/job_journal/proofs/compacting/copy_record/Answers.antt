@@ -5,7 +5,7 @@ use Rattle.effects.specs.Records.{deed_of, body}
 use Rattle.job_journal.specs.Ahead.{IsAhead, held_of}
 use Rattle.job_journal.specs.Compacting.{is_held, shortened_one}
 use Rattle.job_journal.proofs.Aheads.{opened, shut, passes_on, record_there, no_record}
-use Rattle.job_journal.proofs.Copying.{stands_there}
+use Rattle.job_journal.proofs.RecordCopies.{stands_there}
 use Rattle.job_journal.proofs.Compactions.{unwritten_old, unwritten_undamaged, unwritten_copies}
 use Rattle.job_journal.proofs.compacting.copy_record.Goals as goal
 

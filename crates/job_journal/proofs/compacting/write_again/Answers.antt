@@ -6,7 +6,7 @@ use Rattle.job_journal.specs.Journal.{FileStandsFor}
 use Rattle.job_journal.specs.Compacting.{is_held, shortened}
 use Rattle.job_journal.specs.CompactFaults.{IsOfWrite}
 use Rattle.job_journal.proofs.Calms.{calm_start, runs_on}
-use Rattle.job_journal.proofs.Opens.{weaker}
+use Rattle.job_journal.proofs.SoleMeanings.{weaker}
 use Rattle.job_journal.proofs.Compactions.{written_is, unwritten_old, unwritten_undamaged, unwritten_copies}
 use Rattle.job_journal.proofs.compacting.write_again.Goals as goal
 

@@ -1,7 +1,7 @@
 use Rattle.std.proofs.Common.{◌≤◌, List, [], ℕ, length, inl, sym, ◌∙◌, subst}
 use Rattle.job_journal.specs.Journal.{FileStandsFor}
 use Rattle.job_journal.proofs.Calms.{calm_begins}
-use Rattle.job_journal.proofs.Opens.{weaker}
+use Rattle.job_journal.proofs.SoleMeanings.{weaker}
 use Rattle.job_journal.proofs.draft.begin_anew.Goals as goal
 
 pub returns-clause-begun : goal.returns-clause-begun

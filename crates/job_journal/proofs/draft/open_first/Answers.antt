@@ -2,7 +2,7 @@ use Rattle.std.proofs.Common.{◌≡◌, ◌⊎◌, true, ℕ, List, [], ◌∷�
 use Rattle.disks.specs.Disks.{IsWrittenAt, Only}
 use Rattle.disks.proofs.Moments.{started, goes_on}
 use Rattle.job_journal.specs.Journal.{FileStandsFor}
-use Rattle.job_journal.proofs.Drafting.{stands_for_none, first_gate_crash, all_rest, none_rest}
+use Rattle.job_journal.proofs.ClosedDrafts.{stands_for_none, first_gate_crash, all_rest, none_rest}
 use Rattle.job_journal.proofs.draft.open_first.Goals as goal
 
 pub returns-in_err-sync-clause-any_moment : goal.returns-in_err-sync-clause-any_moment

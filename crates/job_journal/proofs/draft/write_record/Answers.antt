@@ -1,7 +1,7 @@
 use Rattle.std.proofs.Common.{◌≡◌, ◌+◌, true, [], length, sym, ◌∙◌, ap, arith}
 use Rattle.disks.proofs.Moments.{started, goes_on}
 use Rattle.job_journal.specs.Journal.{FileStandsFor}
-use Rattle.job_journal.proofs.Drafting.{drafted_length, written_covers, closed_on, stands_for_none, first_drafted, later_drafted}
+use Rattle.job_journal.proofs.ClosedDrafts.{drafted_length, written_covers, closed_on, stands_for_none, first_drafted, later_drafted}
 use Rattle.job_journal.proofs.draft.write_record.Goals as goal
 
 pub write_at-requires : goal.write_at-requires

@@ -2,13 +2,13 @@ use Rattle.std.proofs.Common.{sym, ◌∙◌, subst}
 use Rattle.disks.specs.Disks.{LeavesOnly}
 use Rattle.effects.specs.Records.{Begin}
 use Rattle.job_table.specs.Jobs.{Register}
-use Rattle.job_solver.specs.Openings.{BeginsWith}
+use Rattle.job_solver.specs.Openings.{NumbersBeginWith}
 use Rattle.job_solver.proofs.Openings.{made_on, table_on, no_damage, not_of_file, leaves_file, counted_back, opened_on, not_opened, WasOrBegins}
 use Rattle.job_solver.proofs.opening.open_jobs.Goals as goal
 
 pub returns-in-Ok-begin_with-clause-begins : goal.returns-in-Ok-begin_with-clause-begins
 returns-in-Ok-begin_with-clause-begins g c =
-    subst (λ (r : Register). BeginsWith c.args.first c.begin_with.new.journal.end r.first r.issued) (sym c.into_table-table.ensures.goes_on) c.in-Ok-begin_with.ensures.begins
+    subst (λ (r : Register). NumbersBeginWith c.args.first c.begin_with.new.journal.end r.first r.issued) (sym c.into_table-table.ensures.goes_on) c.in-Ok-begin_with.ensures.begins
 
 pub returns-in-Ok-begin_with-clause-goes_on : goal.returns-in-Ok-begin_with-clause-goes_on
 returns-in-Ok-begin_with-clause-goes_on g c =

@@ -1,4 +1,4 @@
-use Rattle.job_table.proofs.Planning.{plans_so}
+use Rattle.job_table.proofs.MoveEffects.{plans_so}
 use Rattle.job_table.proofs.plans.plans_are_so.Goals as goal
 
 pub returns : goal.returns

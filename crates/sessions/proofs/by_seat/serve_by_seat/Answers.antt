@@ -2,7 +2,7 @@ use Rattle.std.proofs.Common.{◌≡◌, sym, subst}
 use Rattle.desk.specs.SeatHistory.{AskedBy}
 use Rattle.desk.specs.SeatMoves.{told_of}
 use Rattle.os_server.proofs.Rounds.{serves_so}
-use Rattle.job_solver.specs.Runs.{Makes, WakesNobody}
+use Rattle.job_solver.specs.Runs.{MakesDocument, WakesNobody}
 use Rattle.sessions.proofs.by_seat.serve_by_seat.Goals as goal
 
 pub returns-clause-serves : goal.returns-clause-serves
@@ -10,7 +10,7 @@ returns-clause-serves g c =
     let served = c.serve_ends-served in
     let s = served.ensures.serves in
     let back : c.seat-1.given.0 ≡ served.new.mover.seat.now = c.seat-1.given.1 (sym s.0.moves.0) in (
-      serves_so Makes WakesNobody _ _ _ _ _ s.0
+      serves_so MakesDocument WakesNobody _ _ _ _ _ s.0
           (subst (λ seat. AskedBy (g.T.Slotted.legal (told_of c.args.desk.now)) c.args.seat.now.me.0 seat.me.0 s.0.part.entries) (sym back) s.0.moves.2),
       s.1,
     )

@@ -1,6 +1,6 @@
 use Rattle.std.proofs.Common.{◌≡◌, refl}
 use Rattle.os_server.proofs.Rounds.{serves_so}
-use Rattle.job_solver.specs.Runs.{Makes, WakesNobody}
+use Rattle.job_solver.specs.Runs.{MakesDocument, WakesNobody}
 use Rattle.sessions.proofs.OneSeat.{closed_with_all}
 use Rattle.sessions.proofs.stored.serve_stored_alone.Goals as goal
 
@@ -15,5 +15,5 @@ returns-clause-serves g c =
       closed.result.1,
       c.into_disk.ensures,
       closed_with_all c.args.seat.me.0 served.new.seat.me.0 c.requires.fresh own s.0.moves closed.ensures,
-      (serves_so Makes WakesNobody _ (λ made. made ≡ own) _ _ _ s.0 refl, s.1),
+      (serves_so MakesDocument WakesNobody _ (λ made. made ≡ own) _ _ _ s.0 refl, s.1),
     )

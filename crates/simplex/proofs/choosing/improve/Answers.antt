@@ -3,7 +3,7 @@ use Rattle.evidence.specs.Sums.{none}
 use Rattle.bases.specs.Program.{goal_column}
 use Rattle.simplex_rules.specs.declared.columns.Way.TheVariants.{Fall}
 use Rattle.simplex_rules.specs.Turns.{NoneHelps, IsFirstHelp}
-use Rattle.simplex_rules.specs.Runs.{MovesOn, Improves}
+use Rattle.simplex_rules.specs.Runs.{MovesColumn, Improves}
 use Rattle.dictionary.specs.Dict.{entry_of}
 use Rattle.simplex.specs.Tables.{values_in}
 use Rattle.simplex.proofs.PlainPrograms.{plain, plain_ends}
@@ -31,7 +31,7 @@ returns-in-Some-clause-next g c = λ I zeroed t k e size entries starts.
     let help : IsFirstHelp I c.args.statuses.now (entry_of c.args.dict.now) (values_in c.args.values.now) (goal_column I) Fall c.in-Some.n.col c.in-Some.n.way =
     subst (λ j. IsFirstHelp I c.args.statuses.now (entry_of c.args.dict.now) (values_in c.args.values.now) j Fall c.in-Some.n.col c.in-Some.n.way) g (c.in-Some.ensures.help I (values_in c.args.values.now) e) in
     leads_map I c.args.statuses.now (entry_of c.args.dict.now) (values_in c.args.values.now) t k
-    (MovesOn I zeroed t (record { statuses = c.args.statuses.now; clock = k }) (entry_of c.args.dict.now) (values_in c.args.values.now) c.in-Some.n.col c.in-Some.n.way)
+    (MovesColumn I zeroed t (record { statuses = c.args.statuses.now; clock = k }) (entry_of c.args.dict.now) (values_in c.args.values.now) c.in-Some.n.col c.in-Some.n.way)
     (Improves I zeroed t (record { statuses = c.args.statuses.now; clock = k }) (entry_of c.args.dict.now) (values_in c.args.values.now))
     (λ next q. inr (inr (c.in-Some.n.col, c.in-Some.n.way, help, q)))
     c.move_on.result (c.move_on.ensures.next I zeroed t k e size)

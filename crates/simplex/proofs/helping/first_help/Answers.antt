@@ -2,7 +2,7 @@ use Rattle.std.proofs.Common.{◌≡◌, ℕ, ◌<◌, false, length, arith, sym
 use Rattle.evidence.proofs.Columns.{by_eq, by_lt}
 use Rattle.simplex_rules.specs.declared.columns.Way.{Way}
 use Rattle.simplex_rules.specs.Statuses.{status_at}
-use Rattle.simplex_rules.specs.Turns.{Can, Moves, rate}
+use Rattle.simplex_rules.specs.Turns.{Can, MovesIn, rate}
 use Rattle.dictionary.specs.Dict.{entry_of}
 use Rattle.dictionary.specs.Rows.{has_number}
 use Rattle.dictionary.proofs.RowForms.{sized_zero}
@@ -20,11 +20,11 @@ inside : (g : _) (c : In-Some g) → c.in-Some.c < length c.args.ends.now
 inside g c = let i = c.in-Some.ensures.nonbasic.inside in let s = c.requires.statuses in let n = s.count in let e = c.requires.ends in omega arith
 
 -- a column without an entry moves nothing
-stays : (g : _) (c : In-Some g) (k : ℕ) → has_number (entry_of c.args.dict.now c.args.row) k ≡ false → (v : Way) → Moves c.args.wanted (rate v (entry_of c.args.dict.now c.args.row k)) → ⊥
+stays : (g : _) (c : In-Some g) (k : ℕ) → has_number (entry_of c.args.dict.now c.args.row) k ≡ false → (v : Way) → MovesIn c.args.wanted (rate v (entry_of c.args.dict.now c.args.row k)) → ⊥
 stays g c k e v m = moves_nonzero c.args.wanted v (entry_of c.args.dict.now c.args.row k) m (sized_zero (entry_of c.args.dict.now c.args.row k).num (sym e))
 
 -- up to the column at hand none helps
-none_before : (g : _) (c : In-Some g) (k : ℕ) → k < c.in-Some.c → (v : Way) → Can v (ranges_in c.args.ends.now k) (status_at c.args.statuses.now k) → Moves c.args.wanted (rate v (entry_of c.args.dict.now c.args.row k)) → ⊥
+none_before : (g : _) (c : In-Some g) (k : ℕ) → k < c.in-Some.c → (v : Way) → Can v (ranges_in c.args.ends.now k) (status_at c.args.statuses.now k) → MovesIn c.args.wanted (rate v (entry_of c.args.dict.now c.args.row k)) → ⊥
 none_before g c k l v can moves = by_lt k c.loop-c.from (λ h. c.loop-c.invariant.before k h v can moves) (λ h. stays g c k (c.in-Some.ensures.first.first k h l) v moves)
 
 pub bounds-statuses-c : goal.bounds-statuses-c
@@ -61,7 +61,7 @@ loop-c-preserved g c =
     let r = read_range c.args.ends.now c.in-Some.c c.index-ends-c.result c.index-ends-c.is (inside g at') in
     record {
       before = λ k l v can moves. by_eq k c.in-Some.c
-          (λ e. c.in_default-help_at.ensures.help v (subst (λ x. Can v x (status_at c.args.statuses.now c.in-Some.c)) r (subst (λ j. Can v (ranges_in c.args.ends.now j) (status_at c.args.statuses.now j)) e can)) (subst (λ j. Moves c.args.wanted (rate v (entry_of c.args.dict.now c.args.row j))) e moves))
+          (λ e. c.in_default-help_at.ensures.help v (subst (λ x. Can v x (status_at c.args.statuses.now c.in-Some.c)) r (subst (λ j. Can v (ranges_in c.args.ends.now j) (status_at c.args.statuses.now j)) e can)) (subst (λ j. MovesIn c.args.wanted (rate v (entry_of c.args.dict.now c.args.row j))) e moves))
           (λ d. none_before g at' k (omega arith) v can moves);
       counted = let a = c.loop-c.invariant.counted in let b = c.in_default-help_at.ensures.counted in omega arith;
     }

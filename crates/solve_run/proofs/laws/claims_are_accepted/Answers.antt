@@ -8,4 +8,4 @@ pub returns-clause-is_true : goal.returns-clause-is_true
 returns-clause-is_true c = λ osil osol asked p r claim k text answers stands says.
     c.accepted_documents_are_true.ensures.is_true osil _ k p r claim
     (answer_accepted c.options_have_names.ensures c.problems_have_numbers.ensures.numbers c.answers_are_shown.ensures c.written_texts_are_reports.ensures osil osol asked r claim k answers stands says)
-    text (c.answers_are_read_back.ensures.read osil osol asked r answers) stands
+    text (c.result_documents_are_read_back.ensures.read osil osol asked r answers) stands

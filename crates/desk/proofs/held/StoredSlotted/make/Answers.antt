@@ -1,5 +1,5 @@
 use Rattle.job_table.specs.Plans.{planned}
-use Rattle.desk.proofs.Storing.{moves_of, stays_of, lacks_of, may_refuse, has_effect}
+use Rattle.desk.proofs.StoreHistories.{moves_of, stays_of, lacks_of, may_refuse, has_effect}
 use Rattle.desk.proofs.held.StoredSlotted.make.Goals as goal
 
 pub returns-clause-ok : goal.returns-clause-ok

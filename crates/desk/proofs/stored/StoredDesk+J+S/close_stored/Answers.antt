@@ -2,7 +2,7 @@ use Rattle.desk.specs.Legal.{paired}
 use Rattle.desk.specs.SeatMoves.{told_of}
 use Rattle.desk.specs.Stores.{ClosesStored}
 use Rattle.desk.proofs.Entries.{closes_so}
-use Rattle.desk.proofs.Storing.{all_lead, made_lead, stores_so}
+use Rattle.desk.proofs.StoreHistories.{all_lead, made_lead, stores_so}
 use Rattle.desk.proofs.stored.StoredDesk+J+S.close_stored.Goals as goal
 
 pub returns : goal.returns

@@ -1,4 +1,4 @@
-use Rattle.dictionary.proofs.Found.{found_unmarked, found_nothing}
+use Rattle.dictionary.proofs.FoundValues.{found_unmarked, found_nothing}
 use Rattle.dictionary.proofs.scratch.Scratch.clear.Goals as goal
 
 pub returns-clause-none : goal.returns-clause-none

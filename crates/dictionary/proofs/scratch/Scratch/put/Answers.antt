@@ -4,7 +4,7 @@ use Rattle.std.specs.Prelude.{unsigned_abs}
 use Rattle.std.proofs.Math.ListN.{length-set}
 use Rattle.std.proofs.lemmas.Int.{to_z-of_z}
 use Rattle.marks.specs.Marks.{is_marked}
-use Rattle.dictionary.proofs.Found.{found_own, found_other, found_more}
+use Rattle.dictionary.proofs.FoundValues.{found_own, found_other, found_more}
 use Rattle.dictionary.proofs.SpreadRows.{set_other}
 use Rattle.dictionary.proofs.scratch.Scratch.put.Goals as goal
 use Rattle.dictionary.proofs.scratch.Scratch.put.Goals.{After-put}

@@ -1,5 +1,5 @@
 use Rattle.std.proofs.Common.{[], refl}
-use Rattle.job_journal.proofs.Drafting.{drafted_at}
+use Rattle.job_journal.proofs.ClosedDrafts.{drafted_at}
 use Rattle.job_journal.proofs.draft.Draft.begun.Goals as goal
 
 pub returns-in-Ok-clause-drafted : goal.returns-in-Ok-clause-drafted

@@ -2,7 +2,7 @@ use Rattle.std.proofs.Common.{ap}
 use Rattle.effects.specs.Records.{deed_of}
 use Rattle.effects.specs.declared.store.NotStored.TheVariants.{Broken}
 use Rattle.effects.proofs.Faults.{on_none, on_some, as_fault, broken_as}
-use Rattle.job_journal.proofs.Keepings.{keeps_stored, keeps_refused, long_at, longer_at, same_length}
+use Rattle.job_journal.proofs.KeptEffects.{keeps_stored, keeps_refused, long_at, longer_at, same_length}
 use Rattle.job_journal.proofs.journal.JournalStore.put.Goals as goal
 
 pub returns : goal.returns

@@ -9,7 +9,7 @@ use Rattle.job_table.specs.Jobs.{Register}
 use Rattle.job_table.specs.Steps.{LeadsBy, adds, added_reply}
 use Rattle.job_table.specs.Plans.{stage}
 use Rattle.job_table.specs.Remade.{IsAtRest}
-use Rattle.job_table.proofs.Remaking.{AddedAgain, adds_again}
+use Rattle.job_table.proofs.RemadeEffects.{AddedAgain, adds_again}
 use Rattle.job_table.proofs.jobs.Jobs.enter_again.Goals as goal
 
 added : (a b : List ℕ) (w : Phase) (old new : Register) (res x : Result ℕ IssueFault) → w ≡ Waiting a b

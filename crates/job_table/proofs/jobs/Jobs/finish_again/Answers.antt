@@ -4,7 +4,7 @@ use Rattle.effects.specs.Records.{paper_of}
 use Rattle.job_table.specs.declared.job.Phase.TheVariants.{Finished}
 use Rattle.job_table.specs.Jobs.{phase_of}
 use Rattle.job_table.specs.Remade.{takes_document}
-use Rattle.job_table.proofs.Remaking.{no_document, document_after, moves_again}
+use Rattle.job_table.proofs.RemadeEffects.{no_document, document_after, moves_again}
 use Rattle.job_table.proofs.jobs.Jobs.finish_again.Goals as goal
 
 pub returns-then-not-takes_document : goal.returns-then-not-takes_document

@@ -5,7 +5,7 @@ use Rattle.job_table.specs.declared.job.Phase.TheVariants.{Killed}
 use Rattle.job_table.specs.Jobs.{Register, phase_of, is_waiting, is_running}
 use Rattle.job_table.specs.Remade.{takes_farewell}
 use Rattle.job_table.proofs.JobLists.{put_there, held_is}
-use Rattle.job_table.proofs.Remaking.{no_farewell, goes_again}
+use Rattle.job_table.proofs.RemadeEffects.{no_farewell, goes_again}
 use Rattle.job_table.proofs.jobs.Jobs.give_up_again.Goals as goal
 
 pub returns-then-not-takes_farewell : goal.returns-then-not-takes_farewell

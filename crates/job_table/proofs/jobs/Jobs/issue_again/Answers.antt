@@ -5,7 +5,7 @@ use Rattle.job_table.specs.declared.entries.IssueFault.{IssueFault}
 use Rattle.job_table.specs.Jobs.{Register}
 use Rattle.job_table.specs.Steps.{LeadsBy, adds, added_reply}
 use Rattle.job_table.specs.declared.entries.Reply.{Reply}
-use Rattle.job_table.proofs.Remaking.{AddedAgain, adds_again}
+use Rattle.job_table.proofs.RemadeEffects.{AddedAgain, adds_again}
 use Rattle.job_table.proofs.jobs.Jobs.issue_again.Goals as goal
 
 added : (old new : Register) (res x : Result ℕ IssueFault) → ((said : Reply) → LeadsBy (adds Issued said old) old (added_reply (λ _. said) res) new) → res ≡ x

@@ -3,7 +3,7 @@ use Rattle.effects.specs.Records as deeds
 use Rattle.job_table.specs.declared.job.Phase.TheVariants.{Killed}
 use Rattle.job_table.specs.Jobs.{phase_of}
 use Rattle.job_table.specs.Remade.{takes_kill}
-use Rattle.job_table.proofs.Remaking.{no_kill, kill_after, moves_again}
+use Rattle.job_table.proofs.RemadeEffects.{no_kill, kill_after, moves_again}
 use Rattle.job_table.proofs.jobs.Jobs.kill_again.Goals as goal
 
 pub returns-then-not-takes_kill : goal.returns-then-not-takes_kill

@@ -1,4 +1,4 @@
-use Rattle.job_table.proofs.Settling.{settled_still, fewer_run}
+use Rattle.job_table.proofs.SettledTables.{settled_still, fewer_run}
 use Rattle.job_table.proofs.jobs.Jobs.kill_marked.Goals as goal
 
 pub returns-in-Some-clause-still : goal.returns-in-Some-clause-still

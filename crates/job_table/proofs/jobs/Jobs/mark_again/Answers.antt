@@ -1,6 +1,6 @@
 use Rattle.std.proofs.Common.{◌∙◌, ap, sym}
 use Rattle.job_table.specs.Remade.{takes_mark}
-use Rattle.job_table.proofs.Remaking.{no_mark}
+use Rattle.job_table.proofs.RemadeEffects.{no_mark}
 use Rattle.job_table.proofs.jobs.Jobs.mark_again.Goals as goal
 
 pub returns-then-not-takes_mark : goal.returns-then-not-takes_mark

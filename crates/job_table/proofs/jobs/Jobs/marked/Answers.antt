@@ -2,7 +2,7 @@ use Rattle.std.proofs.Common.{◌≡◌, ◌∙◌, ap, sym, subst, true}
 use Rattle.job_table.specs.Jobs.{Register, phase_of}
 use Rattle.job_table.specs.Steps.{is_marked}
 use Rattle.job_table.specs.Remade.{first_marked}
-use Rattle.job_table.proofs.Settling.{marked_first, unmarked_first, first_is_marked, settled_is}
+use Rattle.job_table.proofs.SettledTables.{marked_first, unmarked_first, first_is_marked, settled_is}
 use Rattle.job_table.proofs.jobs.Jobs.marked.Goals as goal
 
 pub loop-number-preserved : goal.loop-number-preserved

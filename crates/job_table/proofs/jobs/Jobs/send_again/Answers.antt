@@ -3,7 +3,7 @@ use Rattle.effects.specs.Records as deeds
 use Rattle.job_table.specs.declared.job.Phase.TheVariants.{Waiting}
 use Rattle.job_table.specs.Jobs.{phase_of}
 use Rattle.job_table.specs.Plans.{takes_texts}
-use Rattle.job_table.proofs.Remaking.{no_texts, texts_after, moves_again}
+use Rattle.job_table.proofs.RemadeEffects.{no_texts, texts_after, moves_again}
 use Rattle.job_table.proofs.jobs.Jobs.send_again.Goals as goal
 
 pub returns-then-not-takes_texts : goal.returns-then-not-takes_texts

@@ -5,7 +5,7 @@ use Rattle.job_table.specs.Jobs.{Register, phase_of}
 use Rattle.job_table.specs.Steps.{moved}
 use Rattle.job_table.specs.Remade.{takes_mark}
 use Rattle.job_table.proofs.JobLists.{put_held, held_is}
-use Rattle.job_table.proofs.Remaking.{marks_again}
+use Rattle.job_table.proofs.RemadeEffects.{marks_again}
 use Rattle.job_table.proofs.jobs.Jobs.set_mark.Goals as goal
 
 held_still : (n : ℕ) (v w : Phase) (r mid : Register) → phase_of n r.jobs ≡ Some w → mid ≡ moved n v r → IsSome (phase_of n mid.jobs)

@@ -1,7 +1,7 @@
 use Rattle.std.proofs.Common.{sym, ◌∙◌, ap, subst}
 use Rattle.job_table.specs.Jobs.{NobodyRuns}
 use Rattle.job_table.specs.Remade.{table_of}
-use Rattle.job_table.proofs.Settling.{goes_on_from, nobody_resumed}
+use Rattle.job_table.proofs.SettledTables.{goes_on_from, nobody_resumed}
 use Rattle.job_table.proofs.remade.Remade.into_table.Goals as goal
 
 pub returns-clause-goes_on : goal.returns-clause-goes_on

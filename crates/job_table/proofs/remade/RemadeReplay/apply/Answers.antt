@@ -1,6 +1,6 @@
 use Rattle.effects.specs.Records as deeds
 use Rattle.effects.specs.Records.{paper_of}
-use Rattle.job_table.proofs.Remaking.{tried_on}
+use Rattle.job_table.proofs.RemadeEffects.{tried_on}
 use Rattle.job_table.proofs.remade.RemadeReplay.apply.Goals as goal
 
 pub invariant_of-self : goal.invariant_of-self

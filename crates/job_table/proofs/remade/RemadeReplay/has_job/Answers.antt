@@ -1,7 +1,7 @@
 use Rattle.std.proofs.Common.{◌∙◌, ap}
 use Rattle.std.specs.Prelude.{is_some}
 use Rattle.effects.specs.Fold.{Ledger, stage_of}
-use Rattle.job_table.proofs.Remaking.{there_seen}
+use Rattle.job_table.proofs.RemadeEffects.{there_seen}
 use Rattle.job_table.proofs.remade.RemadeReplay.has_job.Goals as goal
 
 pub returns : goal.returns

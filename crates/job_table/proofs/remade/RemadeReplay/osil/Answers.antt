@@ -1,7 +1,7 @@
 use Rattle.std.proofs.Common.{◌∙◌, ap}
 use Rattle.effects.specs.Fold.{Ledger, osil_in, stage_of}
 use Rattle.job_table.specs.Remade.{osil_of}
-use Rattle.job_table.proofs.Remaking.{osil_seen}
+use Rattle.job_table.proofs.RemadeEffects.{osil_seen}
 use Rattle.job_table.proofs.remade.RemadeReplay.osil.Goals as goal
 
 pub returns : goal.returns

@@ -1,6 +1,6 @@
 use Rattle.std.proofs.Common.{ℕ, ◌*◌, ◌+◌, ◌/◌, ◌%◌, arith, sym, subst}
 use Rattle.marks.specs.Words.{has_bit}
-use Rattle.marks.specs.Walks.{IsKept}
+use Rattle.marks.specs.Walks.{IsWordKept}
 use Rattle.marks.proofs.Bits.{after, none_after}
 use Rattle.marks.proofs.Walks.{kept_empty, kept_word, without}
 use Rattle.marks.proofs.walk.Walk.read.Goals as goal
@@ -28,4 +28,4 @@ returns-in-Some-clause-kept g c from kept =
     let w = c.args.self.now in
     let words : ℕ → ℕ = g.W.Words.word_at c.args.words.now in
     let k : ℕ = c.in-Some.c in
-    subst (λ n. IsKept (has_bit words) (k + 1) (without n (k % 64)) (64 * (k / 64 + 1))) (sym c.word.ensures) (kept_word words (64 * (w.stop / 64)) k (omega arith) c.in-Some.ensures.first)
+    subst (λ n. IsWordKept (has_bit words) (k + 1) (without n (k % 64)) (64 * (k / 64 + 1))) (sym c.word.ensures) (kept_word words (64 * (w.stop / 64)) k (omega arith) c.in-Some.ensures.first)

@@ -1,5 +1,5 @@
 use Rattle.solve_run.proofs.Acceptance.{answer_read}
-use Rattle.solve_run.proofs.laws.answers_are_read_back.Goals as goal
+use Rattle.solve_run.proofs.laws.result_documents_are_read_back.Goals as goal
 
 pub returns-clause-read : goal.returns-clause-read
 returns-clause-read c = answer_read c.options_have_names.ensures c.problems_have_numbers.ensures.numbers c.answers_are_shown.ensures c.written_texts_are_reports.ensures

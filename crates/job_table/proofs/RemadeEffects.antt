@@ -18,7 +18,7 @@ use Rattle.job_table.specs.Steps.{MoveOutcome, outcome, most_jobs, last_number, 
 use Rattle.job_table.specs.Plans.{stage, seen_as, ledger_of, takes_texts}
 use Rattle.job_table.specs.Remade.{takes_document, takes_kill, takes_mark, takes_farewell, IsAtRest, AllAtRest, IsRemade, Remakes, TriesAgain, osil_of}
 use Rattle.job_table.proofs.JobLists.{put_twice, some_is}
-use Rattle.job_table.proofs.Planning.{moved_seen, forgotten_seen, stage_is}
+use Rattle.job_table.proofs.MoveEffects.{moved_seen, forgotten_seen, stage_is}
 
 -- each row of the effects, by the job's phase
 text_row : (n : ℕ) (a b : List ℕ) (q : Option Phase) (l : Ledger) → fold.sends n a b (option_map stage q) l ≡ (if takes_texts q then Some (fold.moved n (Sent a b) l) else None)

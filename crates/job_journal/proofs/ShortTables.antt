@@ -11,7 +11,7 @@ use Rattle.effects.specs.Fold.{Stage, Given, Sent, Asked, Over, Stopped, Ledger,
 use Rattle.effects.specs.Fold as fold
 use Rattle.job_journal.specs.Opening.{IsAcceptedFor, IsAdmitted, StepsTo, FoldsTo}
 use Rattle.job_journal.specs.Compacting.{is_held, next_behind, shortened_one, shortened}
-use Rattle.job_journal.proofs.Shortening.{dim_entry, dimmed, dim_held, dim_dark, stage_held, stage_dark, moved_held, moved_dark, gone_dark, with_dim}
+use Rattle.job_journal.proofs.ShortHistories.{dim_entry, dimmed, dim_held, dim_dark, stage_held, stage_dark, moved_held, moved_dark, gone_dark, with_dim}
 
 abbrev Entries : Type 0
 Entries = List (ℕ × Stage)
