@@ -8,7 +8,7 @@
 //! What runs a job is a [`Runner`], which looks at a watch that it is given and makes no move itself. What makes the moves is
 //! anyone who may (`job_table::Mover`).
 //!
-//! In every history [`finishes_are_kept`].
+//! In every history each such finish is kept, where its effect is stored ([`finishes_are_kept`]).
 #![tactic(auto)]
 
 mod laws;

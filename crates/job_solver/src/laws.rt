@@ -11,7 +11,7 @@ ghost use Rattle.job_solver.specs.StoredEffects.{AreSoundDeeds, PutsStaySound};
 
 use crate::solver::SolvedJobs;
 use job_table::{documents_are_right, plans_are_so};
-use solve_run::{result_documents_are_read_back, claims_are_accepted};
+use solve_run::{claims_are_accepted, result_documents_are_read_back};
 
 /// Law: each document that is shown in a history of solved jobs, from an empty table on, is proved by what stands before it: a finish
 /// that was kept brought it, and before that finish stand the send or the enter that brought its texts, and, where it says that the

@@ -7,7 +7,8 @@
 //! what the solver says of its answers, which claims the checker accepts and which are true.
 //!
 //! [`open_jobs`] opens the journal of such a table (`job_journal`). Of the documents that it keeps those are accepted that claim
-//! nothing, and those whose claims the checker accepts ([`DocumentSieve`]).
+//! nothing, and those whose claims the checker accepts ([`DocumentSieve`]). [`compact_jobs`] writes it again. What moves put into it
+//! opens again ([`puts_stay_sound`], [`right_documents_are_accepted`]).
 //!
 //! The rules are in `docs/rules/jobs.md` and `docs/rules/runs.md`.
 #![tactic(auto)]

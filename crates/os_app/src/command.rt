@@ -112,8 +112,8 @@ fn documents_are_judged_once()
 /// The status is 0 where all was written and handed on; 1 where what was written says no: `refused`, the document of an error,
 /// `unchecked`, a fault, another status of HTTP, or `false`; 2 where the words are no command and the usage was written; 3
 /// where a read of the input, of a file or of the link failed, or the journal wasn't opened or read; 4 where a write of the output
-/// or of the link did, or of the journal while it was opened, or where the new journal wasn't opened or written or had something in
-/// it; 5 where there was no memory; 6 where the listener failed; 7 where the bytes that came are no reply; 8 where the input ended
+/// or of the link did, or of the journal while it was opened, or where the new journal wasn't opened or written, had something in
+/// it, or would be too long; 5 where there was no memory; 6 where the listener failed; 7 where the bytes that came are no reply; 8 where the input ended
 /// inside a request; and 9 where the journal is damaged, and `damaged at` and the place were written in a line. Where there was no
 /// memory to read the words or to make the text that they ask for, or the journal wasn't opened, nothing is taken and no link is asked
 /// for, and nothing but that line is written.

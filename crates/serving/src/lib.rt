@@ -4,10 +4,12 @@
 //! them back, works off what waits then, and says in a line how many numbers of jobs were given. Its contract is one definition,
 //! `IsServerRun`: the host and the port were listened at with the patience of the [`Setup`], and there is one history of moves of the
 //! table, step by step from the empty one whose numbers begin as the setup says, in which the moves of each link stand under a number
-//! of its own and are its conversation's, those of each worker are its shift's, and no others stand;
+//! of its own and are its conversation's, those of each worker are its shift's or none, and no others stand;
 //! each finish is kept; where a result is shown, the history has a finish before that brought it, for the texts that were sent under
 //! the job, and a result that says that a point is optimal, that none is feasible, or that points have no best value, is accepted by
 //! the checker from the document's own bytes, and is true; and in the table that is left no job waits.
+//!
+//! [`serve_stored`] does so over the table that a journal gave (`IsStoredServerRun`), and gives its disk back.
 //!
 //! How much is served is said by the setup's [`ServeLimits`]. Which way of ending comes when is a table by [`Ending`]
 //! (`specs/Serving.antt`). What the clauses say of the whole service is gone through in `docs/HEADLINE.md`.

@@ -19,6 +19,7 @@ pub struct Ends {
     pub ub: End,
 }
 
+/// Whether the first number is below the second.
 pub fn is_less(x: Frac, y: Frac) -> bool
     ensures { result ≡ is_below (ratio x) (ratio y) }
 {

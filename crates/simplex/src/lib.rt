@@ -14,7 +14,7 @@
 //! anything changes (`choosing`), then made, counted and maybe looked at (`turning`). Each turn forms those values of columns anew
 //! that the last one changed, looks at the columns that are basic, a set of bits, and at one row, and pivots rows in place.
 //!
-//! A run that ends at a best point leaves its last basis: [`Work::entry_at`] and [`Work::side_at`] read it.
+//! A run that ends at a best point leaves its last basis: [`Work::entry_at`] and [`Work::side_at`] (a [`Side`]) read it.
 //!
 //! Only [`Work::for_size`], [`Cuts::of`] and [`Cuts::add`] take memory; a run waits only where its watch does, and it ends, since turns are
 //! limited.
