@@ -21,7 +21,7 @@ mod telling;
 
 pub use document::Document;
 pub use laws::{
-    answers_are_one, result_documents_are_read_back, answers_exclude_each_other, claims_are_accepted,
-    ended_searches_are_told, found_claims_are_refused_for_width_alone,
+    answers_are_one, answers_exclude_each_other, claims_are_accepted, ended_searches_are_told,
+    found_claims_are_refused_for_width_alone, result_documents_are_read_back,
 };
 pub use running::{answer_job, run_job};
