@@ -16,7 +16,7 @@ ghost use Rattle.simplex.specs.Values.{AreResting, AreKnown};
 ghost use Rattle.simplex.specs.Choices.{ChoiceLeadsTo, IsChoiceAllowed};
 
 use crate::bounding::best;
-use crate::ends::{Ends, has_room};
+use crate::ends::{Ends, has_width};
 use crate::finish::{Finish, Move};
 use crate::helping::{entry_at, first_help};
 use crate::limits::{first_limit, rate};
@@ -55,7 +55,7 @@ pub enum Choice {
 fn upper(e: Ends) -> Status
     ensures { result ≡ upper_status (range_of e) }
 {
-    if has_room(e) {
+    if has_width(e) {
         Status::Upper
     } else {
         Status::Lower
