@@ -236,6 +236,22 @@ impl Jobs {
             false
         }
     }
+
+    /// An effect, again.
+    fn make_again(&mut self, alloc: Global, effect: &Effect) -> Result<bool, Memory>
+        ensures { TriesAgain (deed_of effect.now) self.old result self.new }
+    {
+        match effect {
+            Effect::Issue => self.issue_again(),
+            Effect::Send { number, osil, osol } => self.send_again(alloc, *number, osil, osol),
+            Effect::Enter { osil, osol } => self.enter_again(alloc, osil, osol),
+            Effect::Finish { number, document } => self.finish_again(alloc, *number, document),
+            Effect::Killed { number } => Ok(self.kill_again(*number)),
+            Effect::Marked { number } => Ok(self.mark_again(*number)),
+            Effect::GivenUp { number } => Ok(self.give_up_again(*number)),
+            Effect::Begin { first } => Ok(self.begin_again(*first)),
+        }
+    }
 }
 
 /// A table that effects are made in again. Contracts see what they left. Nobody runs its jobs: one that has its texts waits,
@@ -310,20 +326,7 @@ impl<V: Verdicts> Replay for Remade<V> {
     ghost holds = { λ t. t };
 
     fn apply(&mut self, effect: &Effect) -> Result<bool, Memory> {
-        match effect {
-            Effect::Issue => self.jobs.issue_again(),
-            Effect::Send { number, osil, osol } => {
-                self.jobs.send_again(self.alloc, *number, osil, osol)
-            }
-            Effect::Enter { osil, osol } => self.jobs.enter_again(self.alloc, osil, osol),
-            Effect::Finish { number, document } => {
-                self.jobs.finish_again(self.alloc, *number, document)
-            }
-            Effect::Killed { number } => Ok(self.jobs.kill_again(*number)),
-            Effect::Marked { number } => Ok(self.jobs.mark_again(*number)),
-            Effect::GivenUp { number } => Ok(self.jobs.give_up_again(*number)),
-            Effect::Begin { first } => Ok(self.jobs.begin_again(*first)),
-        }
+        self.jobs.make_again(self.alloc, effect)
     }
 
     fn osil(&self, number: u64) -> Option<&[u8]> {
