@@ -1,5 +1,5 @@
 -- Effects that are made again lead where effects lead.
-use Rattle.std.proofs.Common.{◌≡◌, ℕ, ◌+◌, nat_eq, nat_le, nat_lt, Bool, true, false, ◌||◌, if◌then◌else◌, List, [], ◌∷◌, ◌++◌, length, map, Option, Some, None, Result, Ok, Err, IsSome, ◌⊎◌, inl, inr, refl, sym, ◌∙◌, ap, subst}
+use Rattle.std.proofs.Common.{◌≡◌, ℕ, ◌+◌, nat_eq, nat_le, nat_lt, Bool, true, false, ◌||◌, if◌then◌else◌, List, [], ◌∷◌, ◌++◌, length, map, Option, Some, None, Result, Ok, Err, IsSome, refl, sym, ◌∙◌, ap, subst}
 use Rattle.std.specs.Prelude.{is_some}
 use Rattle.std.specs.Option.{option_map}
 use Rattle.std.proofs.lemmas.List.{map-append, length-map}
@@ -13,11 +13,11 @@ use Rattle.job_table.specs.declared.entries.IssueFault.{IssueFault}
 use Rattle.job_table.specs.declared.entries.IssueFault.TheVariants as fault
 use Rattle.job_table.specs.declared.entries.Reply.{Reply}
 use Rattle.job_table.specs.declared.entries.Reply.TheVariants as reply
-use Rattle.job_table.specs.Jobs.{Register, HeldJobs, phase_of, with_phase, without, next_number}
+use Rattle.job_table.specs.Jobs.{Register, HeldJobs, phase_of, with_phase, without, next_number, marked}
 use Rattle.job_table.specs.Steps.{MoveOutcome, outcome, most_jobs, last_number, with_new, moved, forgotten, adds, added_reply, LeadsBy}
 use Rattle.job_table.specs.Plans.{stage, seen_as, ledger_of, takes_texts}
 use Rattle.job_table.specs.Remade.{takes_document, takes_kill, takes_mark, takes_farewell, IsAtRest, AllAtRest, IsRemade, Remakes, TriesAgain, osil_of}
-use Rattle.job_table.proofs.JobLists.{put_twice, some_is}
+use Rattle.job_table.proofs.JobLists.{some_is}
 use Rattle.job_table.proofs.MoveEffects.{moved_seen, forgotten_seen, stage_is}
 
 -- each row of the effects, by the job's phase
@@ -149,17 +149,19 @@ module _ (n : ℕ) (r : Register) where
   pub no_mark : takes_mark Q ≡ false → Remakes (deed.Marked n) r false r
   no_mark refuses = (ap (λ s. fold.marks n s L) (stage_is n r Q refl) ∙ mark_row n Q L refuses, refl)
 
-  -- a job that is marked was put twice
-  pub marks_again : (a b : List ℕ) (v : Phase) (mid new : Register) → mid ≡ moved n v r → new ≡ moved n (Running a b true) mid
-      → (Q ≡ Some (Waiting a b)) ⊎ (Q ≡ Some (Running a b false)) → Remakes (deed.Marked n) r true new
-  marks_again a b v mid new first second from =
-      moves_again (deed.Marked n) n (Running a b true) (Running a b true) r new true
-      (second ∙ ap (moved n (Running a b true)) first ∙ ap (λ (jobs : HeldJobs). record r { jobs = jobs }) (put_twice n v (Running a b true) r.jobs)) refl refl
-      (ap (λ s. fold.marks n s L) (by from)) refl
-    where
-      by : (Q ≡ Some (Waiting a b)) ⊎ (Q ≡ Some (Running a b false)) → fold.stage_of n L ≡ Some (Sent a b)
-      by (inl is) = stage_is n r (Some (Waiting a b)) is
-      by (inr is) = stage_is n r (Some (Running a b false)) is
+  mark_after : (a b : List ℕ) (new : Register) → new ≡ moved n (Running a b true) r → fold.stage_of n L ≡ Some (Sent a b) → Remakes (deed.Marked n) r true new
+  mark_after a b new is sent = moves_again (deed.Marked n) n (Running a b true) (Running a b true) r new true is refl refl (ap (λ s. fold.marks n s L) sent) refl
+
+  -- a job that takes a mark has its texts
+  pub marks_again : (q : Option Phase) (new : Register) → Q ≡ q → takes_mark q ≡ true → ((w : Phase) → q ≡ Some w → new ≡ moved n (marked w) r)
+      → Remakes (deed.Marked n) r true new
+  marks_again (Some (Waiting a b)) new is takes_it leads = mark_after a b new (leads (Waiting a b) refl) (stage_is n r (Some (Waiting a b)) is)
+  marks_again (Some (Running a b false)) new is takes_it leads = mark_after a b new (leads (Running a b false) refl) (stage_is n r (Some (Running a b false)) is)
+  marks_again (Some (Running a b true)) new is takes_it leads = cc
+  marks_again (Some Issued) new is takes_it leads = cc
+  marks_again (Some (Finished d)) new is takes_it leads = cc
+  marks_again (Some Killed) new is takes_it leads = cc
+  marks_again None new is takes_it leads = cc
 
   -- a job that is given up was put before
   pub goes_again : (v : Phase) (mid new : Register) → mid ≡ moved n v r → new ≡ forgotten n mid → takes_farewell Q ≡ true → Remakes (deed.GivenUp n) r true new

@@ -4,12 +4,13 @@ ghost use Rattle.std.specs.Prelude.{◌≡◌, ℕ, List, Option, ◌+◌, ◌-�
 ghost use Rattle.std.specs.Option.{option_copied};
 ghost use Rattle.job_table.specs.declared.entries.Reply.{Reply};
 ghost use Rattle.job_table.specs.declared.entries.Finishing.TheVariants.{Kept};
+ghost use Rattle.job_table.specs.declared.job.Phase.{Phase};
 ghost use Rattle.job_table.specs.declared.job.Phase.TheVariants.{Issued, Running, Finished};
-ghost use Rattle.job_table.specs.Jobs.{Register, beginning, next_number, Rise, Rises, phase_of, with_phase, without, state_of, is_waiting, is_running, states, waiting_jobs, running_jobs, first_waiting, IsFirstWaiting, Below};
-ghost use Rattle.effects.specs.Records.{deed_of};
+ghost use Rattle.job_table.specs.Jobs.{Register, beginning, next_number, Rise, Rises, phase_of, with_phase, without, state_of, is_waiting, is_running, marked, states, waiting_jobs, running_jobs, first_waiting, IsFirstWaiting, Below};
+ghost use Rattle.effects.specs.Records.{Deed, deed_of};
 ghost use Rattle.effects.specs.Stores.{Puts, PutsIf, fault_of};
 ghost use Rattle.job_table.specs.Kept.{KeptBy};
-ghost use Rattle.job_table.specs.Plans.{has_room};
+ghost use Rattle.job_table.specs.Plans.{has_room, finished_of};
 ghost use Rattle.job_table.specs.Remade.{first_marked, settled};
 ghost use Rattle.job_table.specs.Steps.{most_jobs, last_number, most_first, with_new, moved, forgotten, adds, added_reply, LeadsBy, claims, kills, outcome, sends, finishes, is_marked};
 
@@ -78,7 +79,7 @@ fn is_running(phase: &Phase) -> bool
 }
 
 /// Whether a job in that phase runs and was asked to stop.
-fn is_marked(phase: &Phase) -> bool
+pub(crate) fn is_marked(phase: &Phase) -> bool
     ensures { result ≡ is_marked (Some phase.now) }
 {
     matches!(phase, Phase::Running { marked: true, .. })
@@ -226,6 +227,8 @@ impl Jobs {
         ensures end { IfSome result (λ end. (document : Option (List ℕ)) → finishes job.now asked document (phase_of job.now.number self.now.jobs) self.now ≡ outcome (Reply.Finish end) self.now) }
         ensures held { IfNone result (IsSome (phase_of job.now.number self.now.jobs)) }
         ensures none { IfNone result ((document : Option (List ℕ)) → finishes job.now asked document (phase_of job.now.number self.now.jobs) self.now ≡ outcome (Reply.Finish Kept) (moved job.now.number (Finished document) self.now)) }
+        ensures unplanned { IfSome result (λ _. (d : Deed) → finished_of job.now asked (phase_of job.now.number self.now.jobs) d ≡ None) }
+        ensures planned { IfNone result ((d : Deed) → finished_of job.now asked (phase_of job.now.number self.now.jobs) d ≡ Some d) }
     {
         match self.phase(job.number) {
             Some(
@@ -371,25 +374,18 @@ impl Jobs {
         ensures given { first_waiting self.old.jobs ≡ Some result }
         ensures runs { self.new ≡ moved result.number (Running result.osil result.osol false) self.old }
     {
-        match self.put(number, Phase::Issued) {
-            Phase::Waiting { osil, osol } => {
-                let (kept_osil, osil) = osil.split();
-                let (kept_osol, osol) = osol.split();
-                self.put(
-                    number,
-                    Phase::Running {
-                        osil: kept_osil,
-                        osol: kept_osol,
-                        marked: false,
-                    },
-                );
-                Job { number, osil, osol }
-            }
-            Phase::Issued => unreachable!(),
-            Phase::Running { .. } => unreachable!(),
-            Phase::Finished(_) => unreachable!(),
-            Phase::Killed => unreachable!(),
-        }
+        let (osil, osol) = self.put(number, Phase::Issued).into_twins();
+        let (kept_osil, osil) = osil.split();
+        let (kept_osol, osol) = osol.split();
+        self.put(
+            number,
+            Phase::Running {
+                osil: kept_osil,
+                osol: kept_osol,
+                marked: false,
+            },
+        );
+        Job { number, osil, osol }
     }
 
     /// Kills a job that doesn't run yet, marks one that runs, and gives up one that is over.
@@ -397,46 +393,22 @@ impl Jobs {
         ensures { self.new ≡ kills number (phase_of number self.old.jobs) self.old }
     {
         match self.phase(number) {
-            Some(Phase::Issued) => {}
-            Some(Phase::Waiting { .. }) => {}
-            Some(Phase::Running { .. }) => {
-                self.mark(number);
-                return;
+            Some(Phase::Issued | Phase::Waiting { .. }) => {
+                self.put(number, Phase::Killed);
             }
-            Some(Phase::Finished(_)) => {
-                self.forget(number);
-                return;
-            }
-            Some(Phase::Killed) => {
-                self.forget(number);
-                return;
-            }
-            None => return,
+            Some(Phase::Running { .. }) => self.mark(number),
+            Some(Phase::Finished(_) | Phase::Killed) => self.forget(number),
+            None => {}
         }
-        self.put(number, Phase::Killed);
     }
 
-    /// Marks a job that runs.
-    fn mark(&mut self, number: u64)
-        requires { IsSomeAnd (phase_of number self.old.jobs) (λ phase. is_running phase ≡ true) }
-        ensures { self.new ≡ kills number (phase_of number self.old.jobs) self.old }
+    /// Asks a job that is held to stop: one that has its texts runs.
+    pub(crate) fn mark(&mut self, number: u64)
+        requires { IsSome (phase_of number self.old.jobs) }
+        ensures { (phase : Phase) → phase_of number self.old.jobs ≡ Some phase → self.new ≡ moved number (marked phase) self.old }
     {
-        match self.put(number, Phase::Issued) {
-            Phase::Running { osil, osol, .. } => {
-                self.put(
-                    number,
-                    Phase::Running {
-                        osil,
-                        osol,
-                        marked: true,
-                    },
-                );
-            }
-            Phase::Issued => unreachable!(),
-            Phase::Waiting { .. } => unreachable!(),
-            Phase::Finished(_) => unreachable!(),
-            Phase::Killed => unreachable!(),
-        }
+        let phase = self.put(number, Phase::Issued);
+        self.put(number, phase.into_marked());
     }
 
     /// The number of the first job that runs and was asked to stop.

@@ -2,9 +2,9 @@
 
 ghost use Rattle.std.specs.Prelude.{◌≡◌, Some, None, if◌then◌else◌};
 ghost use Rattle.std.specs.Option.{option_map, option_copied};
-ghost use Rattle.effects.specs.Records.{Deed, deed_of, paper_of};
+ghost use Rattle.effects.specs.Records.{deed_of, paper_of};
 ghost use Rattle.effects.specs.Stores.{PutsIf, fault_of};
-ghost use Rattle.job_table.specs.Plans.{planned, has_room, takes_texts, killed_of, finished_of, PlansSo};
+ghost use Rattle.job_table.specs.Plans.{planned, has_room, takes_texts, killed_of, PlansSo};
 ghost use Rattle.job_table.specs.Jobs.{phase_of};
 
 use crate::entries::{TableMove, Verdicts};
@@ -30,35 +30,15 @@ fn killing_of<'a>(number: u64, phase: Option<&Phase>) -> Option<Effect<'a>>
     ensures { option_map deed_of result ≡ killed_of number (option_copied phase.entry) }
 {
     match phase {
-        Some(Phase::Issued) => Some(Effect::Killed { number }),
-        Some(Phase::Waiting { .. }) => Some(Effect::Killed { number }),
+        Some(Phase::Issued | Phase::Waiting { .. }) => Some(Effect::Killed { number }),
         Some(Phase::Running { marked, .. }) => {
             if *marked {
                 return None;
             }
             Some(Effect::Marked { number })
         }
-        Some(Phase::Finished(_)) => Some(Effect::GivenUp { number }),
-        Some(Phase::Killed) => Some(Effect::GivenUp { number }),
+        Some(Phase::Finished(_) | Phase::Killed) => Some(Effect::GivenUp { number }),
         None => None,
-    }
-}
-
-/// Whether a finish of a job in that phase is kept.
-fn is_kept(job: &Job, asked: bool, phase: Option<&Phase>) -> bool
-    ensures { (d : Deed) → finished_of job.now asked (option_copied phase.entry) d ≡ (if result then Some d else None) }
-{
-    match phase {
-        Some(Phase::Running { osil, osol, marked }) => {
-            job.osil.as_slice() == osil.as_slice()
-                && job.osol.as_slice() == osol.as_slice()
-                && !(asked && !*marked)
-        }
-        Some(Phase::Issued) => false,
-        Some(Phase::Waiting { .. }) => false,
-        Some(Phase::Finished(_)) => false,
-        Some(Phase::Killed) => false,
-        None => false,
     }
 }
 
@@ -111,8 +91,10 @@ impl<V: Verdicts> Table<V> {
         ensures { option_map deed_of result ≡ planned (TableMove.Finish job.now asked document.now) self.now }
     {
         let (number, document) = (job.number, document_of(document));
-        let kept = is_kept(job, asked, self.jobs.phase(number));
-        only_if(kept, Effect::Finish { number, document })
+        match self.jobs.unkept(job, asked) {
+            Some(_) => None,
+            None => Some(Effect::Finish { number, document }),
+        }
     }
 
     /// The effect of a kill.
@@ -139,12 +121,8 @@ impl<V: Verdicts> Table<V> {
                 document,
             } => self.plan_finish(job, *asked, document),
             TableMove::Kill { number } => self.plan_kill(*number),
-            TableMove::Claim { .. } => None,
-            TableMove::Look { .. } => None,
-            TableMove::Retrieve { .. } => None,
-            TableMove::Knock => None,
-            TableMove::Enlist => None,
-            TableMove::Leave => None,
+            TableMove::Claim { .. } | TableMove::Look { .. } | TableMove::Retrieve { .. } => None,
+            TableMove::Knock | TableMove::Enlist | TableMove::Leave => None,
         }
     }
 }

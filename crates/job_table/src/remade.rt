@@ -71,12 +71,9 @@ fn takes_kill(phase: Option<&Phase>) -> bool
     ensures { result ≡ takes_kill (option_copied phase.entry) }
 {
     match phase {
-        Some(Phase::Issued) => true,
-        Some(Phase::Waiting { .. }) => true,
+        Some(Phase::Issued | Phase::Waiting { .. }) => true,
         Some(Phase::Running { marked, .. }) => !*marked,
-        Some(Phase::Finished(_)) => false,
-        Some(Phase::Killed) => false,
-        None => false,
+        Some(Phase::Finished(_) | Phase::Killed) | None => false,
     }
 }
 
@@ -87,10 +84,7 @@ fn takes_mark(phase: Option<&Phase>) -> bool
     match phase {
         Some(Phase::Waiting { .. }) => true,
         Some(Phase::Running { marked, .. }) => !*marked,
-        Some(Phase::Issued) => false,
-        Some(Phase::Finished(_)) => false,
-        Some(Phase::Killed) => false,
-        None => false,
+        Some(Phase::Issued | Phase::Finished(_) | Phase::Killed) | None => false,
     }
 }
 
@@ -100,11 +94,8 @@ fn takes_farewell(phase: Option<&Phase>) -> bool
 {
     match phase {
         Some(Phase::Running { marked, .. }) => *marked,
-        Some(Phase::Finished(_)) => true,
-        Some(Phase::Killed) => true,
-        Some(Phase::Issued) => false,
-        Some(Phase::Waiting { .. }) => false,
-        None => false,
+        Some(Phase::Finished(_) | Phase::Killed) => true,
+        Some(Phase::Issued | Phase::Waiting { .. }) | None => false,
     }
 }
 
@@ -115,10 +106,7 @@ fn osil_of(phase: Option<&Phase>) -> Option<&[u8]>
     match phase {
         Some(Phase::Waiting { osil, .. }) => Some(osil.as_slice()),
         Some(Phase::Running { osil, .. }) => Some(osil.as_slice()),
-        Some(Phase::Issued) => None,
-        Some(Phase::Finished(_)) => None,
-        Some(Phase::Killed) => None,
-        None => None,
+        Some(Phase::Issued | Phase::Finished(_) | Phase::Killed) | None => None,
     }
 }
 
@@ -221,30 +209,8 @@ impl Jobs {
         if !takes_mark(self.phase(number)) {
             return false;
         }
-        self.set_mark(number);
+        self.mark(number);
         true
-    }
-
-    /// Marks a job that has its texts: it runs, for effects, and was asked to stop.
-    fn set_mark(&mut self, number: u64)
-        requires { takes_mark (phase_of number self.old.jobs) ≡ true }
-        ensures { Remakes (deeds.Marked number) self.old true self.new }
-    {
-        match self.put(number, Phase::Issued) {
-            Phase::Waiting { osil, osol } => {
-                let (osil, _) = osil.split();
-                let (osol, _) = osol.split();
-                let marked = true;
-                self.put(number, Phase::Running { osil, osol, marked });
-            }
-            Phase::Running { osil, osol, .. } => {
-                let marked = true;
-                self.put(number, Phase::Running { osil, osol, marked });
-            }
-            Phase::Issued => unreachable!(),
-            Phase::Finished(_) => unreachable!(),
-            Phase::Killed => unreachable!(),
-        }
     }
 
     /// A job's record is given up, again.
@@ -268,6 +234,22 @@ impl Jobs {
             true
         } else {
             false
+        }
+    }
+
+    /// An effect, again.
+    fn make_again(&mut self, alloc: Global, effect: &Effect) -> Result<bool, Memory>
+        ensures { TriesAgain (deed_of effect.now) self.old result self.new }
+    {
+        match effect {
+            Effect::Issue => self.issue_again(),
+            Effect::Send { number, osil, osol } => self.send_again(alloc, *number, osil, osol),
+            Effect::Enter { osil, osol } => self.enter_again(alloc, osil, osol),
+            Effect::Finish { number, document } => self.finish_again(alloc, *number, document),
+            Effect::Killed { number } => Ok(self.kill_again(*number)),
+            Effect::Marked { number } => Ok(self.mark_again(*number)),
+            Effect::GivenUp { number } => Ok(self.give_up_again(*number)),
+            Effect::Begin { first } => Ok(self.begin_again(*first)),
         }
     }
 }
@@ -344,20 +326,7 @@ impl<V: Verdicts> Replay for Remade<V> {
     ghost holds = { λ t. t };
 
     fn apply(&mut self, effect: &Effect) -> Result<bool, Memory> {
-        match effect {
-            Effect::Issue => self.jobs.issue_again(),
-            Effect::Send { number, osil, osol } => {
-                self.jobs.send_again(self.alloc, *number, osil, osol)
-            }
-            Effect::Enter { osil, osol } => self.jobs.enter_again(self.alloc, osil, osol),
-            Effect::Finish { number, document } => {
-                self.jobs.finish_again(self.alloc, *number, document)
-            }
-            Effect::Killed { number } => Ok(self.jobs.kill_again(*number)),
-            Effect::Marked { number } => Ok(self.jobs.mark_again(*number)),
-            Effect::GivenUp { number } => Ok(self.jobs.give_up_again(*number)),
-            Effect::Begin { first } => Ok(self.jobs.begin_again(*first)),
-        }
+        self.jobs.make_again(self.alloc, effect)
     }
 
     fn osil(&self, number: u64) -> Option<&[u8]> {

@@ -11,7 +11,7 @@ use crate::entries::{
     Finishing, IssueFault, Killing, Reply, Retrieved, Statistics, TableMove, Verdicts,
 };
 use crate::job::{Job, Phase};
-use crate::jobs::{Jobs, state_of};
+use crate::jobs::{Jobs, is_marked, state_of};
 use crate::texts::{SharedText, Twin};
 use effects::{Effect, NoStore, NotStored, Store};
 use os_io::Memory;
@@ -157,11 +157,7 @@ impl<V: Verdicts> Table<V> {
         ensures { row_of_move (TableMove.Look number) self.now ≡ outcome (Reply.Marked result) self.now }
     {
         match self.jobs.phase(number) {
-            Some(Phase::Running { marked, .. }) => *marked,
-            Some(Phase::Issued) => false,
-            Some(Phase::Waiting { .. }) => false,
-            Some(Phase::Finished(_)) => false,
-            Some(Phase::Killed) => false,
+            Some(phase) => is_marked(phase),
             None => false,
         }
     }
