@@ -6,9 +6,11 @@
 //! that two have in common. Numbers that were passed may be taken in or out meanwhile. Only [`Marks::with_size`] takes memory.
 #![tactic(auto)]
 
+mod bit;
 mod marks;
 mod walk;
 mod words;
 
+pub use bit::{has_bit, keep, take_first};
 pub use marks::Marks;
 pub use walk::Walk;
