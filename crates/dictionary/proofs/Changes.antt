@@ -39,7 +39,7 @@ pub either_true : (a b : Bool) → (a || b) ≡ true → (a ≡ true) ⊎ (b ≡
 either_true true b e = inl refl
 either_true false b e = inr e
 
-entry_count : {L : _} {G : _} (row : Row L G) (k n c : ℕ) → IsRow k n row → unless_zero (numbers_of row c).num 1 ≡ cond (entries_at row c) 1 0
+pub entry_count : {L : _} {G : _} (row : Row L G) (k n c : ℕ) → IsRow k n row → unless_zero (numbers_of row c).num 1 ≡ cond (entries_at row c) 1 0
 entry_count row k n c is = by (entries_at row c) refl
   where
     by : (b : Bool) → entries_at row c ≡ b → unless_zero (numbers_of row c).num 1 ≡ cond (entries_at row c) 1 0
@@ -120,16 +120,18 @@ counted_more a (suc m) f g =
     let e : suc (a + m) ≡ a + suc m = omega arith in
     sym (ap (λ j. nonzeros j f + nonzeros j g) e) ∙ (omega (arith, r))
 
-pub counted_word : {L : _} {G : _} (old by row : Row L G) (s k : ℤ) (w m n : ℕ) → old.is_common ≡ true → IsRow m n old → IsRow m n by → IsChanging old by row s k (64 * w) → nonzeros (64 * (w + 1)) (numbers_of old) + nonzeros (64 * (w + 1)) (numbers_of by) ≡ nonzeros (64 * w) (numbers_of old) + nonzeros (64 * w) (numbers_of by) + count_word (λ i. cond (entries_at row (64 * w + i)) 1 0 + cond (entries_at by (64 * w + i)) 1 0)
+pub counted_words : (f g : ℕ → Ratio) (w : ℕ) (x y : ℕ → Bool) → ((i : ℕ) → unless_zero (f (64 * w + i)).num 1 ≡ cond (x i) 1 0) → ((i : ℕ) → unless_zero (g (64 * w + i)).num 1 ≡ cond (y i) 1 0) → nonzeros (64 * (w + 1)) f + nonzeros (64 * (w + 1)) g ≡ nonzeros (64 * w) f + nonzeros (64 * w) g + count_word (λ i. cond (x i) 1 0 + cond (y i) 1 0)
 unfolding count_word
-counted_word old by row s k w m n common was is i = ap (λ j. nonzeros j (numbers_of old) + nonzeros j (numbers_of by)) (let e : 64 * (w + 1) ≡ 64 * w + 64 = omega arith in e) ∙ upto 64
+counted_words f g w x y hf hg = ap (λ j. nonzeros j f + nonzeros j g) (let e : 64 * (w + 1) ≡ 64 * w + 64 = omega arith in e) ∙ upto 64
   where
-    upto : (z : ℕ) → nonzeros (64 * w + z) (numbers_of old) + nonzeros (64 * w + z) (numbers_of by) ≡ nonzeros (64 * w) (numbers_of old) + nonzeros (64 * w) (numbers_of by) + count_all z (λ j. cond (entries_at row (64 * w + j)) 1 0 + cond (entries_at by (64 * w + j)) 1 0)
-    upto z = counted_more (64 * w) z (numbers_of old) (numbers_of by) ∙ ap (λ x. nonzeros (64 * w) (numbers_of old) + nonzeros (64 * w) (numbers_of by) + x)
-        (all_same z (λ j. unless_zero (numbers_of old (64 * w + j)).num 1 + unless_zero (numbers_of by (64 * w + j)).num 1) (λ j. cond (entries_at row (64 * w + j)) 1 0 + cond (entries_at by (64 * w + j)) 1 0)
-        (λ j l. ap₂ (λ x y. x + y)
-        (ap (λ (x : Ratio). unless_zero x.num 1) (sym (kept_numbers old row common i.form i.denom (64 * w + j) (i.rest (64 * w + j) (omega arith)))) ∙ entry_count row m n (64 * w + j) (i.rows m n was))
-        (entry_count by m n (64 * w + j) is)))
+    upto : (z : ℕ) → nonzeros (64 * w + z) f + nonzeros (64 * w + z) g ≡ nonzeros (64 * w) f + nonzeros (64 * w) g + count_all z (λ i. cond (x i) 1 0 + cond (y i) 1 0)
+    upto z = counted_more (64 * w) z f g ∙ ap (λ n. nonzeros (64 * w) f + nonzeros (64 * w) g + n) (all_same z (λ i. unless_zero (f (64 * w + i)).num 1 + unless_zero (g (64 * w + i)).num 1) (λ i. cond (x i) 1 0 + cond (y i) 1 0) (λ i l. ap₂ (λ p q. p + q) (hf i) (hg i)))
+
+pub counted_word : {L : _} {G : _} (old by row : Row L G) (s k : ℤ) (w m n : ℕ) → old.is_common ≡ true → IsRow m n old → IsRow m n by → IsChanging old by row s k (64 * w) → nonzeros (64 * (w + 1)) (numbers_of old) + nonzeros (64 * (w + 1)) (numbers_of by) ≡ nonzeros (64 * w) (numbers_of old) + nonzeros (64 * w) (numbers_of by) + count_word (λ i. cond (entries_at row (64 * w + i)) 1 0 + cond (entries_at by (64 * w + i)) 1 0)
+counted_word old by row s k w m n common was is i =
+    counted_words (numbers_of old) (numbers_of by) w (λ j. entries_at row (64 * w + j)) (λ j. entries_at by (64 * w + j))
+    (λ j. ap (λ (x : Ratio). unless_zero x.num 1) (sym (kept_numbers old row common i.form i.denom (64 * w + j) (i.rest (64 * w + j) (omega arith)))) ∙ entry_count row m n (64 * w + j) (i.rows m n was))
+    (λ j. entry_count by m n (64 * w + j) is)
 
 -- none stands past the last column
 pub counted_within : {L : _} {G : _} (row : Row L G) (m n j : ℕ) → IsRow m n row → nonzeros j (numbers_of row) ≤ nonzeros m (numbers_of row)

@@ -1,13 +1,14 @@
 -- A row in common form of which a word of columns was changed.
-use Rattle.std.proofs.Common.{◌≡◌, ℕ, ◌+◌, ◌-◌, ◌*◌, ◌/◌, ◌%◌, ◌^◌, ◌<◌, ◌≤◌, ◌≢◌, ◌⊎◌, inl, inr, ◌||◌, ℤ, pos, ◌+ℤ◌, ◌*ℤ◌, Bool, true, false, cond, not, nat_eq, List, length, arith, refl, sym, ◌∙◌, ap, ap₂, subst}
+use Rattle.std.proofs.Common.{◌≡◌, ℕ, ◌+◌, ◌-◌, ◌*◌, ◌/◌, ◌%◌, ◌^◌, ◌<◌, ◌≤◌, ◌≢◌, ◌⊎◌, inl, inr, ◌||◌, ℤ, pos, ◌+ℤ◌, ◌*ℤ◌, Bool, true, false, cond, not, nat_eq, bit_or, List, length, arith, refl, sym, ◌∙◌, ap, ap₂, subst}
 use Rattle.std.specs.Prelude.{unsigned_abs}
 use Rattle.std.proofs.lemmas.Bool.{false≢true, cases_eq}
 use Rattle.rational.specs.Ratio.{Ratio}
 use Rattle.marks.specs.Words.{is_set}
+use Rattle.marks.proofs.Bits.{set_or}
 use Rattle.marks.specs.Marks.{is_marked, size_of}
 use Rattle.dictionary.specs.declared.row.Row.{Row}
 use Rattle.dictionary.specs.Row.{room_of}
-use Rattle.dictionary.specs.Rows.{numbers_of, numer_at, entries_at, IsRow}
+use Rattle.dictionary.specs.Rows.{numbers_of, numer_at, either_at, entries_at, IsRow}
 use Rattle.dictionary.specs.Lowest.{lowest}
 use Rattle.dictionary.specs.Words.{number_at, AreChanged, steps_at, count_word}
 use Rattle.dictionary.proofs.Words.{undone, count_most}
@@ -27,12 +28,34 @@ or_false : (a b : Bool) → b ≡ false → (a || b) ≡ a
 or_false true b e = refl
 or_false false b e = e
 
+-- a column of either row
+pub either_set : {L : _} {G : _} (row by : Row L G) (w own other : ℕ) → ((i : ℕ) → i < 64 → is_set own i ≡ is_marked row.marks (64 * w + i)) → ((i : ℕ) → i < 64 → is_set other i ≡ is_marked by.marks (64 * w + i)) → (i : ℕ) → i < 64 → is_set (bit_or own other) i ≡ either_at row by (64 * w + i)
+either_set row by w own other mine its i l = set_or own other i ∙ ap₂ (λ (x y : Bool). x || y) (mine i l) (its i l)
+
+few : (x y : Bool) → (x ≡ true) ⊎ (y ≡ true) → cond x 1 0 + cond y 1 0 + 1 ≤ 2 * (cond x 1 0 + cond y 1 0)
+few true true h = omega arith
+few true false h = omega arith
+few false true h = omega arith
+few false false (inl h) = absurd (false≢true h)
+few false false (inr h) = absurd (false≢true h)
+
+-- the steps of a word are at most so many for each entry that both rows have at its columns
+pub steps_most : {L : _} {G : _} (row by : Row L G) (w own other columns each t : ℕ) → ((i : ℕ) → i < 64 → is_set own i ≡ is_marked row.marks (64 * w + i)) → ((i : ℕ) → i < 64 → is_set other i ≡ is_marked by.marks (64 * w + i)) → ((i : ℕ) → i < 64 → is_set columns i ≡ true → cond (is_marked row.marks (64 * w + i)) 1 0 + cond (is_marked by.marks (64 * w + i)) 1 0 + each ≤ t * (cond (is_marked row.marks (64 * w + i)) 1 0 + cond (is_marked by.marks (64 * w + i)) 1 0)) → count_word (steps_at each own other (is_set columns)) ≤ t * count_word (λ i. cond (entries_at row (64 * w + i)) 1 0 + cond (entries_at by (64 * w + i)) 1 0)
+unfolding entries_at
+steps_most row by w own other columns each t mine its most = count_most t (steps_at each own other (is_set columns)) (λ i. cond (is_marked row.marks (64 * w + i)) 1 0 + cond (is_marked by.marks (64 * w + i)) 1 0) (λ i l. at i l (is_set columns i) refl)
+  where
+    at : (i : ℕ) → i < 64 → (b : Bool) → is_set columns i ≡ b → steps_at each own other (is_set columns) i ≤ t * (cond (is_marked row.marks (64 * w + i)) 1 0 + cond (is_marked by.marks (64 * w + i)) 1 0)
+    at i l true e =
+        let here = ap (λ (b : Bool). cond b (cond (is_set own i) 1 0 + cond (is_set other i) 1 0 + each) 0) e in
+        let both = ap₂ (λ (x y : Bool). cond x 1 0 + cond y 1 0 + each) (mine i l) (its i l) in
+        subst (λ n. n ≤ t * (cond (is_marked row.marks (64 * w + i)) 1 0 + cond (is_marked by.marks (64 * w + i)) 1 0)) (sym (here ∙ both)) (most i l e)
+    at i l false e = subst (λ n. n ≤ t * (cond (is_marked row.marks (64 * w + i)) 1 0 + cond (is_marked by.marks (64 * w + i)) 1 0)) (sym (ap (λ (b : Bool). cond b (cond (is_set own i) 1 0 + cond (is_set other i) 1 0 + each) 0) e)) (omega arith)
+
 module _ {L : _} {G : _} (row by : Row L G) (xs : List ℤ) (w own other columns entries most : ℕ) (s k : ℤ) (adds : Bool)
     (mine : (i : ℕ) → i < 64 → is_set own i ≡ is_marked row.marks (64 * w + i))
     (its : (i : ℕ) → i < 64 → is_set other i ≡ is_marked by.marks (64 * w + i))
     (which : (i : ℕ) → is_set columns i ≡ cond adds (is_set other i) (is_set own i || is_set other i))
     (a : AreChanged (64 * w) own columns (is_set columns) s k row.numers.items by.numers.items xs row.size entries most) where
-
   -- a column that changes has an entry in one of the rows
   of_either : (i : ℕ) → i < 64 → is_set columns i ≡ true → (is_marked row.marks (64 * w + i) ≡ true) ⊎ (is_marked by.marks (64 * w + i) ≡ true)
   of_either i l h = elim (chosen_true adds (is_set own i) (is_set other i) (sym (which i) ∙ h)) [ inl e ↦ inl (sym (mine i l) ∙ e) | inr e ↦ inr (sym (its i l) ∙ e) ]
@@ -63,7 +86,6 @@ module _ {L : _} {G : _} (row by : Row L G) (xs : List ℤ) (w own other columns
       (marks : (i : ℕ) → i < 64 → is_marked new.marks (64 * w + i) ≡ is_set entries i)
       (others : (c : ℕ) → c / 64 ≢ w → is_marked new.marks c ≡ is_marked row.marks c)
       (room : room_of row.fractions ≤ room_of new.fractions) where
-
     numer : (c : ℕ) → numer_at new c ≡ number_at xs c
     numer c = ap (λ ys. number_at ys c) items
 
@@ -105,21 +127,5 @@ module _ {L : _} {G : _} (row by : Row L G) (xs : List ℤ) (w own other columns
     }
 
   -- a column takes no more steps than twice the entries that both rows have there
-  pub word_steps : count_word (steps_at own other (is_set columns)) ≤ 2 * count_word (λ i. cond (entries_at row (64 * w + i)) 1 0 + cond (entries_at by (64 * w + i)) 1 0)
-  unfolding entries_at
-  word_steps = count_most (steps_at own other (is_set columns)) (λ i. cond (entries_at row (64 * w + i)) 1 0 + cond (entries_at by (64 * w + i)) 1 0) (λ i l. at i l (is_set columns i) refl)
-    where
-      few : (x y : Bool) → (x ≡ true) ⊎ (y ≡ true) → cond x 1 0 + cond y 1 0 + 1 ≤ 2 * (cond x 1 0 + cond y 1 0)
-      few true true h = omega arith
-      few true false h = omega arith
-      few false true h = omega arith
-      few false false (inl h) = absurd (false≢true h)
-      few false false (inr h) = absurd (false≢true h)
-
-      at : (i : ℕ) → i < 64 → (b : Bool) → is_set columns i ≡ b → steps_at own other (is_set columns) i ≤ 2 * (cond (entries_at row (64 * w + i)) 1 0 + cond (entries_at by (64 * w + i)) 1 0)
-      at i l true e =
-          let here = ap (λ (t : Bool). cond t (cond (is_set own i) 1 0 + cond (is_set other i) 1 0 + 1) 0) e in
-          let both = ap₂ (λ (x y : Bool). cond x 1 0 + cond y 1 0 + 1) (mine i l) (its i l) in
-          let most = few (is_marked row.marks (64 * w + i)) (is_marked by.marks (64 * w + i)) (of_either i l e) in
-          subst (λ n. n ≤ 2 * (cond (is_marked row.marks (64 * w + i)) 1 0 + cond (is_marked by.marks (64 * w + i)) 1 0)) (sym (here ∙ both)) most
-      at i l false e = subst (λ n. n ≤ 2 * (cond (is_marked row.marks (64 * w + i)) 1 0 + cond (is_marked by.marks (64 * w + i)) 1 0)) (sym (ap (λ (t : Bool). cond t (cond (is_set own i) 1 0 + cond (is_set other i) 1 0 + 1) 0) e)) (omega arith)
+  pub word_steps : count_word (steps_at 1 own other (is_set columns)) ≤ 2 * count_word (λ i. cond (entries_at row (64 * w + i)) 1 0 + cond (entries_at by (64 * w + i)) 1 0)
+  word_steps = steps_most row by w own other columns 1 2 mine its (λ i l h. few (is_marked row.marks (64 * w + i)) (is_marked by.marks (64 * w + i)) (of_either i l h))

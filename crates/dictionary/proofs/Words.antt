@@ -33,6 +33,9 @@ or_true : (a b : Bool) → b ≡ true → (a || b) ≡ true
 or_true true b e = refl
 or_true false b e = e
 
+pub told_none : (P : ℕ → Type 0) (columns i : ℕ) → passed columns columns i ≡ true → P i
+told_none P columns i h = absurd (false≢true (sym (at_start (is_set columns i)) ∙ h))
+
 -- all are passed where none is left
 pub passed_all : (columns left : ℕ) → left ≡ 0 → passed columns left ≡ is_set columns
 passed_all columns left e = λ j i. at_end (is_set columns i) (is_set left i) (ap (λ n. nat_eq (bit_at n i) 1) e ∙ ap (λ n. nat_eq n 1) (bit_at-zero i)) j
@@ -95,18 +98,24 @@ module _ (first own columns : ℕ) (s k : ℤ) (old by : List ℤ) (size : ℕ) 
         other_number : (c : ℕ) → c ≢ first + b → number_at (set xs (first + b) z) c ≡ number_at xs c
         other_number c d = get_or-set_other xs (first + b) c z (pos 0) d
 
+    -- what is told of each number that was written
+    pub told_next : (P : ℕ → ℤ → Type 0) (xs : List ℤ) (z : ℤ) → first + b < length xs → P b z → ((i : ℕ) → i < 64 → passed columns left i ≡ true → P i (number_at xs (first + i))) → (i : ℕ) → i < 64 → passed columns left' i ≡ true → P i (number_at (set xs (first + b) z) (first + i))
+    told_next P xs z inside own_told told i l h = by_eq i b
+        (λ e. subst (λ j. P j (number_at (set xs (first + b) z) (first + j))) (sym e) (subst (P b) (sym (get_or-set_same xs (first + b) z (pos 0) inside)) own_told))
+        (λ d. subst (P i) (sym (get_or-set_other xs (first + b) (first + i) z (pos 0) (λ e. d (omega arith)))) (told i l (sym (same i l d) ∙ h)))
+
     -- and its steps
-    pub steps_next : (other : ℕ) → count_word (steps_at own other (passed columns left')) ≡ count_word (steps_at own other (passed columns left)) + (cond (is_set own b) 1 0 + cond (is_set other b) 1 0 + 1)
+    pub steps_next : (each other : ℕ) → count_word (steps_at each own other (passed columns left')) ≡ count_word (steps_at each own other (passed columns left)) + (cond (is_set own b) 1 0 + cond (is_set other b) 1 0 + each)
     unfolding count_word
-    steps_next other = upto 64 low (λ i l. l)
+    steps_next each other = upto 64 low (λ i l. l)
       where
-        upto : (n : ℕ) → b < n → ((i : ℕ) → i < n → i < 64) → count_all n (steps_at own other (passed columns left')) ≡ count_all n (steps_at own other (passed columns left)) + (cond (is_set own b) 1 0 + cond (is_set other b) 1 0 + 1)
+        upto : (n : ℕ) → b < n → ((i : ℕ) → i < n → i < 64) → count_all n (steps_at each own other (passed columns left')) ≡ count_all n (steps_at each own other (passed columns left)) + (cond (is_set own b) 1 0 + cond (is_set other b) 1 0 + each)
         upto n inside within =
-            let f : ℕ → ℕ = steps_at own other (passed columns left) in
-            let g : ℕ → ℕ = steps_at own other (passed columns left') in
-            let zero : f b ≡ 0 = ap (λ (t : Bool). cond t (cond (is_set own b) 1 0 + cond (is_set other b) 1 0 + 1) 0) before in
-            let here : g b ≡ cond (is_set own b) 1 0 + cond (is_set other b) 1 0 + 1 = ap (λ (t : Bool). cond t (cond (is_set own b) 1 0 + cond (is_set other b) 1 0 + 1) 0) now in
-            let alike = all_same n (left_out b g) f (λ c l. by_eq c b (λ e. left_own b g c e ∙ sym zero ∙ ap f (sym e)) (λ d. left_other b g c d ∙ ap (λ (t : Bool). cond t (cond (is_set own c) 1 0 + cond (is_set other c) 1 0 + 1) 0) (same c (within c l) d))) in
+            let f : ℕ → ℕ = steps_at each own other (passed columns left) in
+            let g : ℕ → ℕ = steps_at each own other (passed columns left') in
+            let zero : f b ≡ 0 = ap (λ (t : Bool). cond t (cond (is_set own b) 1 0 + cond (is_set other b) 1 0 + each) 0) before in
+            let here : g b ≡ cond (is_set own b) 1 0 + cond (is_set other b) 1 0 + each = ap (λ (t : Bool). cond t (cond (is_set own b) 1 0 + cond (is_set other b) 1 0 + each) 0) now in
+            let alike = all_same n (left_out b g) f (λ c l. by_eq c b (λ e. left_own b g c e ∙ sym zero ∙ ap f (sym e)) (λ d. left_other b g c d ∙ ap (λ (t : Bool). cond t (cond (is_set own c) 1 0 + cond (is_set other c) 1 0 + each) 0) (same c (within c l) d))) in
             let all = taken_out n b g inside in
             all ∙ ap (λ x. x + g b) alike ∙ ap (λ x. count_all n f + x) here
 
@@ -121,14 +130,13 @@ count_none f z = by 64
     by zero = refl
     by (suc n) = ap₂ (λ x y. x + y) (by n) (z n)
 
-pub none_yet : (own other columns i : ℕ) → steps_at own other (passed columns columns) i ≡ 0
-none_yet own other columns i = ap (λ (t : Bool). cond t (cond (is_set own i) 1 0 + cond (is_set other i) 1 0 + 1) 0) (at_start (is_set columns i))
+pub none_yet : (each own other columns i : ℕ) → steps_at each own other (passed columns columns) i ≡ 0
+none_yet each own other columns i = ap (λ (t : Bool). cond t (cond (is_set own i) 1 0 + cond (is_set other i) 1 0 + each) 0) (at_start (is_set columns i))
 
--- no column that changes takes more steps than twice the entries that both rows have there
-pub count_most : (f g : ℕ → ℕ) → ((i : ℕ) → i < 64 → f i ≤ 2 * g i) → count_word f ≤ 2 * count_word g
+pub count_most : (t : ℕ) (f g : ℕ → ℕ) → ((i : ℕ) → i < 64 → f i ≤ t * g i) → count_word f ≤ t * count_word g
 unfolding count_word
-count_most f g h = by 64 (λ i l. l)
+count_most t f g h = by 64 (λ i l. l)
   where
-    by : (n : ℕ) → ((i : ℕ) → i < n → i < 64) → count_all n f ≤ 2 * count_all n g
+    by : (n : ℕ) → ((i : ℕ) → i < n → i < 64) → count_all n f ≤ t * count_all n g
     by zero w = omega arith
-    by (suc n) w = let r = by n (λ i l. w i (omega arith)) in let e = h n (w n (omega arith)) in omega (arith, r, e)
+    by (suc n) w = let r = by n (λ i l. w i (omega arith)) in let e = h n (w n (omega arith)) in let d : t * (count_all n g + g n) ≡ t * count_all n g + t * g n = omega arith in omega (arith, r, e, d)

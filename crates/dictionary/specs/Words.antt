@@ -19,9 +19,9 @@ pub record AreChanged (first own columns : ℕ) (done : ℕ → Bool) (s k : ℤ
   pub more : size ≤ most
   pub small : most < 2 ^ 63
 
--- the steps of a column: both rows' numbers where they have an entry, and what is written
-abbrev pub steps_at : ℕ → ℕ → (ℕ → Bool) → ℕ → ℕ
-steps_at own other done i = cond (done i) (cond (is_set own i) 1 0 + cond (is_set other i) 1 0 + 1) 0
+-- the steps of a column: both rows' numbers where they have an entry, and those that each takes beside
+abbrev pub steps_at : ℕ → ℕ → ℕ → (ℕ → Bool) → ℕ → ℕ
+steps_at each own other done i = cond (done i) (cond (is_set own i) 1 0 + cond (is_set other i) 1 0 + each) 0
 
 -- the sum over a word's columns
 unfoldable pub count_word : (ℕ → ℕ) → ℕ

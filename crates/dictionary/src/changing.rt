@@ -125,7 +125,7 @@ fn change_word<L: Ledger>(
     requires small { (i : ℕ) → i < 64 → is_set word.columns i ≡ true → unsigned_abs (slice_index_or numers.old (word.first + i) (pos 0)) * unsigned_abs parts.scale + unsigned_abs (slice_index_or by.now (word.first + i) (pos 0)) * unsigned_abs parts.factor < 2 ^ 60 }
     requires size { size < 2 ^ 63 }
     ensures changed { AreChanged word.first word.own word.columns (is_set word.columns) parts.scale parts.factor numers.old by.now numers.new size result.entries result.size }
-    ensures cost { steps.new ≡ steps.old + count_word (steps_at word.own word.other (is_set word.columns)) }
+    ensures cost { steps.new ≡ steps.old + count_word (steps_at 1 word.own word.other (is_set word.columns)) }
 {
     let mut left = word.columns;
     let mut entries = word.own | word.columns;
@@ -269,6 +269,38 @@ fn common(a: u64, b: u64) -> u64
     }
 }
 
+/// Writes the sums of both rows' numbers at a word's columns, each times its part. What may divide these too.
+#[inline(always)]
+fn sum_word<L: Ledger>(
+    numers: &[i64],
+    by: &[i64],
+    word: Word,
+    parts: Parts,
+    all: Content,
+    sums: &mut [i128],
+    steps: &mut Steps<L>,
+) -> Content
+    requires inside { (i : ℕ) → i < 64 → is_set word.columns i ≡ true → (word.first + i < length numers.now) × (word.first + i < length by.now) × (word.first + i < length sums.old) }
+    requires x { (c : ℕ) → unsigned_abs (slice_index_or numers.now c (pos 0)) < 2 ^ 63 }
+    requires y { (c : ℕ) → unsigned_abs (slice_index_or by.now c (pos 0)) < 2 ^ 63 }
+    ensures sums { (i : ℕ) → i < 64 → is_set word.columns i ≡ true → slice_index_or sums.new (word.first + i) (pos 0) ≡ slice_index_or numers.now (word.first + i) (pos 0) *ℤ parts.scale +ℤ slice_index_or by.now (word.first + i) (pos 0) *ℤ parts.factor }
+    ensures before { (c : ℕ) → c < word.first → slice_index_or sums.new c (pos 0) ≡ slice_index_or sums.old c (pos 0) }
+    ensures cost { steps.new ≡ steps.old + count_word (steps_at 0 word.own word.other (is_set word.columns)) }
+{
+    let mut left = word.columns;
+    let mut all = all;
+    while left != 0 {
+        let i = take_first(&mut left);
+        let col = word.first + i as usize;
+        let x = read(numers, col, has_bit(word.own, i), steps);
+        let y = read(by, col, has_bit(word.other, i), steps);
+        let sum = wide_sum(x, y, parts);
+        sums[col] = sum;
+        all = all.with(sum);
+    }
+    all
+}
+
 /// Writes the sums of both rows' numbers, each times its part. What may divide them all, and divides the row's denominator.
 fn write_sums<L: Ledger>(
     row: &Row<L>,
@@ -283,15 +315,24 @@ fn write_sums<L: Ledger>(
     ensures counted { steps.old ≤ steps.new }
 {
     let mut all = Content::of(row.denom.unsigned_abs());
-    let mut walk = Walk::new();
-    let mut from = 0;
-    while let Some(c) = row.marks.next_of_either(&by.marks, &mut walk, from) {
-        let x = row.read(c, steps);
-        let y = by.read(c, steps);
-        let sum = wide_sum(x, y, parts);
-        sums[c as usize] = sum;
-        all = all.with(sum);
-        from = c + 1;
+    for w in 0..row.marks.words() {
+        let own = row.marks.word(w);
+        let other = by.marks.word(w);
+        let word = Word {
+            first: 64 * w,
+            own,
+            other,
+            columns: own | other,
+        };
+        all = sum_word(
+            row.numers.as_slice(),
+            by.numers.as_slice(),
+            word,
+            parts,
+            all,
+            sums,
+            steps,
+        );
     }
     all
 }

@@ -15,7 +15,7 @@ loop-left-init g c =
     record {
       left = λ i l h. h;
       changed = changed_none w.first w.own w.columns c.args.parts.scale c.args.parts.factor c.args.numers.now c.args.by.now c.args.size c.requires.size;
-      cost = let z = count_none _ (none_yet w.own w.other w.columns) in omega arith;
+      cost = let z = count_none _ (none_yet 1 w.own w.other w.columns) in omega arith;
     }
 
 -- what was read are the row's number before, and the other one's
@@ -55,7 +55,7 @@ loop-left-preserved g c =
       left = λ j l h. by_eq j b (λ e. absurd (false≢true (sym t.gone ∙ ap (is_set c.take_first-i.new.word) (sym e) ∙ h))) (λ d. i.left j l (sym (t.others j l d) ∙ h));
       changed = subst (λ n. AreChanged w.first w.own w.columns (passed w.columns c.take_first-i.new.word) s k c.args.numers.now c.args.by.now (slice_set c.loop-left.numers (w.first + b) (to_z w64 (of_z w64 c.small_sum-number.result))) c.args.size c.keep-entries.result (bit_or c.loop-left.size n)) (sym size) (simp to_z-of_z next);
       cost =
-          let more = steps_next w.first w.own w.columns s k c.args.numers.now c.args.by.now c.args.size c.loop-left.left c.take_first-i.new.word b t.below column t.own t.gone t.others w.other in
+          let more = steps_next w.first w.own w.columns s k c.args.numers.now c.args.by.now c.args.size c.loop-left.left c.take_first-i.new.word b t.below column t.own t.gone t.others 1 w.other in
           let p = stepped c.has_bit.result (is_set w.own b) c.read-x.new.steps c.loop-left.steps c.has_bit.ensures c.read-x.ensures.cost in
           let q = stepped c.has_bit-in-loop-left.result (is_set w.other b) c.read-y.new.steps c.read-x.new.steps c.has_bit-in-loop-left.ensures c.read-y.ensures.cost in
           let r = c.tick.ensures in
