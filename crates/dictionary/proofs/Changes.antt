@@ -5,7 +5,7 @@ use Rattle.std.proofs.Math.Nat.{mul-pos}
 use Rattle.std.proofs.Math.IntN.{zero-*ℤ}
 use Rattle.std.proofs.lemmas.Bool.{false≢true}
 use Rattle.std.proofs.lemmas.Int.{ints}
-use Rattle.evidence.proofs.Columns.{by_eq, by_lt}
+use Rattle.evidence.proofs.Columns.{by_lt}
 use Rattle.rational.specs.Ratio.{Ratio, sum, product, IsNumber, IsSame}
 use Rattle.rational.specs.Width.{IsReduced}
 use Rattle.rational.proofs.Scaling.{same_multiple, IsSame-trans}
@@ -17,8 +17,6 @@ use Rattle.evidence.proofs.Fits.{reduced_same, sums_same}
 use Rattle.common_rows.specs.Row.{over}
 use Rattle.common_rows.proofs.Fitting.{term_fits}
 use Rattle.common_rows.proofs.Accumulators.{begun_fits, factored_fits}
-use Rattle.marks.specs.Marks.{size_of}
-use Rattle.marks.proofs.Bits.{past_marks}
 use Rattle.dictionary.specs.Lowest.{lowest}
 use Rattle.dictionary.proofs.Lowest.{lowest-reduced, lowest-same, lowest-≈, replaced}
 use Rattle.dictionary.specs.declared.row.Row.{Row}
@@ -106,12 +104,6 @@ changing_next old by row new s k w i form denom rows changed others = record {
   rest = λ c l. others c (λ e. omega arith) ∙ i.rest c (omega arith);
 }
 
--- no column past the last word changes
-pub changing_all : {L : _} {G : _} (old by row : Row L G) (s k : ℤ) (m n : ℕ) → IsRow m n old → IsRow m n by → IsChanging old by row s k (size_of by.marks) → (c : ℕ) → numer_at row c ≡ numer_at old c *ℤ s +ℤ numer_at by c *ℤ k
-changing_all old by row s k m n was is i c = by_lt c (size_of by.marks)
-    (λ h. i.done c h)
-    (λ h. let e = was.columns in let f = is.columns in let x = was.empty c (past_marks old.marks c (omega arith)) in i.rest c h ∙ unchanged (numer_at old c) (numer_at by c) s k x (is.empty c (past_marks by.marks c h)))
-
 -- the entries of both rows, word by word
 pub counted_more : (a m : ℕ) (f g : ℕ → Ratio) → nonzeros (a + m) f + nonzeros (a + m) g ≡ nonzeros a f + nonzeros a g + count_all m (λ i. unless_zero (f (a + i)).num 1 + unless_zero (g (a + i)).num 1)
 counted_more a zero f g = let e : a + 0 ≡ a = omega arith in ap (λ j. nonzeros j f + nonzeros j g) e ∙ (omega arith)
@@ -148,16 +140,6 @@ counted_within row m n j is = by_lt j m
         by : (b : Bool) → entries_at row c ≡ b → (numbers_of row c).num ≡ pos 0
         by true e = let h = has_inside row m n is c (marked_has row m n is c e) in absurd (omega arith)
         by false e = unmarked_none row m n is c e
-
--- small numbers have small sums
-pub small_parts : (x y a b u v : ℕ) → x ≤ a → y ≤ b → a * u + b * v < 2 ^ 60 → x * u + y * v < 2 ^ 60
-small_parts x y a b u v hx hy h =
-    let l = mul_le x a u hx in
-    let r = mul_le y b v hy in
-    omega arith
-  where
-    mul_le : (p q t : ℕ) → p ≤ q → p * t ≤ q * t
-    mul_le p q t l = let e : p + (q - p) ≡ q = omega arith in let f : (p + (q - p)) * t ≡ p * t + (q - p) * t = omega arith in let g = ap (λ j. j * t) e in omega arith
 
 -- a factor may be written in another form
 zero_same : (x y : Ratio) → IsNumber x → IsSame x y → x.num ≡ pos 0 → y.num ≡ pos 0

@@ -1,5 +1,5 @@
 //! Rows of numbers over one denominator, which another one comes into.
-ghost use Rattle.std.specs.Prelude.{◌≡◌, ◌≢◌, ℕ, ◌+◌, ◌*◌, ◌/◌, ◌^◌, ◌||◌, ◌<◌, ◌≤◌, pos, ◌+ℤ◌, ◌*ℤ◌, ◌<ℤ◌, true, false, cond, length, slice_index_or, unsigned_abs, IfSome, MatchOption};
+ghost use Rattle.std.specs.Prelude.{◌≡◌, ◌≢◌, ℕ, ◌+◌, ◌*◌, ◌/◌, ◌^◌, ◌||◌, ◌<◌, ◌≤◌, pos, ◌+ℤ◌, ◌*ℤ◌, ◌<ℤ◌, true, false, cond, length, slice_index_or, unsigned_abs, IfSome};
 ghost use Rattle.rational.specs.Ratio.{IsSame};
 ghost use Rattle.rational.specs.Width.{most};
 ghost use Rattle.evidence.specs.Sums.{none};

@@ -1,7 +1,5 @@
-use Rattle.std.proofs.Common.{◌≡◌, ℕ, ℤ, ◌+◌, ◌*◌, arith, subst}
-use Rattle.marks.specs.Marks.{size_of}
-use Rattle.dictionary.specs.Rows.{numbers_of}
-use Rattle.dictionary.proofs.Changes.{IsChanging, changing_none, changing_next, changing_all, counted_word, counted_within, small_parts}
+use Rattle.std.proofs.Common.{◌*◌, arith}
+use Rattle.dictionary.proofs.Changes.{changing_none, changing_next, counted_word, counted_within}
 use Rattle.dictionary.proofs.changing.change_numbers.Goals as goal
 
 pub loop-w-init : goal.loop-w-init

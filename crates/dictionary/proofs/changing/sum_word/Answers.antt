@@ -6,7 +6,7 @@ use Rattle.std.proofs.lemmas.Int.{to_z-of_z}
 use Rattle.evidence.proofs.Columns.{by_eq}
 use Rattle.marks.specs.Words.{is_set}
 use Rattle.dictionary.specs.Words.{number_at}
-use Rattle.dictionary.proofs.Words.{passed, passed_all, told_none, told_next, stepped, steps_next, count_none, none_yet}
+use Rattle.dictionary.proofs.Words.{passed_all, told_none, told_next, stepped, steps_next, count_none, none_yet}
 use Rattle.dictionary.proofs.changing.sum_word.Goals as goal
 
 pub loop-left-init : goal.loop-left-init

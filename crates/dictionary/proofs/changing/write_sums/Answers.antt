@@ -1,4 +1,4 @@
-use Rattle.std.proofs.Common.{◌≡◌, ℕ, ℤ, ◌+◌, ◌-◌, ◌*◌, ◌<◌, ◌||◌, ◌+ℤ◌, ◌*ℤ◌, Bool, true, bit_or, FitsSigned, w64, arith, rules, sym, ◌∙◌, ap, ap₂, subst}
+use Rattle.std.proofs.Common.{◌≡◌, ℕ, ℤ, ◌+◌, ◌-◌, ◌*◌, ◌<◌, ◌||◌, ◌+ℤ◌, ◌*ℤ◌, Bool, bit_or, FitsSigned, w64, arith, rules, sym, ◌∙◌, ap, ap₂, subst}
 use Rattle.std.proofs.lemmas.Bool.{false≢true}
 use Rattle.std.proofs.lemmas.Int.{to_z-of_z}
 use Rattle.evidence.proofs.Columns.{by_lt}
