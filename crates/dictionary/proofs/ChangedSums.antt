@@ -1,17 +1,14 @@
 -- Sums of two rows' numbers, and the rows that they make.
-use Rattle.std.proofs.Common.{◌≡◌, ℕ, zero, suc, ◌+◌, ◌*◌, ◌<◌, ◌≤◌, ◌^◌, ◌⊎◌, inl, inr, ℤ, pos, negsuc, ◌+ℤ◌, ◌*ℤ◌, ◌<ℤ◌, Bool, true, false, cond, List, length, get_or, set, get_or-set_same, get_or-set_other, arith, refl, sym, ◌∙◌, ap, subst}
+use Rattle.std.proofs.Common.{◌≡◌, ℕ, zero, suc, ◌+◌, ◌*◌, ◌<◌, ◌≤◌, ◌^◌, ◌⊎◌, inl, inr, ℤ, pos, negsuc, ◌+ℤ◌, ◌*ℤ◌, ◌<ℤ◌, Bool, true, false, cond, List, arith, refl, sym, ◌∙◌, ap, subst}
 use Rattle.std.specs.Prelude.{unsigned_abs, slice_index_or}
 use Rattle.std.proofs.Math.IntN.{zero-*ℤ, *ℤ_comm}
-use Rattle.std.proofs.lemmas.Bool.{false≢true}
 use Rattle.std.proofs.lemmas.Int.{ints, unsigned_abs-mul}
 use Rattle.rational.specs.Ratio.{Ratio, IsSame}
 use Rattle.rational.specs.Width.{most}
 use Rattle.evidence.specs.Sums.{none}
 use Rattle.evidence.specs.Width.{TermFits}
-use Rattle.evidence.proofs.Columns.{by_eq, by_lt}
 use Rattle.common_rows.specs.Row.{over}
 use Rattle.marks.specs.Marks.{is_marked}
-use Rattle.marks.specs.Words.{IsFirst}
 use Rattle.dictionary.specs.declared.row.Row.{Row}
 use Rattle.dictionary.specs.Lowest.{lowest}
 use Rattle.dictionary.proofs.Lowest.{lowest-same}
@@ -55,12 +52,6 @@ module _ {L : _} {G : _} (row by : Row L G) (m n : ℕ) (is : IsRow m n row) (is
       let both = either_false (is_marked row.marks c) (is_marked by.marks c) e in
       let zero = is.empty c both.0 in
       sym (unchanged (numer_at row c) (numer_at by c) s k zero (is_by.empty c both.1)) ∙ zero
-
--- one sum more
-pub sums_next : {L : _} {G : _} (row by : Row L G) (s k z : ℤ) (from c : ℕ) (sums : List ℤ) → c < length sums → IsFirst (either_at row by) from c → z ≡ numer_at row c *ℤ s +ℤ numer_at by c *ℤ k → ((j : ℕ) → j < from → either_at row by j ≡ true → slice_index_or sums j (pos 0) ≡ numer_at row j *ℤ s +ℤ numer_at by j *ℤ k) → (j : ℕ) → j < c + 1 → either_at row by j ≡ true → slice_index_or (set sums c z) j (pos 0) ≡ numer_at row j *ℤ s +ℤ numer_at by j *ℤ k
-sums_next row by s k z from c sums l first told before j b e = by_eq j c
-    (λ q. ap (λ i. get_or (set sums c z) i (pos 0)) q ∙ get_or-set_same sums c z (pos 0) l ∙ told ∙ ap (λ i. numer_at row i *ℤ s +ℤ numer_at by i *ℤ k) (sym q))
-    (λ d. get_or-set_other sums c j z (pos 0) d ∙ by_lt j from (λ h. before j h e) (λ h. absurd (false≢true (sym (first.first j h (omega arith)) ∙ e))))
 
 -- numbers at columns at which one of two rows has one
 pub few_of_both : (k : ℕ) (f a b : ℕ → Ratio) → ((c : ℕ) → HasNumber f c → HasNumber a c ⊎ HasNumber b c) → nonzeros k f ≤ nonzeros k a + nonzeros k b

@@ -1,11 +1,11 @@
 -- A row in common form that another one comes into.
-use Rattle.std.proofs.Common.{◌≡◌, ℕ, ◌+◌, ◌-◌, ◌*◌, ◌^◌, ◌<◌, ◌≤◌, ◌⊎◌, inl, inr, ℤ, pos, ◌+ℤ◌, ◌*ℤ◌, ◌<ℤ◌, Bool, true, false, cond, ◌||◌, arith, refl, sym, ◌∙◌, ap, ap₂, subst, add-one}
+use Rattle.std.proofs.Common.{◌≡◌, ℕ, zero, suc, ◌/◌, ◌+◌, ◌-◌, ◌*◌, ◌^◌, ◌<◌, ◌≤◌, ◌⊎◌, inl, inr, ℤ, pos, ◌+ℤ◌, ◌*ℤ◌, ◌<ℤ◌, Bool, true, false, cond, ◌||◌, arith, refl, sym, ◌∙◌, ap, ap₂, subst, add-one}
 use Rattle.std.specs.Prelude.{unsigned_abs}
 use Rattle.std.proofs.Math.Nat.{mul-pos}
 use Rattle.std.proofs.Math.IntN.{zero-*ℤ}
 use Rattle.std.proofs.lemmas.Bool.{false≢true}
 use Rattle.std.proofs.lemmas.Int.{ints}
-use Rattle.evidence.proofs.Columns.{by_eq, by_lt}
+use Rattle.evidence.proofs.Columns.{by_lt}
 use Rattle.rational.specs.Ratio.{Ratio, sum, product, IsNumber, IsSame}
 use Rattle.rational.specs.Width.{IsReduced}
 use Rattle.rational.proofs.Scaling.{same_multiple, IsSame-trans}
@@ -17,17 +17,16 @@ use Rattle.evidence.proofs.Fits.{reduced_same, sums_same}
 use Rattle.common_rows.specs.Row.{over}
 use Rattle.common_rows.proofs.Fitting.{term_fits}
 use Rattle.common_rows.proofs.Accumulators.{begun_fits, factored_fits}
-use Rattle.marks.specs.declared.marks.Marks.{Marks}
-use Rattle.marks.specs.Marks.{is_marked, size_of}
-use Rattle.marks.specs.Words.{IsFirst}
 use Rattle.dictionary.specs.Lowest.{lowest}
 use Rattle.dictionary.proofs.Lowest.{lowest-reduced, lowest-same, lowest-≈, replaced}
 use Rattle.dictionary.specs.declared.row.Row.{Row}
 use Rattle.dictionary.specs.Numbers.{ArePartsOf}
-use Rattle.dictionary.specs.Rows.{numbers_of, numer_at, changes, entries_at, IsRow}
-use Rattle.dictionary.specs.Steps.{unless_zero, nonzeros}
-use Rattle.dictionary.proofs.Nonzeros.{unless_not}
-use Rattle.dictionary.proofs.RowForms.{sized, sized_above, common_number, numbers-number, marked_has, unmarked_none}
+use Rattle.dictionary.specs.Rows.{numbers_of, numer_at, entries_at, IsRow}
+use Rattle.dictionary.specs.Steps.{unless_zero, nonzeros, count_all}
+use Rattle.dictionary.specs.Words.{count_word}
+use Rattle.dictionary.proofs.Nonzeros.{unless_not, all_same}
+use Rattle.dictionary.proofs.FoundValues.{past_none}
+use Rattle.dictionary.proofs.RowForms.{sized, sized_above, common_number, numbers-number, marked_has, unmarked_none, has_inside}
 use Rattle.dictionary.proofs.RowValues.{counted_up}
 
 pub either_false : (a b : Bool) → (a || b) ≡ false → (a ≡ false) × (b ≡ false)
@@ -38,32 +37,7 @@ pub either_true : (a b : Bool) → (a || b) ≡ true → (a ≡ true) ⊎ (b ≡
 either_true true b e = inl refl
 either_true false b e = inr e
 
-twice : (b : Bool) → (b || b) ≡ b
-twice true = refl
-twice false = refl
-
--- the columns that change are those that one of two sets has, of which one is chosen
-module _ (m by own : Marks) (adds : Bool) (is : own ≡ cond adds by m) where
-  pub changes_chosen : (c : ℕ) → (is_marked own c || is_marked by c) ≡ changes m by adds c
-  changes_chosen c = ap (λ (s : Marks). is_marked s c || is_marked by c) is ∙ which adds
-    where
-      which : (b : Bool) → (is_marked (cond b by m) c || is_marked by c) ≡ changes m by b c
-      which true = twice (is_marked by c)
-      which false = refl
-
-  pub size_chosen : size_of by ≡ size_of m → size_of by ≡ size_of own
-  size_chosen e = which adds ∙ sym (ap size_of is)
-    where
-      which : (b : Bool) → size_of by ≡ size_of (cond b by m)
-      which true = refl
-      which false = e
-
--- a column that changes does so however others are marked
-pub changes_same : (m n by : Marks) (adds : Bool) (c : ℕ) → is_marked n c ≡ is_marked m c → changes m by adds c ≡ changes n by adds c
-changes_same m n by true c e = refl
-changes_same m n by false c e = ap (λ (b : Bool). b || is_marked by c) (sym e)
-
-entry_count : {L : _} {G : _} (row : Row L G) (k n c : ℕ) → IsRow k n row → unless_zero (numbers_of row c).num 1 ≡ cond (entries_at row c) 1 0
+pub entry_count : {L : _} {G : _} (row : Row L G) (k n c : ℕ) → IsRow k n row → unless_zero (numbers_of row c).num 1 ≡ cond (entries_at row c) 1 0
 entry_count row k n c is = by (entries_at row c) refl
   where
     by : (b : Bool) → entries_at row c ≡ b → unless_zero (numbers_of row c).num 1 ≡ cond (entries_at row c) 1 0
@@ -106,7 +80,6 @@ pub record IsChanging {L : _} {G : _} (old by row : Row L G) (s k : ℤ) (from :
   pub rows : (m n : ℕ) → IsRow m n old → IsRow m n row
   pub done : (c : ℕ) → c < from → numer_at row c ≡ numer_at old c *ℤ s +ℤ numer_at by c *ℤ k
   pub rest : (c : ℕ) → from ≤ c → numer_at row c ≡ numer_at old c
-  pub inside : (m n : ℕ) → IsRow m n old → IsRow m n by → from ≤ m
 
 pub changing_none : {L : _} {G : _} (old by : Row L G) (s k : ℤ) → old.is_common ≡ true → IsChanging old by old s k 0
 changing_none old by s k common = record {
@@ -115,73 +88,58 @@ changing_none old by s k common = record {
   rows = λ m n is. is;
   done = λ c l. absurd (omega arith);
   rest = λ c l. refl;
-  inside = λ m n a b. omega arith;
 }
 
-module _ {L : _} {G : _} (old by row : Row L G) (s k : ℤ) (from : ℕ) (m n : ℕ) (was : IsRow m n old) (is_by : IsRow m n by) (i : IsChanging old by row s k from) where
-  is_row : IsRow m n row
-  is_row = i.rows m n was
-
-  -- from there on it has the old numbers
-  pub same_numbers : old.is_common ≡ true → (c : ℕ) → from ≤ c → numbers_of row c ≡ numbers_of old c
-  same_numbers common c l = kept_numbers old row common i.form i.denom c (i.rest c l)
-
-  -- a column that doesn't change
-  pub stays : (added : Bool) → (added ≡ true → s ≡ pos 1) → (c : ℕ) → from ≤ c → changes row.marks by.marks added c ≡ false → numer_at row c ≡ numer_at old c *ℤ s +ℤ numer_at by c *ℤ k
-  stays true one c l e = i.rest c l ∙ subst (λ t. numer_at old c ≡ numer_at old c *ℤ t +ℤ numer_at by c *ℤ k) (sym (one refl)) (unadded (numer_at old c) (numer_at by c) k (is_by.empty c e))
-  stays false one c l e =
-      let both = either_false (is_marked row.marks c) (is_marked by.marks c) e in
-      let r = is_row in
-      let here = sym (i.rest c l) ∙ r.empty c both.0 in
-      i.rest c l ∙ unchanged (numer_at old c) (numer_at by c) s k here (is_by.empty c both.1)
-
-  -- one that does
-  pub changed_inside : (added : Bool) (c : ℕ) → changes row.marks by.marks added c ≡ true → c + 1 < m
-  changed_inside true c e = is_by.inside c e
-  changed_inside false c e = which (either_true (is_marked row.marks c) (is_marked by.marks c) e)
-    where
-      which : (is_marked row.marks c ≡ true) ⊎ (is_marked by.marks c ≡ true) → c + 1 < m
-      which (inl h) = let r = is_row in r.inside c h
-      which (inr h) = is_by.inside c h
-
-  pub entry_of_either : (added : Bool) (c : ℕ) → changes row.marks by.marks added c ≡ true → 1 ≤ cond (entries_at row c) 1 0 + cond (entries_at by c) 1 0
-  unfolding entries_at
-  entry_of_either true c e = subst (λ (t : Bool). 1 ≤ cond (is_marked row.marks c) 1 0 + cond t 1 0) (sym e) (omega arith)
-  entry_of_either false c e = which (either_true (is_marked row.marks c) (is_marked by.marks c) e)
-    where
-      which : (is_marked row.marks c ≡ true) ⊎ (is_marked by.marks c ≡ true) → 1 ≤ cond (is_marked row.marks c) 1 0 + cond (is_marked by.marks c) 1 0
-      which (inl h) = subst (λ (t : Bool). 1 ≤ cond t 1 0 + cond (is_marked by.marks c) 1 0) (sym h) (omega arith)
-      which (inr h) = subst (λ (t : Bool). 1 ≤ cond (is_marked row.marks c) 1 0 + cond t 1 0) (sym h) (omega arith)
-
--- one column more
-pub changing_next : {L : _} {G : _} (old by row new : Row L G) (s k z : ℤ) (from c : ℕ) (m n : ℕ) (was : IsRow m n old) (is_by : IsRow m n by) (i : IsChanging old by row s k from) (added : Bool) → (added ≡ true → s ≡ pos 1) → IsFirst (changes row.marks by.marks added) from c → z ≡ numer_at row c *ℤ s +ℤ numer_at by c *ℤ k → new.is_common ≡ true → new.denom ≡ row.denom → ((m n : ℕ) → IsRow m n row → c + 1 < m → IsRow m n new) → numer_at new c ≡ z → ((j : ℕ) → (j ≡ c → ⊥) → numer_at new j ≡ numer_at row j) → IsChanging old by new s k (c + 1)
-changing_next old by row new s k z from c m n was is_by i added one first told form denom rows own others = record {
+-- one word more
+pub changing_next : {L : _} {G : _} (old by row new : Row L G) (s k : ℤ) (w : ℕ) → IsChanging old by row s k (64 * w) → new.is_common ≡ true → new.denom ≡ row.denom → ((m n : ℕ) → IsRow m n row → IsRow m n new) → ((i : ℕ) → i < 64 → numer_at new (64 * w + i) ≡ numer_at row (64 * w + i) *ℤ s +ℤ numer_at by (64 * w + i) *ℤ k) → ((c : ℕ) → (c / 64 ≡ w → ⊥) → numer_at new c ≡ numer_at row c) → IsChanging old by new s k (64 * (w + 1))
+changing_next old by row new s k w i form denom rows changed others = record {
   form = form;
   denom = denom ∙ i.denom;
-  rows = λ a b is. rows a b (i.rows a b is) (inside a b is);
-  done = λ j l. by_eq j c
-      (λ e. ap (numer_at new) e ∙ own ∙ told ∙ ap (λ x. x *ℤ s +ℤ numer_at by c *ℤ k) (i.rest c first.later) ∙ ap (λ q. numer_at old q *ℤ s +ℤ numer_at by q *ℤ k) (sym e))
-      (λ d. others j d ∙ by_lt j from (λ h. i.done j h) (λ h. stays old by row s k from m n was is_by i added one j h (first.first j h (omega arith))));
-  rest = λ j l. others j (λ e. omega arith) ∙ i.rest j (let h = first.later in omega arith);
-  inside = λ a b is is'. let l = changed_inside old by row s k from a b is is' i added c first.is in omega arith;
+  rows = λ m n is. rows m n (i.rows m n is);
+  done = λ c l. by_lt c (64 * w)
+      (λ h. others c (λ e. omega arith) ∙ i.done c h)
+      (λ h.
+      let e : 64 * w + (c - 64 * w) ≡ c = omega arith in
+      subst (λ j. numer_at new j ≡ numer_at old j *ℤ s +ℤ numer_at by j *ℤ k) e (changed (c - 64 * w) (omega arith) ∙ ap (λ x. x *ℤ s +ℤ numer_at by (64 * w + (c - 64 * w)) *ℤ k) (i.rest (64 * w + (c - 64 * w)) (omega arith))));
+  rest = λ c l. others c (λ e. omega arith) ∙ i.rest c (omega arith);
 }
-  where
-    inside : (a b : ℕ) → IsRow a b old → c + 1 < a
-    inside a b is = let x = was.count in let y = is.count in let l = changed_inside old by row s k from m n was is_by i added c first.is in omega arith
 
--- no other column changes
-pub changing_all : {L : _} {G : _} (old by row : Row L G) (s k : ℤ) (from : ℕ) (m n : ℕ) (was : IsRow m n old) (is_by : IsRow m n by) (i : IsChanging old by row s k from) (added : Bool) → (added ≡ true → s ≡ pos 1) → ((c : ℕ) → from ≤ c → changes row.marks by.marks added c ≡ false) → (c : ℕ) → numer_at row c ≡ numer_at old c *ℤ s +ℤ numer_at by c *ℤ k
-changing_all old by row s k from m n was is_by i added one none c = by_lt c from (λ h. i.done c h) (λ h. stays old by row s k from m n was is_by i added one c h (none c h))
+-- the entries of both rows, word by word
+pub counted_more : (a m : ℕ) (f g : ℕ → Ratio) → nonzeros (a + m) f + nonzeros (a + m) g ≡ nonzeros a f + nonzeros a g + count_all m (λ i. unless_zero (f (a + i)).num 1 + unless_zero (g (a + i)).num 1)
+counted_more a zero f g = let e : a + 0 ≡ a = omega arith in ap (λ j. nonzeros j f + nonzeros j g) e ∙ (omega arith)
+counted_more a (suc m) f g =
+    let r = counted_more a m f g in
+    let e : suc (a + m) ≡ a + suc m = omega arith in
+    sym (ap (λ j. nonzeros j f + nonzeros j g) e) ∙ (omega (arith, r))
 
--- small numbers have small sums
-pub small_parts : (x y a b u v : ℕ) → x ≤ a → y ≤ b → a * u + b * v < 2 ^ 60 → x * u + y * v < 2 ^ 60
-small_parts x y a b u v hx hy h =
-    let l = mul_le x a u hx in
-    let r = mul_le y b v hy in
-    omega arith
+pub counted_words : (f g : ℕ → Ratio) (w : ℕ) (x y : ℕ → Bool) → ((i : ℕ) → unless_zero (f (64 * w + i)).num 1 ≡ cond (x i) 1 0) → ((i : ℕ) → unless_zero (g (64 * w + i)).num 1 ≡ cond (y i) 1 0) → nonzeros (64 * (w + 1)) f + nonzeros (64 * (w + 1)) g ≡ nonzeros (64 * w) f + nonzeros (64 * w) g + count_word (λ i. cond (x i) 1 0 + cond (y i) 1 0)
+unfolding count_word
+counted_words f g w x y hf hg = ap (λ j. nonzeros j f + nonzeros j g) (let e : 64 * (w + 1) ≡ 64 * w + 64 = omega arith in e) ∙ upto 64
   where
-    mul_le : (p q t : ℕ) → p ≤ q → p * t ≤ q * t
-    mul_le p q t l = let e : p + (q - p) ≡ q = omega arith in let f : (p + (q - p)) * t ≡ p * t + (q - p) * t = omega arith in let g = ap (λ j. j * t) e in omega arith
+    upto : (z : ℕ) → nonzeros (64 * w + z) f + nonzeros (64 * w + z) g ≡ nonzeros (64 * w) f + nonzeros (64 * w) g + count_all z (λ i. cond (x i) 1 0 + cond (y i) 1 0)
+    upto z = counted_more (64 * w) z f g ∙ ap (λ n. nonzeros (64 * w) f + nonzeros (64 * w) g + n) (all_same z (λ i. unless_zero (f (64 * w + i)).num 1 + unless_zero (g (64 * w + i)).num 1) (λ i. cond (x i) 1 0 + cond (y i) 1 0) (λ i l. ap₂ (λ p q. p + q) (hf i) (hg i)))
+
+pub counted_word : {L : _} {G : _} (old by row : Row L G) (s k : ℤ) (w m n : ℕ) → old.is_common ≡ true → IsRow m n old → IsRow m n by → IsChanging old by row s k (64 * w) → nonzeros (64 * (w + 1)) (numbers_of old) + nonzeros (64 * (w + 1)) (numbers_of by) ≡ nonzeros (64 * w) (numbers_of old) + nonzeros (64 * w) (numbers_of by) + count_word (λ i. cond (entries_at row (64 * w + i)) 1 0 + cond (entries_at by (64 * w + i)) 1 0)
+counted_word old by row s k w m n common was is i =
+    counted_words (numbers_of old) (numbers_of by) w (λ j. entries_at row (64 * w + j)) (λ j. entries_at by (64 * w + j))
+    (λ j. ap (λ (x : Ratio). unless_zero x.num 1) (sym (kept_numbers old row common i.form i.denom (64 * w + j) (i.rest (64 * w + j) (omega arith)))) ∙ entry_count row m n (64 * w + j) (i.rows m n was))
+    (λ j. entry_count by m n (64 * w + j) is)
+
+-- none stands past the last column
+pub counted_within : {L : _} {G : _} (row : Row L G) (m n j : ℕ) → IsRow m n row → nonzeros j (numbers_of row) ≤ nonzeros m (numbers_of row)
+counted_within row m n j is = by_lt j m
+    (λ h. counted_to j m (numbers_of row) (omega arith))
+    (λ h.
+    let e : m + (j - m) ≡ j = omega arith in
+    let z = past_none m (j - m) (numbers_of row) (λ c l. by_zero c l) in
+    subst (λ x. nonzeros x (numbers_of row) ≤ nonzeros m (numbers_of row)) e (omega (arith, z)))
+  where
+    by_zero : (c : ℕ) → m ≤ c → (numbers_of row c).num ≡ pos 0
+    by_zero c l = by (entries_at row c) refl
+      where
+        by : (b : Bool) → entries_at row c ≡ b → (numbers_of row c).num ≡ pos 0
+        by true e = let h = has_inside row m n is c (marked_has row m n is c e) in absurd (omega arith)
+        by false e = unmarked_none row m n is c e
 
 -- a factor may be written in another form
 zero_same : (x y : Ratio) → IsNumber x → IsSame x y → x.num ≡ pos 0 → y.num ≡ pos 0

@@ -3,6 +3,7 @@ pub mod Rows
 pub mod NumbersOver
 pub mod RowForms
 pub mod Sums
+pub mod Words
 pub mod EntryPlaces
 pub mod Exchanges
 pub mod Nonzeros
@@ -23,6 +24,7 @@ pub mod SpreadRows
 pub mod FoundValues
 pub mod RowValues
 pub mod Changes
+pub mod WordRows
 pub mod Quotients
 pub mod ChangedSums
 pub mod FilledColumns

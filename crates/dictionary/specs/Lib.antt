@@ -12,4 +12,5 @@ pub mod Basis
 pub mod ProgramRows
 pub mod Scratch
 pub mod Steps
+pub mod Words
 pub mod Dict

@@ -1,17 +1,17 @@
 //! Rows of numbers over one denominator, which another one comes into.
-ghost use Rattle.std.specs.Prelude.{◌≡◌, ◌≢◌, ℕ, ◌+◌, ◌*◌, ◌^◌, ◌<◌, ◌≤◌, pos, ◌+ℤ◌, ◌*ℤ◌, ◌<ℤ◌, true, false, cond, length, slice_index_or, unsigned_abs, IfSome, MatchOption};
+ghost use Rattle.std.specs.Prelude.{◌≡◌, ◌≢◌, ℕ, ◌+◌, ◌*◌, ◌/◌, ◌^◌, ◌||◌, ◌<◌, ◌≤◌, pos, ◌+ℤ◌, ◌*ℤ◌, ◌<ℤ◌, true, false, cond, length, slice_index_or, unsigned_abs, IfSome};
 ghost use Rattle.rational.specs.Ratio.{IsSame};
 ghost use Rattle.rational.specs.Width.{most};
 ghost use Rattle.evidence.specs.Sums.{none};
-ghost use Rattle.marks.specs.Words.{IsFirst, HasNone};
-ghost use Rattle.marks.specs.Walks.{KeepsWord};
+ghost use Rattle.marks.specs.Words.{is_set};
 ghost use Rattle.marks.specs.Marks.{size_of};
 ghost use Rattle.common_rows.specs.Row.{over};
 ghost use Rattle.dictionary.specs.Lowest.{lowest};
 ghost use Rattle.dictionary.specs.Numbers.{ArePartsOf, HasNumber};
 ghost use Rattle.dictionary.specs.Scratch.{found_at, AreFound};
-ghost use Rattle.dictionary.specs.Rows.{numbers_of, numer_at, either_at, changes, AreSums, AreSumsLeft, IsRow, IsReplacedBy, ReplacementFits, NonzerosFit, HasRoomFor};
+ghost use Rattle.dictionary.specs.Rows.{numbers_of, numer_at, entries_at, either_at, changes, AreSums, AreSumsLeft, IsRow, IsReplacedBy, ReplacementFits, NonzerosFit, HasRoomFor};
 ghost use Rattle.dictionary.specs.Steps.{nonzeros};
+ghost use Rattle.dictionary.specs.Words.{AreChanged, steps_at, count_word};
 
 use crate::row::{Row, reduced};
 use crate::scratch::Scratch;
@@ -19,7 +19,7 @@ use crate::settling::settle;
 use crate::steps::Steps;
 use common_rows::Divisor;
 use fraction::Frac;
-use marks::{Marks, Walk};
+use marks::{Marks, Walk, has_bit, keep, take_first};
 use std::sync::ledger::Ledger;
 
 /// How a row changes: its numbers times `scale`, and the other one's times `factor`, over its denominator times `scale`.
@@ -74,24 +74,117 @@ fn only_adds(parts: Parts) -> bool
     parts.scale == 1
 }
 
-/// The first column from this one on that changes: where the other row has an entry, or, unless numbers are only added to, this
-/// one.
+/// Which columns of a word change: where the other row has an entry, or, unless numbers are only added to, this one.
 #[inline(always)]
-fn next_changed(marks: &Marks, by: &Marks, adds: bool, walk: &mut Walk, from: u32) -> Option<u32>
-    requires size { size_of by.now ≡ size_of marks.now }
-    requires kept { KeepsWord (changes marks.now by.now adds) from walk.old }
-    ensures first { MatchOption result (HasNone (changes marks.now by.now adds) from) (IsFirst (changes marks.now by.now adds) from) }
-    ensures kept { IfSome result (λ c. KeepsWord (changes marks.now by.now adds) (c + 1) walk.new) }
+fn changing(own: u64, other: u64, adds: bool) -> u64
+    ensures { (i : ℕ) → is_set result i ≡ cond adds (is_set other i) (is_set own i || is_set other i) }
 {
-    chosen(adds, by, marks).next_of_either(by, walk, from)
+    if adds { other } else { own | other }
 }
 
-/// The one set, or the other.
+/// The columns of a word from the first on: at which of them the row has an entry, at which the other one, and which change.
+#[derive(Clone, Copy)]
+struct Word {
+    first: usize,
+    own: u64,
+    other: u64,
+    columns: u64,
+}
+
+/// At which columns of a word a changed row has an entry, and the size of its numbers.
+#[derive(Clone, Copy)]
+struct Changed {
+    entries: u64,
+    size: u64,
+}
+
+/// The number at a column: a step where there is an entry.
 #[inline(always)]
-fn chosen<'a>(first: bool, one: &'a Marks, other: &'a Marks) -> &'a Marks
-    ensures { result.now ≡ cond first one.now other.now }
+fn read<L: Ledger>(numers: &[i64], col: usize, is_entry: bool, steps: &mut Steps<L>) -> i64
+    requires { col < length numers.now }
+    ensures number { result ≡ slice_index_or numers.now col (pos 0) }
+    ensures cost { steps.new ≡ steps.old + cond is_entry 1 0 }
 {
-    if first { one } else { other }
+    if is_entry {
+        steps.tick();
+    }
+    numers[col]
+}
+
+/// Changes the numbers of a word's columns, where none becomes great.
+#[inline(always)]
+fn change_word<L: Ledger>(
+    numers: &mut [i64],
+    by: &[i64],
+    word: Word,
+    parts: Parts,
+    size: u64,
+    steps: &mut Steps<L>,
+) -> Changed
+    requires inside { (i : ℕ) → i < 64 → is_set word.columns i ≡ true → (word.first + i < length numers.old) × (word.first + i < length by.now) }
+    requires small { (i : ℕ) → i < 64 → is_set word.columns i ≡ true → unsigned_abs (slice_index_or numers.old (word.first + i) (pos 0)) * unsigned_abs parts.scale + unsigned_abs (slice_index_or by.now (word.first + i) (pos 0)) * unsigned_abs parts.factor < 2 ^ 60 }
+    requires size { size < 2 ^ 63 }
+    ensures changed { AreChanged word.first word.own word.columns (is_set word.columns) parts.scale parts.factor numers.old by.now numers.new size result.entries result.size }
+    ensures cost { steps.new ≡ steps.old + count_word (steps_at 1 word.own word.other (is_set word.columns)) }
+{
+    let mut left = word.columns;
+    let mut entries = word.own | word.columns;
+    let mut size = size;
+    while left != 0 {
+        let i = take_first(&mut left);
+        let col = word.first + i as usize;
+        let x = read(numers, col, has_bit(word.own, i), steps);
+        let y = read(by, col, has_bit(word.other, i), steps);
+        let number = small_sum(x, y, parts);
+        steps.tick();
+        numers[col] = number;
+        let more = number.unsigned_abs();
+        size |= more;
+        entries = keep(entries, i, more != 0);
+    }
+    Changed { entries, size }
+}
+
+/// Changes the numbers of word `w` of a row's columns, where none becomes great.
+#[inline(always)]
+fn change_columns<L: Ledger>(
+    row: &mut Row<L>,
+    by: &Row<L>,
+    w: usize,
+    parts: Parts,
+    steps: &mut Steps<L>,
+)
+    requires row { (k n : ℕ) × IsRow k n row.old × IsRow k n by.now }
+    requires common { row.old.is_common ≡ true }
+    requires inside { 64 * w < size_of by.now.marks }
+    requires small { (i : ℕ) → unsigned_abs (numer_at row.old (64 * w + i)) * unsigned_abs parts.scale + unsigned_abs (numer_at by.now (64 * w + i)) * unsigned_abs parts.factor < 2 ^ 60 }
+    ensures row { (k n : ℕ) → IsRow k n row.old → IsRow k n row.new }
+    ensures common { row.new.is_common ≡ true }
+    ensures denom { row.new.denom ≡ row.old.denom }
+    ensures changed { (i : ℕ) → i < 64 → numer_at row.new (64 * w + i) ≡ numer_at row.old (64 * w + i) *ℤ parts.scale +ℤ numer_at by.now (64 * w + i) *ℤ parts.factor }
+    ensures others { (c : ℕ) → c / 64 ≢ w → numer_at row.new c ≡ numer_at row.old c }
+    ensures cost { steps.new ≤ steps.old + 2 * count_word (λ i. cond (entries_at row.old (64 * w + i)) 1 0 + cond (entries_at by.now (64 * w + i)) 1 0) }
+    ensures counted { steps.old ≤ steps.new }
+{
+    let own = row.marks.word(w);
+    let other = by.marks.word(w);
+    let word = Word {
+        first: 64 * w,
+        own,
+        other,
+        columns: changing(own, other, only_adds(parts)),
+    };
+    let size = row.size;
+    let changed = change_word(
+        row.numers.as_mut_slice(),
+        by.numers.as_slice(),
+        word,
+        parts,
+        size,
+        steps,
+    );
+    row.marks.set_word(w, changed.entries);
+    row.size = changed.size;
 }
 
 /// Changes all numbers, where none becomes great.
@@ -106,14 +199,8 @@ fn change_numbers<L: Ledger>(row: &mut Row<L>, by: &Row<L>, parts: Parts, steps:
     ensures cost { (k n : ℕ) → IsRow k n row.old → IsRow k n by.now → steps.new ≤ steps.old + 2 * (nonzeros k (numbers_of row.old) + nonzeros k (numbers_of by.now)) }
     ensures counted { steps.old ≤ steps.new }
 {
-    let adds = only_adds(parts);
-    let mut walk = Walk::new();
-    let mut from = 0;
-    while let Some(c) = next_changed(&row.marks, &by.marks, adds, &mut walk, from) {
-        let x = row.read(c, steps);
-        let y = by.read(c, steps);
-        row.write(c, small_sum(x, y, parts), steps);
-        from = c + 1;
+    for w in 0..by.marks.words() {
+        change_columns(row, by, w, parts, steps);
     }
 }
 
@@ -182,6 +269,38 @@ fn common(a: u64, b: u64) -> u64
     }
 }
 
+/// Writes the sums of both rows' numbers at a word's columns, each times its part. What may divide these too.
+#[inline(always)]
+fn sum_word<L: Ledger>(
+    numers: &[i64],
+    by: &[i64],
+    word: Word,
+    parts: Parts,
+    all: Content,
+    sums: &mut [i128],
+    steps: &mut Steps<L>,
+) -> Content
+    requires inside { (i : ℕ) → i < 64 → is_set word.columns i ≡ true → (word.first + i < length numers.now) × (word.first + i < length by.now) × (word.first + i < length sums.old) }
+    requires x { (c : ℕ) → unsigned_abs (slice_index_or numers.now c (pos 0)) < 2 ^ 63 }
+    requires y { (c : ℕ) → unsigned_abs (slice_index_or by.now c (pos 0)) < 2 ^ 63 }
+    ensures sums { (i : ℕ) → i < 64 → is_set word.columns i ≡ true → slice_index_or sums.new (word.first + i) (pos 0) ≡ slice_index_or numers.now (word.first + i) (pos 0) *ℤ parts.scale +ℤ slice_index_or by.now (word.first + i) (pos 0) *ℤ parts.factor }
+    ensures before { (c : ℕ) → c < word.first → slice_index_or sums.new c (pos 0) ≡ slice_index_or sums.old c (pos 0) }
+    ensures cost { steps.new ≡ steps.old + count_word (steps_at 0 word.own word.other (is_set word.columns)) }
+{
+    let mut left = word.columns;
+    let mut all = all;
+    while left != 0 {
+        let i = take_first(&mut left);
+        let col = word.first + i as usize;
+        let x = read(numers, col, has_bit(word.own, i), steps);
+        let y = read(by, col, has_bit(word.other, i), steps);
+        let sum = wide_sum(x, y, parts);
+        sums[col] = sum;
+        all = all.with(sum);
+    }
+    all
+}
+
 /// Writes the sums of both rows' numbers, each times its part. What may divide them all, and divides the row's denominator.
 fn write_sums<L: Ledger>(
     row: &Row<L>,
@@ -196,15 +315,24 @@ fn write_sums<L: Ledger>(
     ensures counted { steps.old ≤ steps.new }
 {
     let mut all = Content::of(row.denom.unsigned_abs());
-    let mut walk = Walk::new();
-    let mut from = 0;
-    while let Some(c) = row.marks.next_of_either(&by.marks, &mut walk, from) {
-        let x = row.read(c, steps);
-        let y = by.read(c, steps);
-        let sum = wide_sum(x, y, parts);
-        sums[c as usize] = sum;
-        all = all.with(sum);
-        from = c + 1;
+    for w in 0..row.marks.words() {
+        let own = row.marks.word(w);
+        let other = by.marks.word(w);
+        let word = Word {
+            first: 64 * w,
+            own,
+            other,
+            columns: own | other,
+        };
+        all = sum_word(
+            row.numers.as_slice(),
+            by.numers.as_slice(),
+            word,
+            parts,
+            all,
+            sums,
+            steps,
+        );
     }
     all
 }

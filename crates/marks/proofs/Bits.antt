@@ -8,7 +8,7 @@ use Rattle.std.proofs.lemmas.Bool.Decides.{nat_tests}
 use Rattle.std.proofs.Math.ListN.{get_or-eq_default}
 use Rattle.std.proofs.lemmas.List.{get_or-set_same, get_or-set_other}
 use Rattle.std.proofs.lemmas.Grind.{get_or-set_at}
-use Rattle.marks.specs.Words.{has_bit, lesser, IsFirst, HasNoneBelow, HasNone}
+use Rattle.marks.specs.Words.{is_set, has_bit, lesser, IsFirst, HasNoneBelow, HasNone}
 use Rattle.marks.specs.Marks.{is_marked, size_of}
 use Rattle.marks.specs.declared.marks.Marks.{Marks}
 
@@ -152,9 +152,12 @@ either a b p q = grind (arith, nat_tests)
 both : (a b : ℕ) → a < 2 → b < 2 → nat_eq (min a b) 1 ≡ (nat_eq a 1 && nat_eq b 1)
 both a b p q = grind (arith, nat_tests)
 
+pub set_or : (a b i : ℕ) → is_set (bit_or a b) i ≡ (is_set a i || is_set b i)
+set_or a b i = ap (λ (m : ℕ). nat_eq m 1) (bit_at_or a b i) ∙ either _ _ (bit_at-lt a i) (bit_at-lt b i)
+
 -- a bit of two words joined, and of what they share
 pub joined : (left right : ℕ → ℕ) (k : ℕ) → has_bit (λ w. bit_or (left w) (right w)) k ≡ (has_bit left k || has_bit right k)
-joined left right k = ap (λ (m : ℕ). nat_eq m 1) (bit_at_or (left (k / 64)) (right (k / 64)) (k % 64)) ∙ either _ _ (bit_at-lt (left (k / 64)) (k % 64)) (bit_at-lt (right (k / 64)) (k % 64))
+joined left right k = set_or (left (k / 64)) (right (k / 64)) (k % 64)
 
 pub shared : (left right : ℕ → ℕ) (k : ℕ) → has_bit (λ w. bit_and (left w) (right w)) k ≡ (has_bit left k && has_bit right k)
 shared left right k = ap (λ (m : ℕ). nat_eq m 1) (bit_at_and (left (k / 64)) (right (k / 64)) (k % 64)) ∙ both _ _ (bit_at-lt (left (k / 64)) (k % 64)) (bit_at-lt (right (k / 64)) (k % 64))

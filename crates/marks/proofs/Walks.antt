@@ -1,15 +1,27 @@
 -- Walks that keep a word of bits.
-use Rattle.std.proofs.Common.{◌≡◌, ℕ, ◌+◌, ◌-◌, ◌*◌, ◌/◌, ◌%◌, ◌^◌, ◌<◌, ◌≤◌, ◌≢◌, Bool, false, nat_eq, inl, inr, Option, None, Some, IfSome, MatchOption, bit_and, arith, sym, ◌∙◌, ap}
+use Rattle.std.proofs.Common.{◌≡◌, ℕ, ◌+◌, ◌-◌, ◌*◌, ◌/◌, ◌%◌, ◌^◌, ◌<◌, ◌≤◌, ◌≢◌, Bool, false, nat_eq, inl, inr, Option, None, Some, IfSome, bit_and, arith, sym, ◌∙◌, ap}
 use Rattle.std.specs.Int.{bit_at, bit_not, trailing_zeros, w64}
 use Rattle.std.proofs.lemmas.Bool.{cases_lt, cases_eq}
 use Rattle.std.proofs.lemmas.Bool.Decides.{nat_tests}
+use Rattle.std.proofs.lemmas.Nat.{and_le_l}
 use Rattle.std.proofs.lemmas.Nat.Bits.{bit_at-zero, bit_at-trailing_zeros, bit_at-lt, bit_at_clear_same, bit_at_clear_other}
-use Rattle.marks.specs.Words.{has_bit, IsFirst, HasNoneBelow, HasNone}
+use Rattle.marks.specs.Words.{has_bit, IsFirst, HasNoneBelow}
 use Rattle.marks.specs.Walks.{IsWordKept}
 
 -- a word without one bit
 abbrev pub without : ℕ → ℕ → ℕ
 without word i = bit_and word (bit_not w64 (1 * 2 ^ i % 2 ^ 64))
+
+-- it is less than the word where that bit was set
+pub without_less : (word : ℕ) → word < 2 ^ 64 → (word ≡ 0 → ⊥) → without word (trailing_zeros w64 word) < word
+without_less word small some =
+    let i : ℕ = trailing_zeros w64 word in
+    let found = bit_at-trailing_zeros w64 word (omega arith) small in
+    let l = and_le_l word (bit_not w64 (1 * 2 ^ i % 2 ^ 64)) in
+    elim (cases_eq (without word i) word) [
+      | inl e ↦ let z = sym (bit_at_clear_same w64 word i found.0) ∙ ap (λ n. bit_at n i) e ∙ found.1 in absurd (omega (arith, z))
+      | inr d ↦ omega (arith, l, d)
+    ]
 
 -- at a beginning nothing is kept, and nothing was passed
 pub kept_none : (test : ℕ → Bool) → IsWordKept test 0 0 0
@@ -106,12 +118,3 @@ kept_word words low c whole is =
         | inr d ↦ other k d ∙ same k (omega arith) ∙ zero_bit (bit_at (words (k / 64)) (k % 64)) (bit_at-lt (words (k / 64)) (k % 64)) (is.first k (omega arith) (omega arith))
       ];
     }
-
--- an answer by another test that says the same
-pub answer_alike : (o : Option ℕ) (f g : ℕ → Bool) (from : ℕ) → ((k : ℕ) → f k ≡ g k) → MatchOption o (HasNone f from) (IsFirst f from) → MatchOption o (HasNone g from) (IsFirst g from)
-answer_alike None f g from alike none = λ k a. sym (alike k) ∙ none k a
-answer_alike (Some c) f g from alike first = record {
-  later = first.later;
-  is = sym (alike c) ∙ first.is;
-  first = λ k a b. sym (alike k) ∙ first.first k a b;
-}

@@ -2,7 +2,11 @@
 use Rattle.std.specs.Prelude.{◌≡◌, ℕ, ◌/◌, ◌%◌, ◌<◌, ◌≤◌, Bool, true, false, cond, nat_eq, nat_lt}
 use Rattle.std.specs.Int.{bit_at}
 
--- whether bit k is set
+-- whether bit i of a word is set
+abbrev pub is_set : ℕ → ℕ → Bool
+is_set word i = nat_eq (bit_at word i) 1
+
+-- whether bit k of words is set
 abbrev pub has_bit : (ℕ → ℕ) → ℕ → Bool
 has_bit words k = nat_eq (bit_at (words (k / 64)) (k % 64)) 1
 

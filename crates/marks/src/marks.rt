@@ -15,7 +15,7 @@ pub struct Marks {
 #[tactic(auto, unfolding(crate::specs::Marks::is_marked, crate::specs::Marks::size_of))]
 impl Marks {
     ghost use Rattle.std.specs.Prelude.{◌≡◌, ◌≢◌, ℕ, ◌+◌, ◌/◌, ◌<◌, ◌||◌, ◌&&◌, true, false, IfOk, IfSome, MatchOption};
-    ghost use Rattle.marks.specs.Words.{IsFirst, HasNone};
+    ghost use Rattle.marks.specs.Words.{is_set, IsFirst, HasNone};
     ghost use Rattle.marks.specs.Walks.{KeepsWord};
     ghost use Rattle.marks.specs.Marks.{is_marked, size_of};
 
@@ -129,5 +129,33 @@ impl Marks {
         let left = self.words.as_slice();
         let right = other.words.as_slice();
         walk.next(&Both { left, right }, from)
+    }
+
+    /// How many words of 64 numbers it has.
+    #[inline(always)]
+    pub fn words(&self) -> usize
+        ensures { size_of self.now ≡ 64 * result }
+    {
+        self.words.len()
+    }
+
+    /// Which numbers of word `w` it has, a bit each.
+    #[inline(always)]
+    pub fn word(&self, w: usize) -> u64
+        requires { 64 * w < size_of self.now }
+        ensures { (i : ℕ) → i < 64 → is_set result i ≡ is_marked self.now (64 * w + i) }
+    {
+        self.words[w]
+    }
+
+    /// Gives it these numbers of word `w`.
+    #[inline(always)]
+    pub fn set_word(&mut self, w: usize, word: u64)
+        requires { 64 * w < size_of self.old }
+        ensures size { size_of self.new ≡ size_of self.old }
+        ensures own { (i : ℕ) → i < 64 → is_marked self.new (64 * w + i) ≡ is_set word i }
+        ensures others { (c : ℕ) → c / 64 ≢ w → is_marked self.new c ≡ is_marked self.old c }
+    {
+        self.words[w] = word;
     }
 }

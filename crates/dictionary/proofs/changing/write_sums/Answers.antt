@@ -1,17 +1,16 @@
-use Rattle.std.proofs.Common.{ℤ, ◌+◌, ◌^◌, ◌<◌, ◌≤◌, ◌+ℤ◌, ◌*ℤ◌, length, FitsSigned, w64, rules, arith, sym, ◌∙◌, ap₂, subst}
-use mir.Syntax.{w128}
-use Rattle.std.specs.Prelude.{unsigned_abs}
+use Rattle.std.proofs.Common.{◌≡◌, ℕ, ℤ, ◌+◌, ◌-◌, ◌*◌, ◌<◌, ◌||◌, ◌+ℤ◌, ◌*ℤ◌, Bool, bit_or, FitsSigned, w64, arith, rules, sym, ◌∙◌, ap, ap₂, subst}
 use Rattle.std.proofs.lemmas.Bool.{false≢true}
 use Rattle.std.proofs.lemmas.Int.{to_z-of_z}
 use Rattle.evidence.proofs.Columns.{by_lt}
 use Rattle.common_rows.proofs.Sizes.{size_above}
-use Rattle.marks.specs.Marks.{size_of}
-use Rattle.dictionary.specs.Rows.{numbers_of, either_at}
+use Rattle.marks.proofs.Bits.{past_marks}
+use Rattle.dictionary.specs.Rows.{numbers_of, numer_at, entries_at, either_at}
+use Rattle.dictionary.specs.Words.{number_at}
 use Rattle.dictionary.proofs.RowForms.{sized_above}
-use Rattle.dictionary.proofs.Changes.{counted_mark, counted_to, both_to}
-use Rattle.dictionary.proofs.ChangedSums.{either_below, sums_next}
+use Rattle.dictionary.proofs.Changes.{entry_count, counted_words, counted_within}
+use Rattle.dictionary.proofs.ChangedSums.{either_below}
+use Rattle.dictionary.proofs.WordRows.{either_set, steps_most}
 use Rattle.dictionary.proofs.changing.write_sums.Goals as goal
-use Rattle.dictionary.proofs.changing.write_sums.Goals.{In-Some}
 
 pub of-all-requires-clause-above : goal.of-all-requires-clause-above
 of-all-requires-clause-above g c =
@@ -29,91 +28,69 @@ of-all-requires-clause-small g c =
     let l = size_above row.denom d row.above in
     omega arith
 
-pub loop-c-init : goal.loop-c-init
-loop-c-init g c = record { kept = c.new-walk.ensures (either_at c.args.row.now c.args.by.now); told = λ j l h. absurd (omega arith); within = omega arith; cost = omega arith; counted = omega arith }
+pub loop-w-init : goal.loop-w-init
+loop-w-init g c = record { told = λ j l h. absurd (omega arith); cost = omega arith; counted = omega arith }
 
-pub next_of_either-requires-clause-kept : goal.next_of_either-requires-clause-kept
-next_of_either-requires-clause-kept g c = c.loop-c.invariant.kept
-
-pub next_of_either-requires-clause-size : goal.next_of_either-requires-clause-size
-next_of_either-requires-clause-size g c = let r = c.requires.rows in r.2.columns ∙ sym r.1.columns
-
-inside : (g : _) (c : In-Some g) → c.in-Some.c + 1 < length c.args.sums.now
-inside g c = let r = c.requires.rows in either_below c.args.row.now c.args.by.now _ r.0 r.1 r.2 c.in-Some.c c.in-Some.ensures.first.is
-
-pub read-x-requires : goal.read-x-requires
-read-x-requires g c = let r = c.requires.rows in let l = inside g (goal.at.read-x-requires g c).In-Some in (_, r.0, r.1, omega arith)
-
-pub read-y-requires : goal.read-y-requires
-read-y-requires g c = let r = c.requires.rows in let l = inside g (goal.at.read-y-requires g c).In-Some in (_, r.0, r.2, omega arith)
-
-pub wide_sum-sum-requires-clause-x : goal.wide_sum-sum-requires-clause-x
-wide_sum-sum-requires-clause-x g c =
-    let r = c.requires.rows in
-    let x : FitsSigned w64 c.read-x.result = search rules in
-    let w = subst (λ z. unsigned_abs z ≤ c.args.row.now.size) (sym c.read-x.ensures.number) (r.1.within c.in-Some.c) in
-    let s = r.1.small in
-    let small : unsigned_abs c.read-x.result < 2 ^ 63 = omega arith in
-    simp to_z-of_z small
-
-pub wide_sum-sum-requires-clause-y : goal.wide_sum-sum-requires-clause-y
-wide_sum-sum-requires-clause-y g c =
-    let r = c.requires.rows in
-    let y : FitsSigned w64 c.read-y.result = search rules in
-    let w = subst (λ z. unsigned_abs z ≤ c.args.by.now.size) (sym c.read-y.ensures.number) (r.2.within c.in-Some.c) in
-    let s = r.2.small in
-    let small : unsigned_abs c.read-y.result < 2 ^ 63 = omega arith in
-    simp to_z-of_z small
-
-pub bounds-sums-c : goal.bounds-sums-c
-bounds-sums-c g c = let l = inside g (goal.at.bounds-sums-c g c).In-Some in let s = c.loop-c.auto.sums in omega arith
-
-pub overflow_add-from : goal.overflow_add-from
-unfolding size_of
-overflow_add-from g c =
-    let r = c.requires.rows in
-    let by = c.args.by.now in
-    let m = by.marks in
-    let few = m.few in
-    let columns = r.2.columns in
-    let l = inside g (goal.at.overflow_add-from g c).In-Some in
-    record { fits = omega arith }
-
-pub loop-c-preserved : goal.loop-c-preserved
-loop-c-preserved g c =
+pub sum_word-all-requires-clause-inside : goal.sum_word-all-requires-clause-inside
+sum_word-all-requires-clause-inside g c i l h =
     let r = c.requires.rows in
     let row = c.args.row.now in
     let by = c.args.by.now in
-    let i = c.loop-c.invariant in
-    let first = c.in-Some.ensures.first in
-    let x : FitsSigned w64 c.read-x.result = search rules in
-    let y : FitsSigned w64 c.read-y.result = search rules in
-    let z : FitsSigned w128 c.wide_sum-sum.result = search rules in
-    let told = simp to_z-of_z at c.wide_sum-sum.ensures.value in
+    let e = either_set row by c.loop-w.w c.word-own.result c.word-other.result c.word-own.ensures c.word-other.ensures i l in
+    let inside = either_below row by _ r.0 r.1 r.2 (64 * c.loop-w.w + i) (sym e ∙ h) in
+    let x = r.1.count in
+    let y = r.2.count in
+    let p = c.as_slice.ensures.len in
+    let q = c.as_slice-in-loop-w.ensures.len in
+    let s = c.loop-w.auto.sums in
+    (omega arith, omega arith, omega arith)
+
+pub loop-w-preserved : goal.loop-w-preserved
+loop-w-preserved g c =
+    let r = c.requires.rows in
+    let row = c.args.row.now in
+    let by = c.args.by.now in
     let s : ℤ = c.args.parts.scale in
     let k : ℤ = c.args.parts.factor in
-    let both = told ∙ ap₂ (λ p q. p *ℤ s +ℤ q *ℤ k) c.read-x.ensures.number c.read-y.ensures.number in
-    let l = inside g (goal.at.loop-c-preserved g c).In-Some in
-    let a = c.loop-c.auto.sums in
-    let next = sums_next row by s k c.wide_sum-sum.result c.loop-c.from c.in-Some.c c.loop-c.sums (omega arith) first both i.told in
+    let w : ℕ = c.loop-w.w in
+    let i = c.loop-w.invariant in
+    let e = c.sum_word-all.ensures in
+    let own : ℕ = c.word-own.result in
+    let other : ℕ = c.word-other.result in
     record {
-      kept = c.in-Some.ensures.kept;
-      told = simp to_z-of_z next;
-      within = omega arith;
+      told = λ j l h. by_lt j (64 * w)
+          (λ low. e.before j low ∙ i.told j low h)
+          (λ high.
+          let at : 64 * w + (j - 64 * w) ≡ j = omega arith in
+          let within : j - 64 * w < 64 = omega arith in
+          let set = either_set row by w own other c.word-own.ensures c.word-other.ensures (j - 64 * w) within ∙ ap (either_at row by) at ∙ h in
+          let sum = e.sums (j - 64 * w) within set ∙ ap₂ (λ xs ys. number_at xs (64 * w + (j - 64 * w)) *ℤ s +ℤ number_at ys (64 * w + (j - 64 * w)) *ℤ k) c.as_slice.ensures.value c.as_slice-in-loop-w.ensures.value in
+          subst (λ q. number_at c.sum_word-all.new.sums q ≡ numer_at row q *ℤ s +ℤ numer_at by q *ℤ k) at sum);
       cost =
-          let mine = counted_mark row _ r.0 c.in-Some.c r.1 in
-          let its = counted_mark by _ r.0 c.in-Some.c r.2 in
-          let u = counted_to c.loop-c.from c.in-Some.c (numbers_of row) first.later in
-          let v = counted_to c.loop-c.from c.in-Some.c (numbers_of by) first.later in
-          let old = i.cost in
-          let p = c.read-x.ensures.cost in
-          let q = c.read-y.ensures.cost in
+          let most = steps_most row by w own other (bit_or own other) 0 1 c.word-own.ensures c.word-other.ensures (λ j l h. omega arith) in
+          let more = counted_words (numbers_of row) (numbers_of by) w (λ j. entries_at row (64 * w + j)) (λ j. entries_at by (64 * w + j)) (λ j. entry_count row _ r.0 (64 * w + j) r.1) (λ j. entry_count by _ r.0 (64 * w + j) r.2) in
+          let before = i.cost in
+          let now = e.cost in
           omega arith;
-      counted = let o = i.counted in let p = c.read-x.ensures.cost in let q = c.read-y.ensures.cost in omega arith;
+      counted = let p = i.counted in let q = e.cost in omega arith;
     }
 
 pub returns-clause-sums : goal.returns-clause-sums
-returns-clause-sums g c j h = by_lt j c.loop-c.from (λ l. c.loop-c.invariant.told j l h) (λ l. absurd (false≢true (sym (c.in_default.ensures.first j l) ∙ h)))
+returns-clause-sums g c j h = by_lt j (64 * c.loop-w.w)
+    (λ low. c.loop-w.invariant.told j low h)
+    (λ high.
+    let r = c.requires.rows in
+    let x = r.1.columns in
+    let y = r.2.columns in
+    let size = c.words-w-end.ensures in
+    let a = past_marks c.args.row.now.marks j (omega arith) in
+    let b = past_marks c.args.by.now.marks j (omega arith) in
+    absurd (false≢true (sym (ap₂ (λ (p q : Bool). p || q) a b) ∙ h)))
 
 pub returns-clause-cost : goal.returns-clause-cost
-returns-clause-cost g c = let i = c.loop-c.invariant in both_to c.loop-c.from _ (numbers_of c.args.row.now) (numbers_of c.args.by.now) c.loop-c.steps c.args.steps.now i.within i.cost
+returns-clause-cost g c =
+    let r = c.requires.rows in
+    let mine = counted_within c.args.row.now _ r.0 (64 * c.loop-w.w) r.1 in
+    let its = counted_within c.args.by.now _ r.0 (64 * c.loop-w.w) r.2 in
+    let all = c.loop-w.invariant.cost in
+    omega arith
