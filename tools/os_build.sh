@@ -39,10 +39,15 @@ lay_out() {
     done
 }
 
-# Takes a crate's tests out of its copy: the file that has them, its two lines in the root, and their proofs.
+# Takes a crate's tests out of its copy: the file that has them, its two lines in the root, and their proofs. The gate wants files in
+# the toolchain's layout, so an empty line stays only between others, and one alone.
 leave_out_tests() {
     [ -e "$2/src/tests.rt" ] || return 0
-    rm -rf "$2/src/tests.rt" "$2/proofs/tests" && sed '/^#\[cfg(test)\]$/{N;d;}' "$1/src/lib.rt" >"$2/src/lib.rt"
+    rm -rf "$2/src/tests.rt" "$2/proofs/tests" && awk '
+        /^#\[cfg\(test\)\]$/ { getline; next }
+        /^$/ { empty = 1; next }
+        { if (empty) print ""; empty = 0; print }
+    ' "$1/src/lib.rt" >"$2/src/lib.rt"
 }
 
 # How many crates are proved, of how many, and about how many minutes are left, by the seconds of docs/WORKING.md's table: as fast
