@@ -296,5 +296,22 @@ expect 'a short search at a terminal' "$seen" document
 STUB_SECONDS=3 STUB_TEXT=document ./os solve there >out 2>err
 expect 'a long search elsewhere' "$(cat out err)" document
 
+# What the build takes of a crate with tests: none of these, and no empty line at the end or behind another, as the toolchain's layout
+# has none, without which the gate refuses the crate.
+for tests in "$top"/crates/*/src/tests.rt; do
+    from=${tests%/src/tests.rt}
+    to=bare/${from##*/}
+    mkdir -p "$to/src"
+    cp "$from/src/lib.rt" "$tests" "$to/src"
+    (
+        crate=$to
+        # shellcheck source=tools/os_build.sh
+        . "$top/tools/os_build.sh"
+        leave_out_tests "$from" "$to"
+    )
+    expect "${from##*/} without its tests" "$(ls "$to/src"; grep -c 'cfg(test)\|mod tests' "$to/src/lib.rt")" "$(printf 'lib.rt\n0')"
+    expect "empty lines of ${from##*/}" "$(awk 'NR > 1 && last == "" && $0 == "" { odd++ } { last = $0 } END { print odd + (last == "") }' "$to/src/lib.rt")" 0
+done
+
 echo "os_lines: $((tried - failed)) of $tried as expected"
 [ "$failed" -eq 0 ]
