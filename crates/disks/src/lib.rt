@@ -7,17 +7,14 @@
 //! rest, and a crash then leaves what a read gives. A call answers [`Failed`](os_io::Failed) only where the disk's count of faults
 //! rose, or stands at 2^64 - 1.
 //!
-//! [`MemDisk`] tells what it holds, and fails where it is told to. [`FileDisk`] is a file of the system, of which nothing is told:
-//! that the system keeps what the model says is trusted, as POSIX has it (IEEE Std 1003.1, `pread`, `pwrite`, `ftruncate` and
-//! `fdatasync`). [`Stores`] opens disks by name and takes them back: [`FileStores`] the system's files, [`MemStores`] one disk in
-//! memory.
+//! [`FileDisk`] is a file of the system, of which nothing is told: that the system keeps what the model says is trusted, as POSIX has
+//! it (IEEE Std 1003.1, `pread`, `pwrite`, `ftruncate` and `fdatasync`). [`Stores`] opens disks by name and takes them back:
+//! [`FileStores`] the system's files.
 #![tactic(auto)]
 
 mod disk;
 mod file_disk;
 mod file_stores;
-mod mem_disk;
-mod mem_stores;
 mod stores;
 #[cfg(test)]
 mod tests;
@@ -25,6 +22,4 @@ mod tests;
 pub use disk::Disk;
 pub use file_disk::FileDisk;
 pub use file_stores::FileStores;
-pub use mem_disk::MemDisk;
-pub use mem_stores::{MemStore, MemStores};
 pub use stores::Stores;

@@ -1,4 +1,4 @@
-use crate::{Disk, FileDisk, FileStores, MemDisk, MemStores, Stores};
+use crate::{Disk, FileDisk, FileStores, Stores};
 use os_io::Failed;
 use std::test::Fail;
 use std::{env, fs};
@@ -28,27 +28,6 @@ fn a_file_of_the_system_is_written_cut_and_read(rt: HostRuntime) -> Result<(), F
     );
     fs::remove_file(&rt, name.as_str())?;
     assert_eq!(rt; FileDisk::open(&rt, "").err().is_some(), true);
-    Ok(())
-}
-
-#[test]
-fn a_disk_in_memory_is_opened_once_and_given_back(rt: HostRuntime) -> Result<(), Fail> {
-    let alloc = rt.alloc();
-    let disk = MemDisk::new(alloc, b"seven bytes", &[], u64::MAX)?;
-    let mut stores = MemStores::new(alloc, "journal", disk)?;
-    assert!(rt; stores.open_store("other").is_err());
-    assert!(rt; stores.find_store("other").is_err());
-    assert!(rt; stores.last_back().is_none());
-    match stores.open_store("journal") {
-        Ok(mut store) => {
-            assert!(rt; stores.open_store("journal").is_err());
-            assert!(rt; stores.find_store("journal").is_err());
-            assert_eq!(rt; store.write_at(0, b"SE"), Ok(()));
-            stores.done_store(store);
-        }
-        Err(_) => assert!(rt; false),
-    }
-    assert_eq!(rt; stores.last_back(), Some(b"SEven bytes".as_slice()));
     Ok(())
 }
 

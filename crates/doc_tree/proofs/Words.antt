@@ -45,7 +45,7 @@ pub use Rattle.doc_tree.specs.declared.machine.Round.{Round}
 pub use Rattle.doc_tree.specs.declared.names.Part.{Part}
 pub use Rattle.element_tree.proofs.Events.{element_same}
 pub use Rattle.element_tree.proofs.OpenElements.{match_map}
-pub use Rattle.element_tree.proofs.XmlTexts.{Printable, clean_ascii, clean_fixed, clean_nothing, each_append, text_append}
+pub use Rattle.tree_grammar.proofs.XmlTexts.{Printable, clean_ascii, clean_fixed, clean_nothing, each_append, text_append}
 pub use Rattle.element_tree.specs.Building.{Building, said, with_run}
 pub use Rattle.element_tree.specs.Items.{event_at}
 pub use Rattle.element_tree.specs.Nesting.{IsOneElement}

@@ -4,8 +4,7 @@
 //! of one that comes in pieces. They answer exactly the documents within a limit of bytes and a depth of 32, each with
 //! its one tree. [`Events`] tell a [`Visitor`] of one's own what such a document says, without a tree: start tags with
 //! their attributes, characters in any pieces, end tags, in document order. A `Reader` is `Events` whose visitor builds a
-//! tree. [`write()`] gives the text of a tree, [`write_to`] writes it to a sink, and [`escape()`] gives the text of
-//! character data.
+//! tree.
 //!
 //! What is refused, but for want of memory, has the refusal that `Refusals` defines by the bytes and the grammar alone:
 //! the first byte decides it behind which no document goes on, or which is one too many, begins an element that is too
@@ -35,7 +34,7 @@ mod reader;
 mod reading;
 mod visitor;
 
-pub use element_tree::{Attributes, Tree, escape, write, write_to};
+pub use element_tree::{Attributes, Tree};
 pub use events::Events;
 pub use fault::TreeFault;
 pub use laws::{documents_have_one_tree, refusals_are_one};

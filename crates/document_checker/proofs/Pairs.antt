@@ -3,7 +3,7 @@ use Rattle.std.proofs.Common.{◌≡◌, ℕ, List, ◌⊎◌, inl, inr}
 use Rattle.instance.specs.Parts.{Parts}
 use Rattle.osil_grammar.specs.Reading.{IsInstanceText}
 use Rattle.osrl_grammar.specs.Reading.{IsReportText}
-use Rattle.osrl_grammar.specs.declared.report.Report.{Report}
+use Rattle.osrl_writing.specs.declared.report.Report.{Report}
 use Rattle.document_checker.specs.declared.documents.Kind.{Kind}
 use Rattle.document_checker.specs.declared.fault.CheckFault.{CheckFault}
 use Rattle.document_checker.specs.declared.fault.CheckFault.TheVariants as faults

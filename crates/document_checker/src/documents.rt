@@ -17,7 +17,8 @@ use cert_checker::{Refused, Scratch, check};
 use certificate::Claim;
 use instance::Instance;
 use osil_grammar::OsilFault;
-use osrl_grammar::{OsrlFault, Report, read_claims_fit};
+use osrl_grammar::{OsrlFault, read_claims_fit};
+use osrl_writing::Report;
 use std::alloc::Global;
 
 /// What an accepted claim says of the instance.

@@ -7,7 +7,7 @@ ghost use Rattle.certificate.specs.declared.claims.Claim as carried;
 ghost use Rattle.certificate.specs.Meanings as Means;
 ghost use Rattle.osil_grammar.specs.Reading.{IsInstanceText};
 ghost use Rattle.osrl_grammar.specs.Reading.{IsReportText};
-ghost use Rattle.osrl_grammar.specs.declared.report.Report.{Report};
+ghost use Rattle.osrl_writing.specs.declared.report.Report.{Report};
 ghost use Rattle.document_checker.specs.declared.fault.CheckFault.{CheckFault};
 ghost use Rattle.document_checker.specs.declared.fault.CheckFault.TheVariants.{Memory};
 ghost use Rattle.document_checker.specs.declared.documents.Kind.{Kind};

@@ -8,7 +8,7 @@ use Rattle.tree_grammar.specs.Elements.{Attribute, Nodes, none, element, chars, 
 use Rattle.tree_grammar.specs.Content.{Comment, comment_over, comment_plain, comment_dash, comment_text, Instruction, bare, with_text, instruction_text, Content, nothing, char, reference, section, comment, instruction, empty, nested, content_text, content_nodes, end_text, put_char, put_chars, Body, closed, opened, body_text, body_nodes, Misc, misc_over, misc_space, misc_comment, misc_instruction, misc_text}
 use Rattle.tree_grammar.specs.Declaration.{Declaration, no_declaration, declared, declaration_text, Encoding, no_encoding, encoded, encoding_text, Standalone, no_standalone, standing, standalone_text, Version, version_text}
 use Rattle.tree_grammar.specs.Document.{Document, document_text, document_element, mark_text, Doc}
-use Rattle.element_tree.proofs.XmlTexts.{Printable, qname_printable, list_printable, text_append}
+use Rattle.tree_grammar.proofs.XmlTexts.{Printable, qname_printable, list_printable, text_append}
 use Rattle.document_tags.specs.Characters.{AttributesOfCharacters, NodesOfCharacters, IsOfCharacters}
 use Rattle.document_tags.specs.Elements.{characters, own_text}
 use Rattle.document_tags.proofs.PrintableTexts.{printable_text}

@@ -4,7 +4,7 @@ use Rattle.std.specs.Prelude.{decimal}
 use Rattle.std.specs.List.{list_all}
 use Rattle.std.specs.Fmt.{signed_decimal, digits, digits_onto, digit_glyph}
 use Rattle.tree_grammar.specs.Characters.{IsXmlText, Each}
-use Rattle.element_tree.proofs.XmlTexts.{Printable, is_printable, list_printable, clean_ascii, clean_nothing}
+use Rattle.tree_grammar.proofs.XmlTexts.{Printable, is_printable, list_printable, clean_ascii, clean_nothing}
 
 -- what holds of each digit
 abbrev pub HoldsOfDigits : (ℕ → Type 0) → Type 0

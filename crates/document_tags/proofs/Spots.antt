@@ -6,7 +6,7 @@ use Rattle.document_tags.specs.declared.spot.Spot.{Spot}
 use Rattle.document_tags.specs.Elements.{named, children_named, characters}
 use Rattle.std.specs.List.{AllZip}
 use Rattle.document_tags.specs.Spots.{StandsAt, AreSpots}
-use Rattle.element_tree.proofs.Texts.{drop-slice_get}
+use Rattle.tree_writing.proofs.Texts.{drop-slice_get}
 use Rattle.document_tags.specs.Elements.{value_of}
 use Rattle.document_tags.proofs.Passages.{same_heads, never}
 

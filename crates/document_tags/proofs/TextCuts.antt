@@ -5,7 +5,7 @@ use Rattle.std.proofs.lemmas.Str.{encode_ascii}
 use Rattle.std.specs.Char.{encode_utf8}
 use Rattle.std.specs.Prelude.{encode_utf8_all}
 use Rattle.tree_grammar.specs.Characters.{Each, IsXmlChar, IsXmlText, IsSpace, normal_lines, begins_with_line_feed}
-use Rattle.element_tree.proofs.XmlTexts.{Printable, text_append, high_bytes}
+use Rattle.tree_grammar.proofs.XmlTexts.{Printable, text_append, high_bytes}
 use Rattle.doc_tree.proofs.Utf8.{no_text}
 
 -- a character's bytes

@@ -7,8 +7,8 @@ use Rattle.tree_grammar.specs.Tags.{IsAmong}
 use Rattle.tree_grammar.specs.Elements.{Attribute, Nodes, none, element, Element, nodes_depth}
 use Rattle.tree_grammar.specs.Document.{Doc}
 use Rattle.tree_grammar.specs.WrittenText.{written}
-use Rattle.element_tree.specs.WritableElements.{AreWritable, NamesDiffer, NodesWritable, IsWritable, kept_attributes, local_nodes}
-use Rattle.element_tree.proofs.Documents.{written_doc}
+use Rattle.tree_writing.specs.WritableElements.{AreWritable, NamesDiffer, NodesWritable, IsWritable, kept_attributes, local_nodes}
+use Rattle.tree_writing.proofs.Documents.{written_doc}
 use Rattle.document_tags.specs.Texts.{document_limit, IsDocument}
 use Rattle.document_tags.specs.Writing.{text_nodes, rooted, bare_root, only}
 use Rattle.document_tags.proofs.PrintableTexts.{fixed_text}

@@ -8,9 +8,10 @@ ghost use Rattle.element_tree.specs.Nesting.{IsOneElement};
 ghost use Rattle.document_tags.specs.Writing.{with_attribute, only};
 ghost use Rattle.document_tags.specs.Telling.{Told, ToldAttributes, opening, closing, marked};
 
-use element_tree::{Tree, TreeBuilder, write};
+use element_tree::{Tree, TreeBuilder};
 use os_io::{Memory, Text};
 use std::alloc::Global;
+use tree_writing::write;
 
 /// Tells an attribute of the element that begins next.
 pub fn attribute(b: &mut TreeBuilder, key: &[u8], value: &[u8]) -> Result<(), Memory>

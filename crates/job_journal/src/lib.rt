@@ -32,6 +32,3 @@ pub use faults::CompactFault;
 pub use journal::Journal;
 pub use opening::open_journal;
 pub use scanning::{OpenFault, Sieve};
-
-#[cfg(test)]
-mod tests;

@@ -1,7 +1,7 @@
 -- Which documents a sieve takes.
 use Rattle.std.proofs.Common.{◌≡◌, inl, inr, ℕ, true, false, List, Some, None, refl, sym, ◌∙◌, ap}
 use Rattle.std.specs.Prelude.{◌↔◌}
-use Rattle.osrl_grammar.specs.declared.report.Report.{Report}
+use Rattle.osrl_writing.specs.declared.report.Report.{Report}
 use Rattle.osrl_grammar.specs.Reading.{IsReportText}
 use Rattle.document_checker.specs.declared.documents.Kind.{Kind}
 use Rattle.document_checker.specs.declared.fault.CheckFault.{CheckFault}

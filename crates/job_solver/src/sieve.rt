@@ -7,7 +7,8 @@ use certificate::Claim;
 use document_checker::{CheckFault, accepted_documents_are_not_refused, check_docs};
 use job_journal::Sieve;
 use os_io::Memory;
-use osrl_grammar::{OsrlFault, Report, decode, document_has_one_report, report_is_not_refused};
+use osrl_grammar::{OsrlFault, decode, document_has_one_report, report_is_not_refused};
+use osrl_writing::Report;
 use std::alloc::{AllocError, Global};
 
 /// Accepts a report that claims nothing, or is unsure, and else what the checker accepts.

@@ -5,7 +5,7 @@ use Rattle.std.specs.Borrow.{Bor}
 use Rattle.os_io.specs.Files.{Held, ReadsFirst}
 use Rattle.certificate.specs.declared.causes.Cause.TheVariants.{Memory}
 use Rattle.certificate.specs.declared.claims.Claim.TheVariants.{Unsure}
-use Rattle.osrl_grammar.specs.declared.report.Report.{Report}
+use Rattle.osrl_writing.specs.declared.report.Report.{Report}
 use Rattle.solve_run.specs.declared.document.Document.{Document}
 use Rattle.solve_run.specs.JobAnswers.{AreJobTexts, IsBestOfSearch, AnswersJob, no_options, no_instance, solved, gave_up}
 use Rattle.command_answers.specs.FileNames.{ReadsNamed}

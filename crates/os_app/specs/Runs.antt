@@ -22,8 +22,8 @@ use Rattle.os_app.specs.StoredRuns.{StoredRunEnds}
 use Rattle.os_app.specs.Checks.{IsAnswerLine, IsAnswerAbout}
 use Rattle.os_app.specs.Solves.{IsDocumentAbout}
 use Rattle.os_app.specs.Summaries.{IsSummaryOf}
-use Rattle.osrl_grammar.specs.declared.report.Report.{Report}
-use Rattle.osrl_grammar.specs.Writing.{report_text}
+use Rattle.osrl_writing.specs.declared.report.Report.{Report}
+use Rattle.osrl_writing.specs.Writing.{report_text}
 use Rattle.os_app.specs.Safe.{says_turn_limit}
 use Rattle.os_app.specs.Statuses.{serve_status, session_status, solve_status}
 use Rattle.command_line.specs.Words.{Command, Session, Check, Solve, Generate, Call, Compact, Serve, asks, names_files, AsksSession, IsCheck, NamesNoFile, IsNoCommand, usage}

@@ -2,8 +2,8 @@
 use Rattle.std.specs.Prelude.{◌≡◌, ℕ, Bool, false, Option, List}
 use Rattle.os_io.specs.Files.{Held, MayHold}
 use Rattle.command_answers.specs.FileNames.{ReadsNamed}
-use Rattle.osrl_grammar.specs.declared.report.Report.{Report}
-use Rattle.osrl_grammar.specs.Writing.{report_text}
+use Rattle.osrl_writing.specs.declared.report.Report.{Report}
+use Rattle.osrl_writing.specs.Writing.{report_text}
 use Rattle.solve_run.specs.JobAnswers.{AnswersJob}
 use Rattle.solve_run.specs.declared.document.Document.{Document}
 use Rattle.solve_run.specs.Runs.{IsRight}

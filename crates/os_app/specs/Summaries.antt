@@ -5,7 +5,7 @@ use Rattle.certificate.specs.declared.causes.Cause.TheVariants as causes
 use Rattle.certificate.specs.declared.claims.Claim.{Claim}
 use Rattle.branch_bound.specs.Claims.{claims_for}
 use Rattle.osil_grammar.specs.Writing.{IsWrittenText}
-use Rattle.osrl_grammar.specs.declared.report.Report.{Report}
+use Rattle.osrl_writing.specs.declared.report.Report.{Report}
 use Rattle.osrl_grammar.specs.Reading.{IsReportText}
 use Rattle.document_checker.specs.declared.documents.Kind.{Kind}
 use Rattle.document_checker.specs.declared.fault.CheckFault.{CheckFault as Refused}

@@ -1,10 +1,9 @@
 -- Texts that are written part by part.
-use Rattle.std.proofs.Common.{◌≡◌, ℕ, zero, suc, ◌+◌, List, [], ◌∷◌, ◌++◌, take, drop, length, Option, Bool, true, false, Ok, Err, Result, refl, sym, ◌∙◌, ap, subst, append_assoc, append-nil}
-use Rattle.std.specs.Prelude.{IsErrAnd, OnOk, if◌then◌else◌}
-use Rattle.std.proofs.Math.Seq.{take-length}
+use Rattle.std.proofs.Common.{◌≡◌, ℕ, ◌+◌, List, [], ◌++◌, take, drop, Option, Ok, Err, Result, refl, sym, ◌∙◌, ap, subst, append_assoc, append-nil}
+use Rattle.std.specs.Prelude.{IsErrAnd, OnOk}
 use Rattle.std.proofs.lemmas.List.{take-append-drop, drop-drop}
 use Rattle.os_io.specs.Streams.{Tells, BothTold, IsPart, Appends, AppendsPart, Grows, HasRisen, Counts, SameInput, Writes, Sends}
-use Rattle.os_io.specs.Laws.{handed_part, part_whole}
+use Rattle.os_io.specs.Laws.{part_whole}
 use Rattle.os_io.proofs.Tellings.{tells_same, tells_on, tells_map}
 
 -- ---- first parts
@@ -24,23 +23,6 @@ part_more t u part (rest, p) = (rest ++ u, ap (λ k. k ++ u) p ∙ append_assoc 
 -- a text, and a first part of what stands behind it
 pub part_behind : (t u part : List ℕ) → IsPart u part → IsPart (t ++ u) (t ++ part)
 part_behind t u part (rest, p) = (rest, ap (λ k. t ++ k) p ∙ sym (append_assoc t part rest))
-
--- the first bytes stay the first where more follow
-pub handed_more : (n : ℕ) (bytes more : List ℕ) → IsPart (take n (bytes ++ more)) (take n bytes)
-handed_more zero bytes more = ([], refl)
-handed_more (suc n) [] more = (take (suc n) more, refl)
-handed_more (suc n) (b ∷ bytes) more =
-    let (rest, p) = handed_more n bytes more in (rest, ap (λ k. b ∷ k) p)
-
--- the first bytes stay the first, whether more follow or not
-pub handed_if : (more_follow : Bool) (n : ℕ) (old more new : List ℕ) → new ≡ (if more_follow then old ++ more else old) → IsPart (take n new) (take n old)
-handed_if true n old more new e = subst (λ b. IsPart (take n b) (take n old)) (sym e) (handed_more n old more)
-handed_if false n old more new e = subst (λ b. IsPart (take n b) (take n old)) (sym e) (part_whole (take n old))
-
--- the first bytes are a first part of all
-pub handed_all : (n len : ℕ) (bytes : List ℕ) → len ≡ length bytes → IsPart (take len bytes) (take n bytes)
-handed_all n len bytes e =
-    subst (λ b. IsPart b (take n bytes)) (sym (ap (λ k. take k bytes) e ∙ take-length bytes)) (handed_part n bytes)
 
 -- what grows not at all grows
 pub grows_same : (x : Option (List ℕ)) → Grows x x

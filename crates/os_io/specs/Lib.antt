@@ -1,11 +1,7 @@
-pub mod Addresses
 pub mod Bodies
 pub mod Files
-pub mod MemLinks
 pub mod Laws
 pub mod Limits
 pub mod Links
 pub mod Looks
-pub mod MemFiles
-pub mod Memory
 pub mod Streams

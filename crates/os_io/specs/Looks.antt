@@ -1,7 +1,5 @@
 -- Looks at whether to stop.
-use Rattle.std.specs.Prelude.{◌≡◌, ℕ, ◌+◌, ◌-◌, ◌^◌, ◌==◌, min, Bool, true, false, List, [], ◌∷◌}
-use Rattle.std.specs.List.{list_any}
-use Rattle.os_io.specs.declared.mem_watch.MemWatch.{MemWatch}
+use Rattle.std.specs.Prelude.{ℕ, ◌+◌, ◌-◌, ◌^◌, min, Bool, true, false, List, [], ◌∷◌}
 
 -- how many of these looks said to stop
 abbrev pub stops_of : List Bool → ℕ
@@ -12,15 +10,3 @@ stops_of (false ∷ more) = stops_of more
 -- the number of the call after so many: calls are counted from 1, and the count stays at its greatest
 abbrev pub next_call : ℕ → ℕ
 next_call calls = min (calls + 1) (2 ^ 64 - 1)
-
--- after so many calls, calls with these answers made so many: an answer is whether the call's number is listed
-abbrev pub AreAnswers : List ℕ → ℕ → List Bool → ℕ → Type 0
-AreAnswers numbers calls [] calls' = calls' ≡ calls
-AreAnswers numbers calls (answer ∷ more) calls' =
-    (answer ≡ list_any (λ call. call == next_call calls) numbers) × AreAnswers numbers (next_call calls) more calls'
-
--- the new watch in memory is the old one after looks with these answers, in order
-pub record CameInMemory (old new : MemWatch) (answers : List Bool) : Type 0 where
-  pub same : new.script.fails ≡ old.script.fails
-  pub listed : AreAnswers old.script.fails.items old.script.calls answers new.script.calls
-  pub counted : new.stops ≡ old.stops + stops_of answers

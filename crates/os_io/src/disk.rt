@@ -2,8 +2,8 @@
 ghost use Rattle.std.specs.Prelude.{◌≡◌};
 ghost use Rattle.os_io.specs.Files.{Untold};
 
+use crate::faults::count_fault;
 use crate::files::{FileFault, Files};
-use crate::parts::count_fault;
 use crate::text::Text;
 use std::alloc::Global;
 use std::fs;

@@ -6,8 +6,8 @@
 //!
 //! What an object tells of its bytes is part of each contract: a read says which bytes it took, a write which it
 //! added, a flush that all that was written was handed on. A call answers [`Failed`] only where the object's count of
-//! faults rose in that call, so whoever counts can see why. Real inputs and outputs tell nothing of their bytes; the
-//! forms in memory tell all.
+//! faults rose in that call, so whoever counts can see why. Real inputs and outputs tell nothing of their bytes; what is
+//! kept in memory can tell all.
 //!
 //! A link that a listener gives is open until it is closed ([`Close`]), and a listener tells at which hosts and ports it listened and
 //! to which it connected, so that whoever serves can be asked to serve links that are open, where it was told to.
@@ -21,17 +21,12 @@
 mod body;
 mod close;
 mod disk;
+mod faults;
 mod files;
 mod limits;
 mod listener;
 mod mem_body;
-mod mem_files;
-mod mem_link;
-mod mem_listener;
-mod mem_watch;
-mod memory;
 mod never;
-mod parts;
 mod standard;
 mod streams;
 #[cfg(test)]
@@ -42,17 +37,12 @@ mod watch;
 pub use body::Body;
 pub use close::Close;
 pub use disk::DiskFiles;
+pub use faults::count_fault;
 pub use files::{FileFault, Files};
 pub use limits::{MOST_BYTES, MOST_REPLY};
 pub use listener::Listener;
 pub use mem_body::MemBody;
-pub use mem_files::MemFiles;
-pub use mem_link::MemLink;
-pub use mem_listener::MemListener;
-pub use mem_watch::MemWatch;
-pub use memory::{MemSink, MemSource};
 pub use never::Never;
-pub use parts::count_fault;
 pub use standard::{StdSink, StdSource};
 pub use streams::{Failed, Link, Sink, Source, Stream, send_all, write_all};
 pub use text::{Memory, Text};

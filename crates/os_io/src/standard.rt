@@ -2,7 +2,7 @@
 ghost use Rattle.std.specs.Prelude.{◌≡◌, None};
 ghost use Rattle.os_io.specs.Streams.{source_tells, sink_tells};
 
-use crate::parts::count_fault;
+use crate::faults::count_fault;
 use crate::streams::{Failed, Sink, Source, Stream};
 use std::io::{Read, Write};
 

@@ -18,10 +18,10 @@ use Rattle.job_runs.specs.Solves.{Solves, BeginsToSolve}
 use Rattle.certificate.specs.declared.causes.Cause.TheVariants as causes
 use Rattle.certificate.specs.declared.claims.Claim.{Claim}
 use Rattle.certificate.specs.declared.claims.Claim.TheVariants.{Unsure}
-use Rattle.osrl_grammar.specs.declared.report.JobStatus.{JobStatus}
-use Rattle.osrl_grammar.specs.declared.report.JobStatus.TheVariants as status
-use Rattle.osrl_grammar.specs.declared.report.Report.{Report}
-use Rattle.osrl_grammar.specs.Writing.{report_text}
+use Rattle.osrl_writing.specs.declared.report.JobStatus.{JobStatus}
+use Rattle.osrl_writing.specs.declared.report.JobStatus.TheVariants as status
+use Rattle.osrl_writing.specs.declared.report.Report.{Report}
+use Rattle.osrl_writing.specs.Writing.{report_text}
 use Rattle.ospl_grammar.specs.declared.process.JobState.{JobState}
 use Rattle.ospl_grammar.specs.declared.process.JobState.TheVariants as job_states
 use Rattle.ospl_grammar.specs.declared.process.StatedJob.{StatedJob}

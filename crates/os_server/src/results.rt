@@ -1,13 +1,13 @@
 //! Result documents of what is shown of jobs.
 ghost use Rattle.std.specs.Prelude.{◌≡◌, IfOk};
-ghost use Rattle.osrl_grammar.specs.Writing.{report_text};
+ghost use Rattle.osrl_writing.specs.Writing.{report_text};
 ghost use Rattle.soap_calls.specs.Writing.{reply_text};
 ghost use Rattle.os_server.specs.Answers.{state_report, unknown_report, shown_text};
 
 use certificate::{Cause, Claim};
 use job_table::Retrieved;
 use os_io::{Memory, Text};
-use osrl_grammar::{JobStatus, Report, encode};
+use osrl_writing::{JobStatus, Report, encode};
 use soap_calls::write_reply;
 use std::alloc::Global;
 

@@ -1,6 +1,6 @@
 -- The text of a written instance is a document.
 use Rattle.osil_grammar.proofs.Words.{◌≡◌, ℕ, zero, suc, ◌+◌, ◌^◌, ◌<◌, ◌≤◌, Bool, nat_lt, cond, true, false, List, [], ◌∷◌, length, map, refl, sym, subst, arith, inl, inr, lit<, lit≤, codes, decimal, All, All-nil, All-cons, All-map, All-weaker, IsXmlText, Attribute, Nodes, none, element, Element, IsWritable, local_element, IsDocument, document_limit, Frac, Entry, Goal, Sense, Min, Max, Parts, IsValid, counted_element, with_attribute, CountsCosts, WriteGoals, WriteLists, WritesInstance, IsWrittenText, counts_nodes, entries_below, row_starts, sense_text}
-use Rattle.element_tree.proofs.Documents.{written_doc}
+use Rattle.tree_writing.proofs.Documents.{written_doc}
 use Rattle.tree_grammar.specs.Document.{Doc}
 use Rattle.document_tags.proofs.XmlNodes.{IsTag, is_tag, tag_by}
 use Rattle.document_tags.proofs.PrintableTexts.{fixed_text, number_text}

@@ -4,7 +4,7 @@ use Rattle.std.specs.Char.{digit_value}
 use Rattle.std.specs.Str.Parse.{AllDigits}
 use Rattle.std.proofs.lemmas.Fmt.{decimal_is_IsNumeral_wide}
 use Rattle.std.proofs.lemmas.Str.Parse.{digit_from_value}
-use Rattle.element_tree.proofs.XmlTexts.{Printable, each_append}
+use Rattle.tree_grammar.proofs.XmlTexts.{Printable, each_append}
 use Rattle.decimal_text.proofs.PlainTexts.{plain_whole}
 
 -- printable characters, one at least

@@ -24,7 +24,7 @@ pub use Rattle.document_tags.specs.Telling.{ToldAttributes, closing, marked, ope
 pub use Rattle.document_tags.specs.Texts.{IsDocument, document_limit}
 pub use Rattle.document_tags.specs.Writing.{counted_element, with_attribute}
 pub use Rattle.element_tree.specs.Building.{Building, said}
-pub use Rattle.element_tree.specs.WritableElements.{IsWritable, NodesWritable, local_element, local_nodes}
+pub use Rattle.tree_writing.specs.WritableElements.{IsWritable, NodesWritable, local_element, local_nodes}
 pub use Rattle.evidence.proofs.Fits.{sums_same, whole-reduced}
 pub use Rattle.evidence.proofs.Numbers.{none-sum, sum-none, sum-number}
 pub use Rattle.fraction.proofs.Order.{same_fraction}

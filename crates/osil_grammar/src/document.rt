@@ -20,12 +20,13 @@ use crate::fault::EncodeFault;
 use crate::telling::leaf;
 use decimal_text::{DecimalFault, write_decimal};
 use document_tags::{close, empty_after, open, open_after};
-use element_tree::{Tree, TreeBuilder, write};
+use element_tree::{Tree, TreeBuilder};
 use fraction::{End, Entry, Frac};
 use instance::{Goal, Instance, Row, Sense, Var};
 use itoa::Buffer;
 use os_io::{MOST_BYTES, Memory, Text};
 use std::alloc::Global;
+use tree_writing::write;
 
 /// A number's text.
 fn decimal(alloc: Global, value: Frac) -> Result<Text, EncodeFault>

@@ -2,7 +2,7 @@
 
 ghost use Rattle.std.specs.Prelude.{◌≡◌, ◌⊎◌, ◌≤◌, ℕ, List, length, Result, Ok, Err, IfOk, IfErr};
 ghost use Rattle.tree_grammar.specs.Elements.{Element};
-ghost use Rattle.element_tree.specs.WritableElements.{local_element};
+ghost use Rattle.tree_writing.specs.WritableElements.{local_element};
 ghost use Rattle.document_tags.specs.Texts.{IsDocument, document_limit};
 ghost use Rattle.instance.specs.Parts.{Parts, IsValid};
 ghost use Rattle.osil_grammar.specs.declared.fault.OsilFault.{OsilFault};

@@ -6,7 +6,7 @@ use Rattle.tree_grammar.specs.Characters.{IsXmlText}
 use Rattle.tree_grammar.specs.Document.{Doc}
 use Rattle.tree_grammar.specs.Elements.{Attribute, Nodes, none, element, chars, Element, Event, Open, Chars, Close, nodes_events, events}
 use Rattle.doc_tree.specs.Marks.{Char, spread}
-use Rattle.element_tree.proofs.XmlTexts.{clean_nothing}
+use Rattle.tree_grammar.proofs.XmlTexts.{clean_nothing}
 use Rattle.document_tags.specs.Characters.{NodesOfCharacters, IsOfCharacters}
 use Rattle.document_tags.specs.Elements.{unless_empty}
 use Rattle.decimal_text.specs.Space.{trimmed}

@@ -3,10 +3,10 @@ use Rattle.osrl_grammar.proofs.Names.{◌≡◌, ℕ, suc, ◌+◌, ◌-◌, nat
 use Rattle.std.proofs.Common.{lit<}
 use Rattle.tree_grammar.specs.Characters.{local_part}
 use Rattle.certificate.specs.declared.causes.Cause.{Cause}
-use Rattle.osrl_grammar.specs.declared.parts.Part.TheVariants as parts
-use Rattle.osrl_grammar.specs.declared.parts.Claiming.TheVariants as claiming
+use Rattle.osrl_writing.specs.declared.parts.Part.TheVariants as parts
+use Rattle.osrl_writing.specs.declared.parts.Claiming.TheVariants as claiming
 use Rattle.document_tags.specs.Writing.{only}
-use Rattle.element_tree.specs.WritableElements.{kept_attributes}
+use Rattle.tree_writing.specs.WritableElements.{kept_attributes}
 use Rattle.document_tags.proofs.XmlNodes.{is_tag, AreTexts, AreFlat, text_flat, element_flat}
 use Rattle.osrl_grammar.proofs.BackTexts.{cut_printable, cause_printable, fractions_xml, nodes_xml, rounds_xml, levels_xml}
 

@@ -5,8 +5,8 @@ use Rattle.certificate.specs.declared.nodes.Node.TheVariants as nodes
 use Rattle.certificate.specs.declared.causes.Cause as why
 use Rattle.osrl_grammar.specs.declared.elements.Place.{Place}
 use Rattle.osrl_grammar.specs.declared.elements.Place.TheVariants as places
-use Rattle.osrl_grammar.specs.declared.parts.Part.TheVariants as parts
-use Rattle.osrl_grammar.specs.declared.parts.Claiming.TheVariants as claiming
+use Rattle.osrl_writing.specs.declared.parts.Part.TheVariants as parts
+use Rattle.osrl_writing.specs.declared.parts.Claiming.TheVariants as claiming
 use Rattle.std.specs.Prelude.{IsSome}
 use Rattle.std.proofs.lemmas.List.{length-append}
 use Rattle.certificate.specs.Nodes.{certs_of}

@@ -2,7 +2,7 @@
 use Rattle.osrl_grammar.proofs.Names.{ℕ, Bool, true, false, Option, None, Some, List, refl, lit≤, codes, Each, Nodes, none, Element, Printable, list_printable, IsDocument, printable_text, none_flat, Claim, JobStatus, Report, status_text, leaf, group, leaf_of, claim_nodes, optimization, general_type, general_nodes, status_nodes, report_element, report_text, IsBareOrNone, ComesBack}
 use Rattle.document_tags.specs.Writing.{bare_root}
 use Rattle.document_tags.proofs.XmlNodes.{still_flat, root_is_document}
-use Rattle.osrl_grammar.specs.declared.report.JobStatus.TheVariants as statuses
+use Rattle.osrl_writing.specs.declared.report.JobStatus.TheVariants as statuses
 use Rattle.osrl_grammar.proofs.BackNodes.{Flat, leaf_flat, group_flat, typed_flat, claim_flat}
 
 type_printable : (error : Bool) → Each Printable (general_type error)

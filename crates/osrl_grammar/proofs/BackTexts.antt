@@ -1,7 +1,7 @@
 -- The texts of numbers, items and statuses are characters of XML.
 use Rattle.osrl_grammar.proofs.Names.{ℕ, ◌+◌, ◌/◌, ◌%◌, ◌^◌, ◌==◌, Bool, true, false, cond, List, [], ◌∷◌, ◌++◌, map, drop, reverse, refl, sym, subst, lit≤, codes, decimal, flat_map, signed_decimal, All, reverse-append, All-nil, All-cons, All-append, IsXmlText, Each, Printable, list_printable, Ratio, ratio, Frac, optional, point_text, ratio_text, Mult, Cert, round_text, level_text, level_texts, Node, Split, Zero, Clash, Farkas, Bound, Step, without_zeros, decimals, cut_size, has_sign, cut_text, step_text, mult_text, node_text, cause_text, fraction_texts, decimal_each, signed_each, decimal_printable, printable_text}
 use Rattle.std.proofs.Common.{lit<}
-use Rattle.element_tree.proofs.XmlTexts.{each_append}
+use Rattle.tree_grammar.proofs.XmlTexts.{each_append}
 use Rattle.decimal_text.specs.Exact.{denominator_text}
 use Rattle.certificate.specs.declared.causes.Cause.{Cause}
 use Rattle.certificate.specs.declared.causes.Cause.TheVariants as causes

@@ -2,7 +2,7 @@
 use Rattle.osrl_grammar.proofs.Names.{◌≡◌, ◌∙◌, inl, ℕ, false, List, refl, ap, sym, subst, Option, None, Some, Result, Ok, Err, OnOk, false≢true, is_some, on_ok_weaker, trimmed, AllPass, FirstFails, OsrlFault, Report, Held, Part, Value, Misread, BadItem, IsItemRead, AfterItem, noted, with_read, State, start, bad_item, report_of, ends, around, tests, told, refusal_of, Fails, first, Ends, EndsAt, Refused}
 use Rattle.osrl_grammar.specs.declared.elements.Place.{Place}
 use Rattle.osrl_grammar.specs.declared.elements.Place.TheVariants as places
-use Rattle.osrl_grammar.specs.declared.parts.Part.TheVariants.{Tree, Cause}
+use Rattle.osrl_writing.specs.declared.parts.Part.TheVariants.{Tree, Cause}
 use Rattle.osrl_grammar.specs.Table.{unread, twice, miscounted}
 use Rattle.osrl_grammar.specs.Stepping.{as_held, IsCounted, AreCounted}
 use Rattle.std.specs.Prelude.{IsSome}

@@ -3,7 +3,7 @@ use Rattle.osrl_grammar.proofs.Names.{ℕ, ◌+◌, ◌^◌, ◌≤◌, Option, 
 use Rattle.std.proofs.lemmas.List.{length-append}
 use Rattle.certificate.specs.Nodes.{certs_of}
 use Rattle.document_tags.proofs.Sizes.{fewer_elements}
-use Rattle.osrl_grammar.specs.declared.parts.Part.TheVariants.{Tree}
+use Rattle.osrl_writing.specs.declared.parts.Part.TheVariants.{Tree}
 use Rattle.osrl_grammar.proofs.SoundStates.{certs_in}
 use Rattle.osrl_grammar.proofs.BackText.{root_of, text_document}
 

@@ -6,7 +6,7 @@ use Rattle.tag_tests.proofs.Tests.{order_tested}
 use Rattle.osrl_grammar.specs.declared.elements.Place.{Place}
 use Rattle.osrl_grammar.specs.declared.elements.Place.TheVariants.{Osrl}
 use Rattle.osrl_grammar.specs.Table.{Test, twice, miscounted, incomplete}
-use Rattle.osrl_grammar.specs.declared.parts.Part.TheVariants.{Tree, Cause}
+use Rattle.osrl_writing.specs.declared.parts.Part.TheVariants.{Tree, Cause}
 
 -- an item's refusal comes before those of the whole document
 item_low : (u : Misread) (n : ℕ) → number (item_refusal u n) ≤ 5

@@ -5,7 +5,7 @@ use Rattle.osrl_grammar.specs.declared.parts.TreeItem.TheVariants as trees
 use Rattle.certificate.specs.declared.causes.Place.{Place}
 use Rattle.certificate.specs.declared.causes.Cause as why
 use Rattle.certificate.specs.declared.causes.Cause.TheVariants as causes
-use Rattle.osrl_grammar.specs.declared.parts.Part.TheVariants.{Rounds, Tree, Cause}
+use Rattle.osrl_writing.specs.declared.parts.Part.TheVariants.{Rounds, Tree, Cause}
 use Rattle.osrl_grammar.proofs.WordValues.{each_step, each_node_word, each_cause_word}
 use Rattle.osrl_grammar.specs.Stepping.{ReadsNumber, as_held, ReadsItem}
 use Rattle.osrl_grammar.proofs.Fields.{Pass, number_pass, both_pass, reads_made, still_unread}

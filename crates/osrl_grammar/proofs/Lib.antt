@@ -1,6 +1,4 @@
 pub mod Names
-pub mod ItemLists
-pub mod Cuts
 pub mod ItemRatios
 pub mod Wholes
 pub mod Fields

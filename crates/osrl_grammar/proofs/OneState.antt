@@ -5,7 +5,7 @@ use Rattle.tag_tests.specs.Forms.{LeavesOne}
 use Rattle.certificate.specs.declared.causes.Cause as why
 use Rattle.osrl_grammar.specs.declared.elements.Place.{Place}
 use Rattle.osrl_grammar.specs.declared.elements.Place.TheVariants as places
-use Rattle.osrl_grammar.specs.declared.parts.Part.TheVariants as parts
+use Rattle.osrl_writing.specs.declared.parts.Part.TheVariants as parts
 use Rattle.osrl_grammar.specs.Leaving.{out_of}
 use Rattle.osrl_grammar.proofs.OneValue.{fraction_once, round_said_once, tree_said_once, cause_said_once}
 

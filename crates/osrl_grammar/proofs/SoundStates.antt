@@ -6,7 +6,7 @@ use Rattle.std.proofs.lemmas.List.Elements.{All-weaker}
 use Rattle.std.proofs.lemmas.Grind.{flat_map-append}
 use Rattle.std.proofs.lemmas.Slice.Eq.{bytes_eq-Decides}
 use Rattle.certificate.specs.Nodes.{certs_of}
-use Rattle.element_tree.proofs.XmlTexts.{text_append}
+use Rattle.tree_grammar.proofs.XmlTexts.{text_append}
 use Rattle.doc_tree.proofs.Utf8.{no_text}
 use Rattle.document_tags.specs.Characters.{NodesOfCharacters, IsOfCharacters}
 use Rattle.certificate.specs.declared.causes.Cause as why
@@ -14,8 +14,8 @@ use Rattle.certificate.specs.declared.causes.Cause.TheVariants as causes
 use Rattle.tag_tests.specs.declared.places.Led.TheVariants as led
 use Rattle.osrl_grammar.specs.declared.elements.Place.{Place}
 use Rattle.osrl_grammar.specs.declared.elements.Place.TheVariants as places
-use Rattle.osrl_grammar.specs.declared.parts.Part.TheVariants as parts
-use Rattle.osrl_grammar.specs.declared.parts.Claiming.TheVariants as claiming
+use Rattle.osrl_writing.specs.declared.parts.Part.TheVariants as parts
+use Rattle.osrl_writing.specs.declared.parts.Claiming.TheVariants as claiming
 use Rattle.osrl_grammar.specs.declared.parts.TreeItem.TheVariants as trees
 use Rattle.osrl_grammar.specs.Items.{begins_level, is_level}
 use Rattle.osrl_grammar.specs.Adding.{first_level}

@@ -2,7 +2,7 @@
 use Rattle.osrl_grammar.proofs.Names.{◌≡◌, ◌∙◌, ap, ℕ, Bool, true, false, cond, bytes_eq, Option, None, Some, List, [], ◌∷◌, refl, sym, subst, MatchOption, All, All-head, All-tail, Step, JobStatus, worded, status_text, step_text, all_steps, node_word, all_node_words, cause_word, all_cause_words}
 use Rattle.std.proofs.lemmas.Slice.Eq.{bytes_eq-Decides}
 use Rattle.certificate.specs.declared.causes.Step.TheVariants as steps
-use Rattle.osrl_grammar.specs.declared.report.JobStatus.TheVariants as statuses
+use Rattle.osrl_writing.specs.declared.report.JobStatus.TheVariants as statuses
 use Rattle.osrl_grammar.specs.Words.{all_statuses}
 use Rattle.osrl_grammar.specs.declared.parts.NodeWord.{NodeWord}
 use Rattle.osrl_grammar.specs.declared.parts.NodeWord.TheVariants as nodes

@@ -4,8 +4,8 @@ use Rattle.fraction.specs.declared.frac.Frac.{Frac}
 use Rattle.certificate.specs.declared.lists.Mult.{Mult}
 use Rattle.certificate.specs.declared.causes.Cause as why
 use Rattle.osrl_grammar.specs.declared.held.Held.{Held}
-use Rattle.osrl_grammar.specs.declared.parts.Part.{Part}
-use Rattle.osrl_grammar.specs.declared.parts.Part.TheVariants.{Point, Value, Ray, Rounds, Tree, Cause}
+use Rattle.osrl_writing.specs.declared.parts.Part.{Part}
+use Rattle.osrl_writing.specs.declared.parts.Part.TheVariants.{Point, Value, Ray, Rounds, Tree, Cause}
 use Rattle.osrl_grammar.specs.declared.parts.Misread.{Misread}
 use Rattle.osrl_grammar.specs.declared.parts.Misread.TheVariants.{NoShape}
 use Rattle.osrl_grammar.specs.declared.parts.BadItem.{BadItem}

@@ -5,8 +5,8 @@ use Rattle.certificate.specs.declared.causes.Step.TheVariants as steps
 pub use Rattle.certificate.specs.Words.{step_text}
 use Rattle.tag_tests.specs.Tests.{AllPass}
 use Rattle.tag_tests.specs.Fields.{OneFirst}
-use Rattle.osrl_grammar.specs.declared.parts.Part.{Part}
-use Rattle.osrl_grammar.specs.declared.parts.Part.TheVariants.{Rounds, Tree, Cause}
+use Rattle.osrl_writing.specs.declared.parts.Part.{Part}
+use Rattle.osrl_writing.specs.declared.parts.Part.TheVariants.{Rounds, Tree, Cause}
 use Rattle.osrl_grammar.specs.declared.parts.NodeWord.{NodeWord}
 use Rattle.osrl_grammar.specs.declared.parts.NodeWord.TheVariants as nodes
 use Rattle.osrl_grammar.specs.declared.parts.CauseWord.{CauseWord}
@@ -15,11 +15,12 @@ use Rattle.osrl_grammar.specs.declared.parts.Misread.{Misread}
 use Rattle.osrl_grammar.specs.declared.parts.Misread.TheVariants.{NoShape, NoNumber, TooGreat}
 use Rattle.tag_tests.specs.declared.numbers.Unread.{Unread}
 use Rattle.tag_tests.specs.declared.numbers.Unread.TheVariants.{NotNumber, Wide}
+use Rattle.osrl_writing.specs.Words.{round_word}
 use Rattle.osrl_grammar.specs.Words.{worded}
 use Rattle.osrl_grammar.specs.Numbers.{NumberKind, Index, Turn, Whole, Exact, Field, IsBad, IsTooGreat}
 use Rattle.osrl_grammar.specs.Pieces.{pieces, Pair, parted}
 
--- the words of nodes and of what begins a level, of causes, and of rounds; steps have theirs
+-- the words of nodes and of what begins a level, and of causes; steps and rounds have theirs
 abbrev pub node_word : NodeWord → List ℕ
 node_word nodes.Split = codes "split"
 node_word nodes.Zero = codes "zero"
@@ -44,9 +45,6 @@ all_cause_words = causes.Killed ∷ causes.NodeLimit ∷ causes.TurnLimit ∷ ca
 
 abbrev pub all_steps : List Step
 all_steps = steps.Values ∷ steps.Ratio ∷ steps.Pivot ∷ steps.Point ∷ steps.Ray ∷ steps.Round ∷ steps.Check ∷ []
-
-abbrev pub round_word : List ℕ
-round_word = codes "round"
 
 abbrev pub field : NumberKind → List ℕ → Field
 field kind text = record { kind = kind; text = text }

@@ -8,10 +8,10 @@ use Rattle.tag_tests.specs.declared.places.Led.TheVariants.{To, Over, OtherRoot}
 use Rattle.tag_tests.specs.Places.{Kind, begins, text, ends, ends_over}
 use Rattle.tag_tests.specs.Characters.{heard}
 use Rattle.tag_tests.specs.Contents.{keeps_in}
-use Rattle.osrl_grammar.specs.declared.report.Report.{Report}
+use Rattle.osrl_writing.specs.declared.report.Report.{Report}
 use Rattle.osrl_grammar.specs.declared.held.Held.{Held}
-use Rattle.osrl_grammar.specs.declared.parts.Part.{Part}
-use Rattle.osrl_grammar.specs.declared.parts.Part.TheVariants.{Point, Value, Ray, Rounds, Tree, Cause}
+use Rattle.osrl_writing.specs.declared.parts.Part.{Part}
+use Rattle.osrl_writing.specs.declared.parts.Part.TheVariants.{Point, Value, Ray, Rounds, Tree, Cause}
 use Rattle.osrl_grammar.specs.Standing.{State, start}
 use Rattle.osrl_grammar.specs.Saying.{type_of, has, report_of}
 use Rattle.osrl_grammar.specs.Adding.{AfterItem}

@@ -1,8 +1,6 @@
 pub mod Numbers
 pub mod Items
 pub mod Values
-pub mod Cuts
-pub mod Writing
 pub mod Texts
 pub mod Reading
 pub mod Pieces

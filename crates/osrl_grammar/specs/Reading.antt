@@ -1,7 +1,7 @@
 -- What bytes are as result documents: the document of a report, or refused in one way.
 use Rattle.std.specs.Prelude.{◌≡◌, ◌⊎◌, ℕ, List}
 use Rattle.document_tags.specs.Documents.{OfDocument, FailsAsDocument}
-use Rattle.osrl_grammar.specs.declared.report.Report.{Report}
+use Rattle.osrl_writing.specs.declared.report.Report.{Report}
 use Rattle.osrl_grammar.specs.declared.fault.OsrlFault.{OsrlFault}
 use Rattle.osrl_grammar.specs.declared.fault.OsrlFault.TheVariants.{Tree, Memory}
 use Rattle.osrl_grammar.specs.Marked.{IsReport, IsRefused}

@@ -9,16 +9,17 @@ use Rattle.certificate.specs.declared.nodes.Cert.{Cert}
 use Rattle.certificate.specs.declared.causes.Cause.{Cause}
 use Rattle.certificate.specs.declared.claims.Claim.{Claim}
 use Rattle.certificate.specs.declared.claims.Claim.TheVariants.{Optimal, Infeasible, Unbounded, BestSoFar, Unsure}
-use Rattle.osrl_grammar.specs.declared.report.JobStatus.{JobStatus}
-use Rattle.osrl_grammar.specs.declared.report.Report.{Report}
+use Rattle.osrl_writing.specs.declared.report.JobStatus.{JobStatus}
+use Rattle.osrl_writing.specs.declared.report.Report.{Report}
 use Rattle.osrl_grammar.specs.declared.held.Held.{Held}
-use Rattle.osrl_grammar.specs.declared.parts.Part.{Part}
-use Rattle.osrl_grammar.specs.declared.parts.Part.TheVariants as parts
+use Rattle.osrl_writing.specs.declared.parts.Part.{Part}
+use Rattle.osrl_writing.specs.declared.parts.Part.TheVariants as parts
 use Rattle.osrl_grammar.specs.declared.parts.Misread.TheVariants.{NoShape}
 use Rattle.osrl_grammar.specs.declared.parts.BadItem.{BadItem}
-use Rattle.osrl_grammar.specs.declared.parts.Claiming.{Claiming}
-use Rattle.osrl_grammar.specs.declared.parts.Claiming.TheVariants as claiming
-use Rattle.osrl_grammar.specs.Words.{status_text, all_statuses, claiming_text, all_claimings, worded}
+use Rattle.osrl_writing.specs.declared.parts.Claiming.{Claiming}
+use Rattle.osrl_writing.specs.declared.parts.Claiming.TheVariants as claiming
+use Rattle.osrl_grammar.specs.Words.{all_statuses, all_claimings, worded}
+use Rattle.osrl_writing.specs.Words.{status_text, claiming_text}
 use Rattle.osrl_grammar.specs.Standing.{State}
 
 -- the type that a start tag says, empty where it says none

@@ -1,7 +1,7 @@
 -- What the marks of a result document leave so far: where they end, and what they say.
 use Rattle.std.specs.Prelude.{ℕ, Bool, false, Option, None, List, []}
-use Rattle.osrl_grammar.specs.declared.report.Report.{Report}
-use Rattle.osrl_grammar.specs.declared.report.JobStatus.TheVariants.{Unknown}
+use Rattle.osrl_writing.specs.declared.report.Report.{Report}
+use Rattle.osrl_writing.specs.declared.report.JobStatus.TheVariants.{Unknown}
 use Rattle.osrl_grammar.specs.declared.held.Held.{Held}
 use Rattle.osrl_grammar.specs.declared.parts.BadItem.{BadItem}
 use Rattle.osrl_grammar.specs.declared.elements.Place.{Place}

@@ -9,14 +9,14 @@ use Rattle.tag_tests.specs.declared.places.Led.{Led}
 use Rattle.tag_tests.specs.declared.places.Led.TheVariants.{To, Over, OtherRoot}
 use Rattle.tag_tests.specs.Places.{Child, child, among, Kind, begins, ends}
 use Rattle.tag_tests.specs.Contents.{ChildPlaces, root, reads, leads_by, kind_by}
-use Rattle.osrl_grammar.specs.declared.parts.Part.{Part}
-use Rattle.osrl_grammar.specs.declared.parts.Part.TheVariants.{Point, Value, Ray, Rounds, Tree, Cause}
+use Rattle.osrl_writing.specs.declared.parts.Part.{Part}
+use Rattle.osrl_writing.specs.declared.parts.Part.TheVariants.{Point, Value, Ray, Rounds, Tree, Cause}
 use Rattle.osrl_grammar.specs.declared.parts.BadItem.{BadItem}
 use Rattle.osrl_grammar.specs.declared.parts.Misread.{Misread}
 use Rattle.osrl_grammar.specs.declared.parts.Misread.TheVariants.{NoShape, NoNumber, TooGreat}
 use Rattle.osrl_grammar.specs.declared.fault.OsrlFault.{OsrlFault}
 use Rattle.osrl_grammar.specs.declared.fault.OsrlFault.TheVariants as refusals
-use Rattle.osrl_grammar.specs.Words.{part_name}
+use Rattle.osrl_writing.specs.Words.{part_name}
 use Rattle.osrl_grammar.specs.Standing.{State}
 use Rattle.osrl_grammar.specs.Saying.{bad_item}
 

@@ -18,9 +18,10 @@ use Rattle.osrl_grammar.specs.declared.parts.TreeItem.{TreeItem}
 use Rattle.osrl_grammar.specs.declared.parts.TreeItem.TheVariants as trees
 use Rattle.osrl_grammar.specs.Numbers.{Index, Turn, Whole, Exact, WritesNumber, IsNumberText}
 use Rattle.osrl_grammar.specs.Pieces.{pieces, Pair, parted}
-use Rattle.osrl_grammar.specs.declared.parts.Part.{Part}
-use Rattle.osrl_grammar.specs.declared.parts.Part.TheVariants.{Tree}
-use Rattle.osrl_grammar.specs.Items.{node_word, cause_word, step_text, round_word}
+use Rattle.osrl_writing.specs.declared.parts.Part.{Part}
+use Rattle.osrl_writing.specs.declared.parts.Part.TheVariants.{Tree}
+use Rattle.osrl_grammar.specs.Items.{node_word, cause_word, step_text}
+use Rattle.osrl_writing.specs.Words.{round_word}
 
 abbrev pub IsFraction : List ℕ → Frac → Type 0
 IsFraction text x = IsNumberText Exact text (ratio x)

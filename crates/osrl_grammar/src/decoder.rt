@@ -7,9 +7,9 @@ ghost use Rattle.osrl_grammar.specs.Reading.{IsReportText, DecodeFails};
 ghost use Rattle.osrl_grammar.specs.Hearing.{WasFed, tree_fault};
 
 use crate::fault::OsrlFault;
-use crate::report::Report;
 use crate::standing::Standing;
 use doc_tree::TreeFault;
+use osrl_writing::Report;
 use std::alloc::Global;
 use std::marker::Model;
 use tag_tests::Decoder as MarkDecoder;

@@ -4,8 +4,8 @@ ghost use Rattle.std.specs.Prelude.{◌≡◌};
 ghost use Rattle.osrl_grammar.specs.declared.elements.Place.TheVariants as places;
 ghost use Rattle.osrl_grammar.specs.Table as table;
 
-use crate::parts::{Part, part_name};
 use element_tree::Attributes;
+use osrl_writing::{Part, part_name};
 use tag_tests::{Led, named, value};
 
 /// The innermost element that is read and that the marks to come stand in.

@@ -8,14 +8,15 @@ ghost use Rattle.osrl_grammar.specs.Failing.{MayHoldItems};
 ghost use Rattle.osrl_grammar.specs.Adding.{with_tree_item};
 ghost use Rattle.osrl_grammar.specs.Leaving.{with_part};
 ghost use Rattle.osrl_grammar.specs.Stepping.{IsCounted, ReadsItem, ReadsNumber};
-ghost use Rattle.osrl_grammar.specs.declared.parts.Part.TheVariants as parts;
+ghost use Rattle.osrl_writing.specs.declared.parts.Part.TheVariants as parts;
 
 use crate::item_reading::{is_level_but, misread, read_cause, read_round, read_tree_item};
 use crate::numbers::read_exact;
-use crate::parts::{Claiming, Misread, Part, TreeItem};
+use crate::parts::{Misread, TreeItem};
 use certificate::{Cause, Cert, Certs, Claim, Nodes, Point, Ray, Rounds, Values};
 use fraction::Frac;
 use items::Items;
+use osrl_writing::{Claiming, Part};
 use std::alloc::{AllocError, Global};
 use std::mem;
 

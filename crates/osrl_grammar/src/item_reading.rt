@@ -3,7 +3,7 @@
 ghost use Rattle.std.specs.Prelude.{◌≡◌, ◌↔◌, ◌++◌, ◌∷◌, [], ℕ, List, Some, IsTrue, IsFalse, false, IfOk, MatchOption, codes};
 ghost use Rattle.std.specs.List.{AllZip};
 ghost use Rattle.tag_tests.specs.Fields.{FieldsRead};
-ghost use Rattle.osrl_grammar.specs.declared.parts.Part.TheVariants as parts;
+ghost use Rattle.osrl_writing.specs.declared.parts.Part.TheVariants as parts;
 ghost use Rattle.osrl_grammar.specs.declared.parts.NodeWord as kinds;
 ghost use Rattle.osrl_grammar.specs.declared.parts.NodeWord.TheVariants as heads;
 ghost use Rattle.osrl_grammar.specs.Words.{worded};
@@ -15,11 +15,12 @@ ghost use Rattle.osrl_grammar.specs.Values.{IsMult, IsMultOf, IsOne, IsPlace, Is
 ghost use Rattle.osrl_grammar.specs.Stepping.{ReadMults};
 
 use crate::numbers::{read_exact, read_index, read_turn, read_whole};
-use crate::parts::{CauseWord, Misread, NodeWord, Part, TreeItem};
+use crate::parts::{CauseWord, Misread, NodeWord, TreeItem};
 use crate::pieces::{first_piece, one_piece, parted, three_pieces, two_pieces};
 use crate::words::with_word;
 use certificate::{Cause, Mult, Mults, Node, Place, Step};
 use os_io::Memory;
+use osrl_writing::Part;
 use std::alloc::Global;
 use tag_tests::{Unread, both};
 

@@ -2,10 +2,10 @@
 
 ghost use Rattle.std.specs.Prelude.{◌≡◌, ◌⊎◌, ◌≤◌, ℕ, List, length, Result, Ok, Err, IfOk, IfErr};
 ghost use Rattle.document_tags.specs.Texts.{document_limit};
-ghost use Rattle.osrl_grammar.specs.declared.report.Report.{Report};
+ghost use Rattle.osrl_writing.specs.declared.report.Report.{Report};
 ghost use Rattle.osrl_grammar.specs.declared.fault.OsrlFault.{OsrlFault};
 ghost use Rattle.osrl_grammar.specs.declared.fault.OsrlFault.TheVariants.{Memory};
-ghost use Rattle.osrl_grammar.specs.Writing.{report_text};
+ghost use Rattle.osrl_writing.specs.Writing.{report_text};
 ghost use Rattle.osrl_grammar.specs.Reading.{IsReportText, DecodeFails};
 ghost use Rattle.osrl_grammar.specs.Back.{ComesBack};
 ghost use Rattle.osrl_grammar.specs.Grounds.{TextsAreOfCharacters};

@@ -1,34 +1,28 @@
 //! Result documents (Optimization Services result language, in this project's profile): reports as documents say them.
 //!
-//! [`decode`] gives the [`Report`] that a document says, or why it says none ([`OsrlFault`]), and [`Decoder`] that of one
-//! which comes in pieces: a document is read mark by mark, and no tree of it is held. A [`JobStatus`] is how far a report's
-//! job is. [`encode`] writes a report as a document. [`written_texts_are_reports`] says that this is the document of that
-//! report, if the report can come back (`specs/Back.antt`), and [`reports_are_read_back`] that a report which was read is
-//! read again from it, if it isn't too long. [`refusal_text`] says in words why a document is refused.
+//! [`decode`] gives the [`Report`](osrl_writing::Report) that a document says, or why it says none ([`OsrlFault`]), and
+//! [`Decoder`] that of one which comes in pieces: a document is read mark by mark, and no tree of it is held.
+//! [`written_texts_are_reports`] says that what [`encode`](osrl_writing::encode()) writes is the document of that report, if the
+//! report can come back (`specs/Back.antt`), and [`reports_are_read_back`] that a report which was read is read again from it, if
+//! it isn't too long. [`refusal_text`] says in words why a document is refused.
 #![tactic(auto)]
 
-mod certificates;
 mod decoder;
-mod document;
 mod elements;
 mod fault;
 mod held;
 mod item_reading;
-mod item_texts;
 mod laws;
 mod numbers;
 mod parts;
 mod pieces;
 mod reading;
 mod reading_laws;
-mod report;
 mod standing;
 mod texts;
-mod values;
 mod words;
 
 pub use decoder::Decoder;
-pub use document::encode;
 pub use fault::OsrlFault;
 pub use laws::{reports_are_read_back, written_texts_are_reports};
 pub use reading::decode;
@@ -36,5 +30,4 @@ pub use reading_laws::{
     document_has_one_refusal, document_has_one_report, first_and_least_is_told, read_claims_fit,
     report_is_not_refused,
 };
-pub use report::{JobStatus, Report};
 pub use texts::refusal_text;

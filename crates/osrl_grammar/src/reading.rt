@@ -5,7 +5,7 @@ ghost use Rattle.osrl_grammar.specs.Reading.{IsReportText, DecodeFails};
 
 use crate::decoder::Decoder;
 use crate::fault::OsrlFault;
-use crate::report::Report;
+use osrl_writing::Report;
 use std::alloc::Global;
 
 /// The report that a result document is.

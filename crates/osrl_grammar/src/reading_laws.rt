@@ -7,7 +7,7 @@ ghost use Rattle.certificate.specs.declared.nodes.Cert.{Cert};
 ghost use Rattle.certificate.specs.declared.claims.Claim.{Claim};
 ghost use Rattle.tree_grammar.specs.Elements.{Element};
 ghost use Rattle.tag_tests.specs.Firsts.{IsFirstDecided};
-ghost use Rattle.osrl_grammar.specs.declared.report.Report.{Report};
+ghost use Rattle.osrl_writing.specs.declared.report.Report.{Report};
 ghost use Rattle.osrl_grammar.specs.declared.fault.OsrlFault.{OsrlFault};
 ghost use Rattle.osrl_grammar.specs.declared.fault.OsrlFault.TheVariants.{Memory};
 ghost use Rattle.osrl_grammar.specs.Order.{number};

@@ -5,8 +5,8 @@ use Rattle.tree_grammar.specs.Characters.{IsXmlText}
 use Rattle.tree_grammar.specs.Elements.{Nodes, none, Element}
 use Rattle.tree_grammar.specs.Document.{Doc}
 use Rattle.tree_grammar.specs.WrittenText.{written}
-use Rattle.element_tree.specs.WritableElements.{IsWritable}
-use Rattle.element_tree.proofs.Documents.{written_doc}
+use Rattle.tree_writing.specs.WritableElements.{IsWritable}
+use Rattle.tree_writing.proofs.Documents.{written_doc}
 use Rattle.document_tags.specs.Writing.{leaf, group}
 use Rattle.document_tags.proofs.XmlNodes.{AreFlat, none_flat, element_flat, still_flat, tag_by}
 use Rattle.six_calls.specs.declared.call.CallKind.{CallKind}

@@ -16,8 +16,8 @@ use Rattle.osol_grammar.specs.declared.options.Options.{Options}
 use Rattle.osol_grammar.specs.Meaning.{IsOptionsText}
 use Rattle.osol_grammar.specs.Back.{IsNameOrNone}
 use Rattle.osil_grammar.specs.Reading.{IsInstanceText}
-use Rattle.osrl_grammar.specs.declared.report.Report.{Report}
-use Rattle.osrl_grammar.specs.Writing.{report_text}
+use Rattle.osrl_writing.specs.declared.report.Report.{Report}
+use Rattle.osrl_writing.specs.Writing.{report_text}
 use Rattle.osrl_grammar.specs.Reading.{IsReportText}
 use Rattle.osrl_grammar.specs.Back.{IsBareOrNone, CauseComesBack, ClaimComesBack, ComesBack}
 use Rattle.document_checker.specs.declared.documents.Kind.{Kind}

@@ -3,7 +3,7 @@ use Rattle.std.proofs.Common.{◌≡◌, ℕ, ◌+◌, true, List, [], ◌∷◌
 use Rattle.std.specs.Prelude.{codes, decimal}
 use Rattle.doc_tree.specs.declared.fault.TreeFault.{TreeFault}
 use Rattle.doc_tree.specs.declared.fault.TreeFault.TheVariants as tree
-use Rattle.element_tree.proofs.XmlTexts.{list_printable}
+use Rattle.tree_grammar.proofs.XmlTexts.{list_printable}
 use Rattle.document_tags.specs.Faults.{refusal_at, refusal_of, IsTreeText}
 use Rattle.osol_grammar.specs.declared.fault.Refusal.{Refusal as OptionsRefusal}
 use Rattle.osol_grammar.specs.declared.fault.Refusal.TheVariants as options_refusals

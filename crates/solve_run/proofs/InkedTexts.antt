@@ -7,7 +7,7 @@ use Rattle.std.proofs.lemmas.Bool.{leb-true, ltb-true, ne_eqb}
 use Rattle.std.proofs.lemmas.List.{reverse-append, reverse-reverse}
 use Rattle.tree_grammar.specs.Characters.{Each, Some1}
 use Rattle.decimal_text.specs.Space.{is_space, without_leading_space, trimmed}
-use Rattle.element_tree.proofs.XmlTexts.{Printable, and_split, each_append}
+use Rattle.tree_grammar.proofs.XmlTexts.{Printable, and_split, each_append}
 use Rattle.document_tags.specs.Faults.{told_name}
 use Rattle.document_tags.proofs.Lengths.{decimal_size}
 use Rattle.document_tags.proofs.PrintableTexts.{decimal_printable, printable_text}

@@ -16,9 +16,9 @@ use Rattle.certificate.specs.declared.causes.Cause.{Cause}
 use Rattle.certificate.specs.declared.causes.Cause.TheVariants as causes
 use Rattle.certificate.specs.declared.claims.Claim.{Claim}
 use Rattle.certificate.specs.declared.claims.Claim.TheVariants.{BestSoFar, Unsure}
-use Rattle.osrl_grammar.specs.Cuts.{cut_size, without_zeros, decimals, has_sign, cut_text}
+use Rattle.osrl_writing.specs.Cuts.{cut_size, without_zeros, decimals, has_sign, cut_text}
 use Rattle.osrl_grammar.specs.Items.{step_text}
-use Rattle.osrl_grammar.specs.Writing.{variable_values, goal_values, cause_text, item_nodes, fraction_texts, report_element, report_text, claim_nodes}
+use Rattle.osrl_writing.specs.Writing.{variable_values, goal_values, cause_text, item_nodes, fraction_texts, report_element, report_text, claim_nodes}
 use Rattle.document_tags.specs.Texts.{document_limit}
 use Rattle.solve_run.specs.Closings.{claim_report, error_report, IsShort}
 

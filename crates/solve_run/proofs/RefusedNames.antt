@@ -7,7 +7,7 @@ use Rattle.document_tags.specs.Faults.{told_name}
 use Rattle.tag_tests.specs.Tests.{FirstFails}
 use Rattle.tag_tests.specs.Forms.{TakesMark, AreTaken, Refuses}
 use Rattle.tag_tests.specs.Places.{Child, among}
-use Rattle.element_tree.proofs.XmlTexts.{and_split}
+use Rattle.tree_grammar.proofs.XmlTexts.{and_split}
 use Rattle.osil_grammar.specs.declared.elements.Part.TheVariants.{Coefficients}
 use Rattle.osil_grammar.specs.declared.elements.Listing.{Listing}
 use Rattle.osil_grammar.specs.declared.elements.Listing.TheVariants.{Starts, RowIndices, ColumnIndices, Values}

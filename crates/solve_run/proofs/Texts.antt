@@ -3,8 +3,8 @@ use Rattle.std.proofs.Common.{◌≡◌, ◌∙◌, ℕ, ◌<◌, ◌≤◌, inl
 use Rattle.document_tags.specs.Texts.{document_limit}
 use Rattle.certificate.specs.declared.causes.Cause.TheVariants as causes
 use Rattle.certificate.specs.declared.claims.Claim.{Claim}
-use Rattle.osrl_grammar.specs.declared.report.Report.{Report}
-use Rattle.osrl_grammar.specs.Writing.{report_text}
+use Rattle.osrl_writing.specs.declared.report.Report.{Report}
+use Rattle.osrl_writing.specs.Writing.{report_text}
 use Rattle.solve_run.specs.declared.document.Document.{Document}
 use Rattle.solve_run.specs.Judging.{given_up}
 use Rattle.solve_run.specs.Closings.{error_report, claim_report, IsShort}

@@ -4,9 +4,9 @@ use Rattle.instance.specs.Parts.{Parts}
 use Rattle.document_tags.specs.Texts.{document_limit}
 use Rattle.certificate.specs.declared.causes.Cause.TheVariants as causes
 use Rattle.certificate.specs.declared.claims.Claim.{Claim}
-use Rattle.osrl_grammar.specs.declared.report.JobStatus.TheVariants.{Finished}
-use Rattle.osrl_grammar.specs.declared.report.Report.{Report}
-use Rattle.osrl_grammar.specs.Writing.{report_text}
+use Rattle.osrl_writing.specs.declared.report.JobStatus.TheVariants.{Finished}
+use Rattle.osrl_writing.specs.declared.report.Report.{Report}
+use Rattle.osrl_writing.specs.Writing.{report_text}
 use Rattle.solve_run.specs.Judging.{given_up, IsJudged, checked}
 
 -- the report of an error of a finished job, with this message

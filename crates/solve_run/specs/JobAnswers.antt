@@ -16,8 +16,8 @@ use Rattle.osol_grammar.specs.Texts as options_texts
 use Rattle.osil_grammar.specs.declared.fault.OsilFault.{OsilFault}
 use Rattle.osil_grammar.specs.Reading.{IsInstanceText}
 use Rattle.osil_grammar.specs.Reading as instances
-use Rattle.osrl_grammar.specs.declared.report.Report.{Report}
-use Rattle.osrl_grammar.specs.Writing.{report_text}
+use Rattle.osrl_writing.specs.declared.report.Report.{Report}
+use Rattle.osrl_writing.specs.Writing.{report_text}
 use Rattle.osrl_grammar.specs.Back.{ClaimComesBack}
 use Rattle.solve_run.specs.Closings.{error_report, claim_report, IsToldOf}
 

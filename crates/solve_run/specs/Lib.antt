@@ -6,7 +6,7 @@ pub use Rattle.search_rules.specs.Search
 pub use Rattle.branch_bound.specs.Claims
 pub use Rattle.osol_grammar.specs.Meaning
 pub use Rattle.osil_grammar.specs.Reading
-pub use Rattle.osrl_grammar.specs.Writing
+pub use Rattle.osrl_writing.specs.Writing
 pub use Rattle.osrl_grammar.specs.Back
 pub use Rattle.cert_checker.specs.Refusals
 pub use Rattle.document_checker.specs.Documents

@@ -7,8 +7,8 @@ use Rattle.certificate.specs.declared.claims.Claim.{Claim}
 use Rattle.certificate.specs.declared.claims.Claim.TheVariants.{Optimal, Infeasible, Unbounded, BestSoFar, Unsure}
 use Rattle.simplex_rules.specs.Looks.{answers, looks_after, stop_after}
 use Rattle.search_rules.specs.Search.{Outcome, IsSearchAnswer}
-use Rattle.osrl_grammar.specs.declared.report.Report.{Report}
-use Rattle.osrl_grammar.specs.Writing.{report_text}
+use Rattle.osrl_writing.specs.declared.report.Report.{Report}
+use Rattle.osrl_writing.specs.Writing.{report_text}
 use Rattle.osrl_grammar.specs.Back.{CauseComesBack, ClaimComesBack}
 use Rattle.solve_run.specs.Closings.{claim_report, error_report, IsFitted, IsToldOf}
 use Rattle.solve_run.specs.declared.document.Document.{Document}

@@ -13,7 +13,7 @@ use crate::document::Document;
 use certificate::{Cause, Claim};
 use instance::Instance;
 use os_io::{MOST_BYTES, Memory, Text};
-use osrl_grammar::{JobStatus, Report, encode};
+use osrl_writing::{JobStatus, Report, encode};
 use std::alloc::Global;
 
 /// A finished job's report with a claim.

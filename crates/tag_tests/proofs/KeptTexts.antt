@@ -1,7 +1,7 @@
 -- Characters of XML that are kept behind others are so too.
 use Rattle.std.proofs.Common.{ℕ, Bool, true, false, List}
 use Rattle.tree_grammar.specs.Characters.{IsXmlText}
-use Rattle.element_tree.proofs.XmlTexts.{text_append}
+use Rattle.tree_grammar.proofs.XmlTexts.{text_append}
 use Rattle.tag_tests.specs.Characters.{kept}
 
 pub kept_xml : (b : Bool) (t cs : List ℕ) → IsXmlText t → IsXmlText cs → IsXmlText (kept b t cs)

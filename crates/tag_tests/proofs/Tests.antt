@@ -3,7 +3,7 @@ use Rattle.std.proofs.Common.{◌≡◌, ◌∙◌, inl, inr, ℕ, zero, suc, �
 use Rattle.std.specs.Prelude.{Contains, Result, Ok, Err, Bool, true, ◌&&◌, map}
 use Rattle.std.proofs.lemmas.Bool.Decides.{nat_tests}
 use lib.Dec.{leb}
-use Rattle.element_tree.proofs.XmlTexts.{and_split}
+use Rattle.tree_grammar.proofs.XmlTexts.{and_split}
 use Rattle.tag_tests.specs.Tests.{AllPass, FirstFails, SomeFails, FromHere, InOrder, Answers}
 
 pub not_pass : {C R : Type 0} (Fails : C → Type 0) (told : C → R) (cs : List C) (r : R) → AllPass Fails cs → FirstFails Fails told cs r → ⊥

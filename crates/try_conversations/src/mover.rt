@@ -3,7 +3,8 @@ use effects::NotStored;
 use job_solver::{SolvedJobs, Solver};
 use job_table::moves::Move;
 use job_table::{IssueFault, Job, Mover, Statistics, Table, Twin};
-use os_io::{MemSink, MemSource, Memory};
+use memory_ends::{MemSink, MemSource};
+use os_io::Memory;
 use os_server::{Served, serve_ends};
 use std::alloc::{AllocError, Global};
 

@@ -4,7 +4,8 @@ use crate::conditions::Conditions;
 use crate::mover::CountingMover;
 use cases::count_left;
 use job_solver::Solver;
-use os_io::{MemLink, MemSink, MemSource, Memory, Text};
+use memory_ends::{MemLink, MemSink, MemSource};
+use os_io::{Memory, Text};
 use os_server::{Served, serve_ends, serve_one};
 use std::alloc::Global;
 

@@ -1,8 +1,9 @@
 //! Documents read in pieces, and answers as texts.
 
-use doc_tree::{Reader, Tree, TreeFault, read, write};
+use doc_tree::{Reader, Tree, TreeFault, read};
 use os_io::{Memory, Text};
 use std::alloc::Global;
+use tree_writing::write;
 
 /// What stands before each written element.
 const DECLARATION: &[u8] = b"<?xml version=\"1.0\" encoding=\"UTF-8\"?>";

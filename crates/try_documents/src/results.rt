@@ -2,7 +2,8 @@
 
 use cases::Answers;
 use os_io::{Memory, Text};
-use osrl_grammar::{Decoder, OsrlFault, Report, decode, encode, refusal_text};
+use osrl_grammar::{Decoder, OsrlFault, decode, refusal_text};
+use osrl_writing::{Report, encode};
 use std::alloc::Global;
 
 /// The most bytes of a document that is also read byte by byte.

@@ -4,9 +4,9 @@
 use crate::reading::{answer_text, in_two, told_in_pieces, told_whole};
 use cases::{Answers, number_of, repeated};
 use doc_tree::TreeFault;
-use element_tree::{escape, escape_value};
 use os_io::{Memory, Text};
 use std::alloc::Global;
+use tree_writing::{escape, escape_value};
 
 /// The most bytes of a document where no case says another number.
 const MOST: u64 = 4_194_304;

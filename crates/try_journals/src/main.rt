@@ -11,11 +11,11 @@ mod moves;
 mod telling;
 
 use cases::{Answers, Tables, number_of};
-use disks::MemDisk;
 use effects_of::{answer_of, effect_of};
 use job_journal::{CompactFault, Journal, compact, open_journal};
 use job_table::Remade;
 use jobs::{Any, NoNo, tell_jobs};
+use memory_disks::MemDisk;
 use moves::make_all;
 use os_io::{Memory, Text};
 use std::alloc::Global;

@@ -5,11 +5,11 @@ ghost use Rattle.job_table.specs.Steps.{May};
 use crate::effects_of::answer_of;
 use crate::jobs::Any;
 use cases::number_of;
-use disks::MemDisk;
 use effects::NotStored;
 use job_journal::Journal;
 use job_table::moves::{Claim, Enter, Finish, Issue, Kill, Knock, Move, Send};
 use job_table::{Job, SharedText, Table, TableMove, Twin, Verdicts};
+use memory_disks::MemDisk;
 use os_io::{Memory, Text};
 use std::alloc::{AllocError, Global};
 

@@ -2,10 +2,11 @@
 
 use crate::replies::{put, put_number};
 use cases::count_left;
+use memory_ends::MemLink;
 use os_client::{
     CallFault, call_get_job_id, call_kill, call_knock, call_retrieve, call_send, call_solve,
 };
-use os_io::{MemLink, Memory, Text};
+use os_io::{Memory, Text};
 use std::alloc::{AllocError, Global};
 
 /// The room for what is written.

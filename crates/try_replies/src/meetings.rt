@@ -3,7 +3,8 @@
 use crate::calls::{asked_text, called_text};
 use job_solver::{SolvedJobs, Solver};
 use job_table::Table;
-use os_io::{MemLink, Memory, Text};
+use memory_ends::MemLink;
+use os_io::{Memory, Text};
 use os_server::serve_one;
 use std::alloc::Global;
 

@@ -1,7 +1,8 @@
 //! Replies, told as texts.
 
 use http_link::{Came, LinkFault, read_response};
-use os_io::{MemSource, Memory, Text};
+use memory_ends::MemSource;
+use os_io::{Memory, Text};
 use std::alloc::{AllocError, Global};
 
 /// Appends a text in brackets.

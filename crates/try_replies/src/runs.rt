@@ -1,8 +1,9 @@
 //! Runs of the command `call`, told as texts.
 
 use crate::replies::{put, put_number};
+use memory_ends::{MemFiles, MemLink, MemListener, MemSink};
 use os_client::{CallWords, make_call};
-use os_io::{MemFiles, MemLink, MemListener, MemSink, Memory, Text};
+use os_io::{Memory, Text};
 use soap_calls::CallKind;
 use std::alloc::Global;
 

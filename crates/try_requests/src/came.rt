@@ -1,7 +1,8 @@
 //! Single messages, told as texts.
 
 use http_link::{Incoming, LinkFault, Refusal, read_request_into, write_answer};
-use os_io::{Failed, MemBody, MemSink, MemSource, Memory, Text};
+use memory_ends::{MemSink, MemSource};
+use os_io::{Failed, MemBody, Memory, Text};
 use std::alloc::Global;
 
 /// The room for a response.

@@ -3,9 +3,10 @@
 use super::calls::{Fails, Given, Kind};
 use crate::words::words_of;
 use cases::bytes_of;
-use disks::{MemDisk, MemStores};
+use memory_disks::{MemDisk, MemStores};
+use memory_ends::{MemFiles, MemLink, MemListener, MemSink, MemSource};
 use os_app::run;
-use os_io::{Files, MemFiles, MemLink, MemListener, MemSink, MemSource, Memory, Text};
+use os_io::{Files, Memory, Text};
 use std::alloc::Global;
 use std::sync::Wait;
 use std::thread::Threads;

@@ -2,7 +2,8 @@
 
 ghost use Rattle.std.specs.Prelude.{None};
 
-use disks::{MemDisk, Stores};
+use disks::Stores;
+use memory_disks::MemDisk;
 use os_io::{FileFault, count_fault};
 use std::alloc::Global;
 

@@ -1,7 +1,8 @@
 //! The ends of a run: files, an input, an output and links in memory, one call of which may fail.
 
 use cases::bytes_of;
-use os_io::{Files, MemFiles, MemLink, MemListener, MemSink, MemSource, Memory};
+use memory_ends::{MemFiles, MemLink, MemListener, MemSink, MemSource};
+use os_io::{Files, Memory};
 use std::alloc::Global;
 
 /// Room for all that a run writes on its output, or on a link.

@@ -3,9 +3,10 @@
 use super::ends::{Fails, ROOM, files_of, input_of, net_of, output_of};
 use crate::words::{behind, words_of};
 use cases::{bytes_of, number_of};
-use disks::{MemDisk, MemStores};
+use memory_disks::{MemDisk, MemStores};
+use memory_ends::MemListener;
 use os_app::run;
-use os_io::{Files, MemListener, Memory, Text};
+use os_io::{Files, Memory, Text};
 use std::alloc::Global;
 use std::sync::Wait;
 use std::thread::Threads;

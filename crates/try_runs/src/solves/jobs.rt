@@ -1,8 +1,9 @@
 //! Jobs, solved and checked by the program.
 
-use disks::{MemDisk, MemStores};
+use memory_disks::{MemDisk, MemStores};
+use memory_ends::{MemFiles, MemListener, MemSink, MemSource};
 use os_app::run;
-use os_io::{MemFiles, MemListener, MemSink, MemSource, Memory, Text};
+use os_io::{Memory, Text};
 use std::alloc::Global;
 use std::sync::Wait;
 use std::thread::Threads;

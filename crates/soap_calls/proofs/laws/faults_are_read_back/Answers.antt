@@ -1,5 +1,5 @@
 use Rattle.std.proofs.Common.{◌++◌, refl}
-use Rattle.element_tree.proofs.XmlTexts.{text_append}
+use Rattle.tree_grammar.proofs.XmlTexts.{text_append}
 use Rattle.document_tags.proofs.PrintableTexts.{fixed_text}
 use Rattle.std.specs.Prelude.{codes}
 use Rattle.soap_calls.specs.declared.fault.Answer.TheVariants.{Fault}

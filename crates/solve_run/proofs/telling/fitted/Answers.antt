@@ -1,6 +1,6 @@
 use Rattle.std.proofs.Common.{arith, ap, sym}
 use Rattle.std.proofs.lemmas.Result.{IfOk-weaker}
-use Rattle.osrl_grammar.specs.declared.report.Report.{Report}
+use Rattle.osrl_writing.specs.declared.report.Report.{Report}
 use Rattle.solve_run.proofs.Texts.{fitted_short, fitted_long, fitted_memory}
 use Rattle.solve_run.proofs.telling.fitted.Goals as goal
 

@@ -1,5 +1,5 @@
 use Rattle.std.proofs.Common.{ap, sym}
-use Rattle.osrl_grammar.specs.declared.report.Report.{Report}
+use Rattle.osrl_writing.specs.declared.report.Report.{Report}
 use Rattle.solve_run.proofs.Texts.{same_document}
 use Rattle.solve_run.proofs.telling.memory_document.Goals as goal
 

@@ -1,6 +1,6 @@
 use Rattle.osrl_grammar.proofs.Names.{List, ap, Held, IsCause}
 use Rattle.certificate.specs.declared.causes.Cause as why
-use Rattle.osrl_grammar.specs.declared.parts.Part.TheVariants.{Cause}
+use Rattle.osrl_writing.specs.declared.parts.Part.TheVariants.{Cause}
 use Rattle.osrl_grammar.proofs.ItemTests.{item_made, item_unmade}
 use Rattle.osrl_grammar.proofs.held.Held.push_cause.Goals as goal
 

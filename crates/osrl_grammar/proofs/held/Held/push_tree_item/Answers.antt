@@ -1,5 +1,5 @@
 use Rattle.osrl_grammar.proofs.Names.{IsTreeItem}
-use Rattle.osrl_grammar.specs.declared.parts.Part.TheVariants.{Tree}
+use Rattle.osrl_writing.specs.declared.parts.Part.TheVariants.{Tree}
 use Rattle.osrl_grammar.proofs.ItemTests.{item_made, item_unmade, in_order}
 use Rattle.osrl_grammar.proofs.held.Held.push_tree_item.Goals as goal
 

@@ -1,9 +1,0 @@
-use Rattle.std.proofs.Common.{◌≡◌, refl, ◌∙◌, ap, rules}
-use Rattle.disks.specs.declared.mem_stores.Kept.{out-Kept, the_lemmas}
-use Rattle.disks.proofs.mem_stores.MemStoreDisk.cut.Goals as goal
-
-pub returns-clause-crash : goal.returns-clause-crash
-returns-clause-crash c = λ told file is.
-    let now : file ≡ c.cut.new.self.bytes.items = search (rules, the_lemmas, is) in
-    let left = c.cut.ensures.crash refl file now in
-    (left.0, left.1 ∙ ap (λ k. (out-Kept k).disk.bytes.items) c.deref_mut.ensures.value, left.2)

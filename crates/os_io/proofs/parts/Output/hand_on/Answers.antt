@@ -1,7 +1,0 @@
-use Rattle.std.proofs.Common.{rules}
-use Rattle.os_io.proofs.Pieces.{handed_all}
-use Rattle.os_io.proofs.parts.Output.hand_on.Goals as goal
-
-pub returns-clause-handed : goal.returns-clause-handed
-returns-clause-handed c =
-    handed_all c.args.self.now.handed c.len-self.result c.args.self.now.bytes.items (search rules)

@@ -1,5 +1,0 @@
-use Rattle.os_io.proofs.Pieces.{handed_if}
-use Rattle.os_io.proofs.parts.Output.write.Goals as goal
-
-pub returns-clause-handed : goal.returns-clause-handed
-returns-clause-handed c = handed_if _ c.args.self.now.handed _ _ _ c.extend_from_slice.ensures.items

@@ -1,0 +1,181 @@
+-- The document that a report is written as (Optimization Services result language), and its text.
+use Rattle.std.specs.Prelude.{ℕ, ◌+◌, ◌-◌, Bool, true, false, Option, None, Some, nat_lt, cond, List, [], ◌∷◌, ◌++◌, map, flat_map, length, codes, decimal}
+use Rattle.std.specs.Fmt.{signed_decimal}
+use Rattle.tree_grammar.specs.Elements.{Nodes, none, element, chars, Element}
+use Rattle.tree_grammar.specs.WrittenText.{written}
+use Rattle.document_tags.specs.Writing.{only, text_nodes, leaf, group, typed, rooted}
+use Rattle.fraction.specs.Frac.{ratio}
+use Rattle.fraction.specs.declared.frac.Frac.{Frac}
+use Rattle.decimal_text.specs.Exact.{ratio_text}
+use Rattle.certificate.specs.declared.lists.Mult.{Mult}
+use Rattle.certificate.specs.declared.nodes.Node.{Node}
+use Rattle.certificate.specs.declared.nodes.Node.TheVariants.{Split, Zero, Clash, Farkas, Bound}
+use Rattle.certificate.specs.declared.nodes.Cert.{Cert}
+use Rattle.certificate.specs.declared.causes.Cause.{Cause}
+use Rattle.certificate.specs.declared.causes.Cause.TheVariants as causes
+use Rattle.certificate.specs.declared.claims.Claim.{Claim}
+use Rattle.certificate.specs.declared.claims.Claim.TheVariants.{Optimal, Infeasible, Unbounded, BestSoFar, Unsure}
+use Rattle.osrl_writing.specs.declared.report.JobStatus.{JobStatus}
+use Rattle.osrl_writing.specs.declared.report.Report.{Report}
+use Rattle.osrl_writing.specs.Cuts.{cut_text}
+use Rattle.osrl_writing.specs.declared.parts.Part.{Part}
+use Rattle.osrl_writing.specs.declared.parts.Part.TheVariants as parts
+use Rattle.osrl_writing.specs.declared.parts.Claiming.{Claiming}
+use Rattle.osrl_writing.specs.declared.parts.Claiming.TheVariants as claiming
+use Rattle.certificate.specs.Words.{step_text}
+use Rattle.osrl_writing.specs.Words.{status_text, claiming_text, part_name, round_word}
+
+-- an element with an index that holds a cut number, and then more
+abbrev pub indexed : (name index : List ℕ) → Frac → Nodes → Nodes
+indexed name index x more = element name (only (codes "idx") index) (text_nodes (cut_text (ratio x))) more
+
+-- the values of the variables from j on
+abbrev pub variable_values : ℕ → List Frac → Nodes
+variable_values j [] = none
+variable_values j (x ∷ xs) = indexed (codes "var") (decimal j) x (variable_values (j + 1) xs)
+
+-- of n variables' and the rows' multipliers, those of the rows
+abbrev pub row_values : ℕ → List Mult → Nodes
+row_values n [] = none
+row_values n (m ∷ ms) = cond (nat_lt m.col n) (row_values n ms) (indexed (codes "con") (decimal (m.col - n)) m.value (row_values n ms))
+
+-- a part of a solution with its values, and then more
+abbrev pub values_part : (name list : List ℕ) → Nodes → Nodes → Nodes
+values_part name list values more = group name (group list values none) more
+
+-- the same, where there is a value
+abbrev pub values_part_unless_none : (name list : List ℕ) → Nodes → Nodes → Nodes
+values_part_unless_none name list none more = more
+values_part_unless_none name list (element n attributes children behind) more = values_part name list (element n attributes children behind) more
+values_part_unless_none name list (chars text behind) more = values_part name list (chars text behind) more
+
+-- the values of the objectives from the k-th on, whose indices are below 0
+abbrev pub goal_values : ℕ → List Frac → Nodes
+goal_values k [] = none
+goal_values k (v ∷ vs) = indexed (codes "obj") (45 ∷ decimal k) v (goal_values (k + 1) vs)
+
+-- the values of the variables and of the objectives, and then more
+abbrev pub point_values : List Frac → List Frac → Nodes → Nodes
+point_values x vs more = values_part (codes "variables") (codes "values") (variable_values 0 x) (values_part (codes "objectives") (codes "values") (goal_values 1 vs) more)
+
+-- the multipliers of rows, where there are any, and then more
+abbrev pub rows_part : ℕ → List Mult → Nodes → Nodes
+rows_part n ms more = values_part_unless_none (codes "constraints") (codes "dualValues") (row_values n ms) more
+
+-- those of a tree, where it is one leaf that bounds the objective, and there is no round, and then more
+abbrev pub tree_values : ℕ → List (List Mult) → List Node → Nodes → Nodes
+tree_values n [] (Bound ms ∷ []) more = rows_part n ms more
+tree_values n rs ns more = more
+
+-- the dual values, which stand where there is one objective and one tree, and then more
+abbrev pub dual_values : ℕ → List Frac → List Cert → Nodes → Nodes
+dual_values n (v ∷ []) (c ∷ []) more = tree_values n c.rounds c.nodes more
+dual_values n vs cs more = more
+
+-- a column and its multiplier behind a space
+abbrev pub mult_text : Mult → List ℕ
+mult_text m = 32 ∷ (decimal m.col ++ (58 ∷ ratio_text (ratio m.value)))
+
+abbrev pub node_text : Node → List ℕ
+node_text (Split j k) = codes "split " ++ (decimal j ++ (32 ∷ signed_decimal k))
+node_text (Zero j) = codes "zero " ++ decimal j
+node_text (Clash c) = codes "clash " ++ decimal c
+node_text (Farkas ms) = codes "farkas" ++ flat_map mult_text ms
+node_text (Bound ms) = codes "bound" ++ flat_map mult_text ms
+
+abbrev pub round_text : List Mult → List ℕ
+round_text ms = round_word ++ flat_map mult_text ms
+
+-- what begins the k-th level
+abbrev pub level_text : ℕ → List ℕ
+level_text k = codes "level " ++ decimal k
+
+-- the texts of the trees of the levels from the k-th on, each behind what begins its level
+abbrev pub level_texts : ℕ → List Cert → List (List ℕ)
+level_texts k [] = []
+level_texts k (c ∷ cs) = level_text k ∷ (map node_text c.nodes ++ level_texts (k + 1) cs)
+
+abbrev pub cause_text : Cause → List ℕ
+cause_text causes.Killed = codes "killed"
+cause_text (causes.NodeLimit n) = codes "nodeLimit " ++ decimal n
+cause_text (causes.TurnLimit n) = codes "turnLimit " ++ decimal n
+cause_text (causes.Wide p) = codes "wide " ++ (decimal p.node ++ (32 ∷ (decimal p.turn ++ (32 ∷ step_text p.step))))
+cause_text causes.Length = codes "length"
+cause_text causes.Memory = codes "memory"
+
+-- one item for each text
+abbrev pub item_nodes : List (List ℕ) → Nodes
+item_nodes [] = none
+item_nodes (text ∷ more) = leaf (codes "item") text (item_nodes more)
+
+-- a part of a certificate, and then more
+abbrev pub certificate_part : Part → List (List ℕ) → Nodes → Nodes
+certificate_part p texts more = element (codes "otherSolutionResult") (only (codes "name") (part_name p)) (item_nodes texts) more
+
+abbrev pub fraction_texts : List Frac → List (List ℕ)
+fraction_texts xs = map (λ x. ratio_text (ratio x)) xs
+
+-- a point and its values, and then more
+abbrev pub point_parts : List Frac → List Frac → Nodes → Nodes
+point_parts x vs more = certificate_part parts.Point (fraction_texts x) (certificate_part parts.Value (fraction_texts vs) more)
+
+abbrev pub ray_part : List Frac → Nodes → Nodes
+ray_part r more = certificate_part parts.Ray (fraction_texts r) more
+
+-- rounds, where there are any, and then more
+abbrev pub rounds_part : List (List Mult) → Nodes → Nodes
+rounds_part [] more = more
+rounds_part (r ∷ rs) more = certificate_part parts.Rounds (map round_text (r ∷ rs)) more
+
+-- the first tree with its rounds, and those of the levels behind it
+abbrev pub tree_parts : Cert → List Cert → Nodes
+tree_parts c cs = rounds_part c.rounds (certificate_part parts.Tree (map node_text c.nodes ++ level_texts 2 cs) none)
+
+-- the trees of all levels, where there are any
+abbrev pub trees_parts : List Cert → Nodes
+trees_parts [] = none
+trees_parts (c ∷ cs) = tree_parts c cs
+
+abbrev pub cause_part : Cause → Nodes
+cause_part c = certificate_part parts.Cause (cause_text c ∷ []) none
+
+-- a solution: its status, values for people, and its certificate
+abbrev pub solution : Claiming → (certificate : Nodes) → (values : Nodes → Nodes) → Nodes
+solution c certificate values = typed (codes "status") (claiming_text c) (values (group (codes "otherSolutionResults") certificate none))
+
+abbrev pub claim_nodes : Claim → Nodes
+claim_nodes (Optimal x vs cs) = solution claiming.Optimal (point_parts x vs (trees_parts cs)) (λ more. point_values x vs (dual_values (length x) vs cs more))
+claim_nodes (Infeasible c) = solution claiming.Infeasible (tree_parts c []) (λ more. more)
+claim_nodes (Unbounded x vs cs r) = solution claiming.Unbounded (point_parts x vs (ray_part r (trees_parts cs))) (point_values x vs)
+claim_nodes (BestSoFar x vs c) = solution claiming.BestSoFar (point_parts x vs (cause_part c)) (point_values x vs)
+claim_nodes (Unsure c) = solution claiming.Unsure (cause_part c) (λ more. more)
+
+-- a text in an element of this name, if there is one, and then more
+abbrev pub leaf_of : (name : List ℕ) → Option (List ℕ) → Nodes → Nodes
+leaf_of name None more = more
+leaf_of name (Some text) more = leaf name text more
+
+-- the claim's solution, if there is one
+abbrev pub optimization : Option Claim → Nodes
+optimization None = none
+optimization (Some c) = group (codes "optimization") (group (codes "solution") (claim_nodes c) none) none
+
+abbrev pub general_type : Bool → List ℕ
+general_type true = codes "error"
+general_type false = codes "normal"
+
+-- what is said of the job in general
+abbrev pub general_nodes : Report → Nodes
+general_nodes r = typed (codes "generalStatus") (general_type r.error) (leaf_of (codes "jobID") r.job (leaf_of (codes "message") r.message none))
+
+-- how far the job is, and then more
+abbrev pub status_nodes : JobStatus → Nodes → Nodes
+status_nodes status more = group (codes "job") (leaf (codes "status") (status_text status) none) more
+
+-- the root that a report is written as
+abbrev pub report_element : Report → Element
+report_element r = rooted (codes "osrl") (group (codes "general") (general_nodes r) (status_nodes r.status (optimization r.claim)))
+
+-- the text of a report
+abbrev pub report_text : Report → List ℕ
+report_text r = written (report_element r)

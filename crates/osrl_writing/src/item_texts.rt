@@ -1,0 +1,103 @@
+//! The texts of a certificate's items.
+
+ghost use Rattle.std.specs.Prelude.{◌≡◌, ◌++◌, OnOk, IfOk, flat_map, decimal};
+ghost use Rattle.certificate.specs.declared.causes.Cause.TheVariants as causes;
+ghost use Rattle.osrl_writing.specs.Writing as writing;
+
+use crate::words::Worded;
+use certificate::{Cause, Mult, Node, Place};
+use decimal_text::write_ratio;
+use itoa::Buffer;
+use os_io::{Memory, Text};
+use std::alloc::Global;
+
+/// Appends a column and its multiplier behind a space.
+fn push_mult(text: &mut Text, mult: Mult) -> Result<(), Memory>
+    ensures { OnOk result (text.new ≡ text.old ++ writing.mult_text mult) }
+{
+    text.push(b' ')?;
+    text.extend(Buffer::new().format(mult.col).as_bytes())?;
+    text.push(b':')?;
+    write_ratio(mult.value, text)
+}
+
+/// A word, and multipliers behind it.
+fn mults_text(alloc: Global, word: &[u8], mults: &[Mult]) -> Result<Text, Memory>
+    ensures { IfOk result (λ t. t ≡ word.now ++ flat_map writing.mult_text mults.now) }
+{
+    let mut text = Text::from_slice(alloc, word)?;
+    for mult in mults {
+        push_mult(&mut text, *mult)?;
+    }
+    Ok(text)
+}
+
+/// The text of a round.
+pub(crate) fn round_text(alloc: Global, mults: &[Mult]) -> Result<Text, Memory>
+    ensures { IfOk result (λ t. t ≡ writing.round_text mults.now) }
+{
+    mults_text(alloc, b"round", mults)
+}
+
+/// The text of what begins a level.
+pub(crate) fn level_text(alloc: Global, level: usize) -> Result<Text, Memory>
+    ensures { IfOk result (λ t. t ≡ writing.level_text level) }
+{
+    let mut text = Text::from_slice(alloc, b"level ")?;
+    text.extend(Buffer::new().format(level).as_bytes())?;
+    Ok(text)
+}
+
+/// The text of a node.
+pub(crate) fn node_text(alloc: Global, node: &Node) -> Result<Text, Memory>
+    ensures { IfOk result (λ t. t ≡ writing.node_text node.now) }
+{
+    match node {
+        Node::Split { col, k } => {
+            let mut text = Text::from_slice(alloc, b"split ")?;
+            text.extend(Buffer::new().format(*col).as_bytes())?;
+            text.push(b' ')?;
+            text.extend(Buffer::new().format(*k).as_bytes())?;
+            Ok(text)
+        }
+        Node::Zero { col } => counted_text(alloc, b"zero ", *col),
+        Node::Clash { col } => counted_text(alloc, b"clash ", *col),
+        Node::Farkas(mults) => mults_text(alloc, b"farkas", mults.as_slice()),
+        Node::Bound(mults) => mults_text(alloc, b"bound", mults.as_slice()),
+    }
+}
+
+/// A word, and a number behind it.
+fn counted_text(alloc: Global, word: &[u8], n: u32) -> Result<Text, Memory>
+    ensures { IfOk result (λ t. t ≡ word.now ++ decimal n) }
+{
+    let mut text = Text::from_slice(alloc, word)?;
+    text.extend(Buffer::new().format(n).as_bytes())?;
+    Ok(text)
+}
+
+/// The text of the place where a number was too wide.
+fn wide_text(alloc: Global, place: Place) -> Result<Text, Memory>
+    ensures { IfOk result (λ t. t ≡ writing.cause_text (causes.Wide place)) }
+{
+    let mut text = counted_text(alloc, b"wide ", place.node)?;
+    text.push(b' ')?;
+    text.extend(Buffer::new().format(place.turn).as_bytes())?;
+    text.push(b' ')?;
+    text.extend(place.step.word())?;
+    Ok(text)
+}
+
+/// The text of a cause.
+pub(crate) fn cause_text(alloc: Global, cause: Cause) -> Result<Text, Memory>
+    ensures { IfOk result (λ t. t ≡ writing.cause_text cause) }
+{
+    match cause {
+        Cause::Killed => Text::from_slice(alloc, b"killed"),
+        Cause::NodeLimit(n) => counted_text(alloc, b"nodeLimit ", n),
+        Cause::TurnLimit(n) => counted_text(alloc, b"turnLimit ", n),
+        Cause::Wide(place) => wide_text(alloc, place),
+        Cause::Length => Text::from_slice(alloc, b"length"),
+        Cause::Memory => Text::from_slice(alloc, b"memory"),
+    }
+}

@@ -1,0 +1,4 @@
+mod CleanTexts
+pub mod Documents
+pub mod Texts
+mod WrittenParts

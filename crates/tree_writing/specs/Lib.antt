@@ -1,0 +1,3 @@
+pub mod Escapes
+pub mod TextParts
+pub mod WritableElements
