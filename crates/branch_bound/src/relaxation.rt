@@ -24,13 +24,25 @@ use std::sync::ledger::Ledger;
 
 /// Memory for the runs of a search, what a run is given beside the instance, the turns of all runs, and the rows of the cuts so far
 /// with a sum for each variable, by which cuts are derived.
-#[derive(Drop)]
 pub struct Relaxation<L: Ledger> {
     pub work: Work<L>,
     pub ends: Cuts,
     pub turns: Turns,
     pub rows: Vec<Checked>,
     pub slots: Vec<Option<Frac>>,
+}
+
+impl<L: Ledger> Drop for Relaxation<L> {
+    // By hand, so that letting one go is a call. What is derived would be taken apart wherever one is let go.
+    fn drop(self) {
+        let Relaxation {
+            work: _,
+            ends: _,
+            turns: _,
+            rows: _,
+            slots: _,
+        } = self;
+    }
 }
 
 /// Takes over the ends of the columns of these variables.

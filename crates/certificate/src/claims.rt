@@ -1,4 +1,6 @@
 //! Claims about an instance.
+ghost use Rattle.std.specs.Prelude.{◌≡◌};
+ghost use Rattle.certificate.specs.GivenUp.{given_up};
 
 use crate::causes::Cause;
 use crate::lists::{Point, Ray, Values};
@@ -7,7 +9,7 @@ use items::TryCopy;
 use std::alloc::{AllocError, Global};
 
 /// What is claimed of an instance, with what is to show it.
-#[derive(Debug, Drop)]
+#[derive(Debug)]
 pub enum Claim {
     /// No feasible point is better than this one, whose objectives are the values: a certificate for each goal.
     Optimal {
@@ -37,6 +39,71 @@ pub enum Claim {
     Unsure {
         cause: Cause,
     },
+}
+
+impl Drop for Claim {
+    fn drop(self) {
+        match self {
+            Claim::Optimal {
+                point: _,
+                values: _,
+                certs: _,
+            } => {}
+            Claim::Infeasible { cert: _ } => {}
+            Claim::Unbounded {
+                point: _,
+                values: _,
+                certs: _,
+                ray: _,
+            } => {}
+            Claim::BestSoFar {
+                point: _,
+                values: _,
+                cause: _,
+            } => {}
+            Claim::Unsure { cause: _ } => {}
+        }
+    }
+}
+
+impl Claim {
+    /// What is left of a claim that is given up: its point, if it has one.
+    pub fn give_up(self, cause: Cause) -> Claim
+        ensures { result ≡ given_up self cause }
+    {
+        match self {
+            Claim::Optimal {
+                point,
+                values,
+                certs: _,
+            } => Claim::BestSoFar {
+                point,
+                values,
+                cause,
+            },
+            Claim::Infeasible { cert: _ } => Claim::Unsure { cause },
+            Claim::Unbounded {
+                point,
+                values,
+                certs: _,
+                ray: _,
+            } => Claim::BestSoFar {
+                point,
+                values,
+                cause,
+            },
+            Claim::BestSoFar {
+                point,
+                values,
+                cause: _,
+            } => Claim::BestSoFar {
+                point,
+                values,
+                cause,
+            },
+            Claim::Unsure { cause: _ } => Claim::Unsure { cause },
+        }
+    }
 }
 
 impl TryCopy for Claim {

@@ -6,7 +6,7 @@ use items::{Items, TryCopy};
 use std::alloc::{AllocError, Global};
 
 /// A node of a tree of cases.
-#[derive(Debug, Drop)]
+#[derive(Debug)]
 pub enum Node {
     /// Two cases, whose nodes follow: the variable is at most `k`, or at least `k + 1`.
     Split { col: u32, k: i128 },
@@ -18,6 +18,19 @@ pub enum Node {
     Farkas(Mults),
     /// By these multipliers no point is better than the claimed value.
     Bound(Mults),
+}
+
+impl Drop for Node {
+    // By hand, as for all types here that have lists, so that letting one go is a call. What is derived would be taken apart wherever one is let go.
+    fn drop(self) {
+        match self {
+            Node::Split { col: _, k: _ } => {}
+            Node::Zero { col: _ } => {}
+            Node::Clash { col: _ } => {}
+            Node::Farkas(_) => {}
+            Node::Bound(_) => {}
+        }
+    }
 }
 
 impl TryCopy for Node {
@@ -39,7 +52,7 @@ pub type Nodes = Items<Node>;
 pub type Rounds = Items<Mults>;
 
 /// A certificate: rounding cuts, each one more row, and the nodes of a tree of cases over all rows.
-#[derive(Debug, Drop)]
+#[derive(Debug)]
 pub struct Cert {
     pub rounds: Rounds,
     pub nodes: Nodes,
@@ -47,6 +60,15 @@ pub struct Cert {
 
 /// A certificate for each level, in order.
 pub type Certs = Items<Cert>;
+
+impl Drop for Cert {
+    fn drop(self) {
+        let Cert {
+            rounds: _,
+            nodes: _,
+        } = self;
+    }
+}
 
 impl Cert {
     /// The certificate without rounds and without nodes.

@@ -22,7 +22,6 @@ use std::sync::ledger::Ledger;
 /// Its columns are `width` variables, `height` rows and the goal, whose column is `width + height` and always basic. Whether
 /// it is loaded is asked by contracts alone. The entries of its rows are read and written on the ledger `L` alone, so each
 /// call that does takes that ledger's [`Steps`].
-#[derive(Drop)]
 pub struct Dict<L: Ledger> {
     width: u32,
     height: u32,
@@ -45,6 +44,23 @@ pub struct Dict<L: Ledger> {
     ghost goal: { slice_index columns.items (width + height) ≡ width + height },
     ghost marks_count: { width + height ≤ size_of basic },
     ghost marks_are: { is_loaded ≡ true → AreMarked (width + height) width (slice_index places.items) basic },
+}
+
+impl<L: Ledger> Drop for Dict<L> {
+    // By hand, as for rows and scratches, so that letting one go is a call. What is derived would be taken apart wherever one is let go.
+    fn drop(self) {
+        let Dict {
+            width: _,
+            height: _,
+            rows: _,
+            own: _,
+            scratch: _,
+            columns: _,
+            places: _,
+            basic: _,
+            is_loaded: _,
+        } = self;
+    }
 }
 
 /// Marks the columns of the rows alone.

@@ -19,7 +19,6 @@ use std::sync::ledger::Ledger;
 
 /// A row of a table. The columns at which it has an entry are marked. In common form the entry of a column is its number over
 /// the row's denominator; else the entries stand as fractions.
-#[derive(Drop)]
 pub struct Row<L: Ledger> {
     pub numers: Vec<i64>,
     pub denom: i64,
@@ -28,6 +27,19 @@ pub struct Row<L: Ledger> {
     pub fractions: Fractions<L>,
     pub is_common: bool,
     pub ghost above: { pos 0 <ℤ denom },
+}
+
+impl<L: Ledger> Drop for Row<L> {
+    fn drop(self) {
+        let Row {
+            numers: _,
+            denom: _,
+            size: _,
+            marks: _,
+            fractions: _,
+            is_common: _,
+        } = self;
+    }
 }
 
 impl<L: Ledger> Row<L> {

@@ -11,7 +11,6 @@ use marks::Marks;
 use std::alloc::{AllocError, Global};
 
 /// Numbers of columns, of which none is an entry of a table's row: sums, and values where a column is marked.
-#[derive(Drop)]
 pub struct Scratch {
     pub sums: Vec<i128>,
     pub values: Vec<Frac>,
@@ -20,6 +19,17 @@ pub struct Scratch {
     pub ghost same: { length others.items ≡ length values.items },
     pub ghost as_many: { length sums.items ≡ length values.items },
     pub ghost marks: { size_of found ≡ words_over (length values.items) },
+}
+
+impl Drop for Scratch {
+    fn drop(self) {
+        let Scratch {
+            sums: _,
+            values: _,
+            others: _,
+            found: _,
+        } = self;
+    }
 }
 
 impl Scratch {

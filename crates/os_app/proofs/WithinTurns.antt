@@ -33,7 +33,8 @@ use Rattle.osil_grammar.specs.Reading.{IsInstanceText}
 use Rattle.osil_grammar.specs.Reading as instances
 use Rattle.osrl_writing.specs.declared.report.Report.{Report}
 use Rattle.osrl_writing.specs.Writing.{report_text}
-use Rattle.solve_run.specs.Judging.{checked, given_up, wide_check}
+use Rattle.certificate.specs.GivenUp.{given_up}
+use Rattle.solve_run.specs.Judging.{checked, wide_check}
 use Rattle.solve_run.specs.Closings.{IsToldOf, IsFitted}
 use Rattle.solve_run.specs.JobAnswers.{AnswersJob, IsBestOfSearch, Solved, no_options, no_instance, solved, gave_up, job_terms}
 use Rattle.no_cycles.specs.Beginning.{BeginsFeasible}

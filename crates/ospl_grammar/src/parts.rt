@@ -10,7 +10,6 @@ use std::alloc::Global;
 
 /// What the parts of statistics have said so far, and whether they can't be whole any more; of the latest job its name and
 /// its state.
-#[derive(Drop)]
 pub(crate) struct Parts {
     pub fails: bool,
     pub busy: Option<bool>,
@@ -20,6 +19,21 @@ pub(crate) struct Parts {
     pub jobs: JobStates,
     pub id: Option<Text>,
     pub state: Option<JobState>,
+}
+
+impl Drop for Parts {
+    fn drop(self) {
+        let Parts {
+            fails: _,
+            busy: _,
+            current: _,
+            total: _,
+            listed: _,
+            jobs: _,
+            id: _,
+            state: _,
+        } = self;
+    }
 }
 
 /// Whether what is said once was said before, or isn't said now.
@@ -110,7 +124,8 @@ impl Parts {
             total,
             listed,
             jobs,
-            ..
+            id: _,
+            state: _,
         } = self;
         if fails || !listed {
             return None;

@@ -13,11 +13,10 @@ use std::alloc::Global;
 use tag_tests::read_marks;
 
 /// What marks say that were all taken.
-fn said(standing: Standing) -> Result<Process, OsplFault>
+fn said(mut standing: Standing) -> Result<Process, OsplFault>
     ensures { MatchOption (asked_or_told standing.asked standing.told) (result ≡ Err Missing) (λ p. result ≡ Ok p) }
 {
-    let Standing { asked, told, .. } = standing;
-    match (asked, told) {
+    match (standing.asked.take(), standing.told.take()) {
         (Some(action), _) => Ok(Process::Ask { action }),
         (None, Some(process)) => Ok(process),
         (None, None) => Err(OsplFault::Missing),

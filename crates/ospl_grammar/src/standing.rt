@@ -26,7 +26,6 @@ use tag_tests::{Led, MarkReader, Stop, led_from, value};
 /// What the marks so far leave: the element that is read and that they end in, how many elements are open in it that are
 /// passed over, the characters in it that are kept, what statistics have said that are read, what the first request asks,
 /// and the first statistics that were whole.
-#[derive(Drop)]
 pub(crate) struct Standing {
     pub place: Place,
     pub depth: u64,
@@ -34,6 +33,20 @@ pub(crate) struct Standing {
     pub parts: Parts,
     pub asked: Option<Text>,
     pub told: Option<Process>,
+}
+
+impl Drop for Standing {
+    // By hand, as for the parts, so that letting one go is a call. What is derived would be taken apart wherever one is let go.
+    fn drop(self) {
+        let Standing {
+            place: _,
+            depth: _,
+            text: _,
+            parts: _,
+            asked: _,
+            told: _,
+        } = self;
+    }
 }
 
 /// What a request asks.

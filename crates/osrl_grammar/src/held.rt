@@ -25,7 +25,6 @@ const MOST_LEVELS: usize = 16_777_216;
 
 /// The parts of a certificate that have begun, and their items: of its trees the nodes of the latest level, and the trees
 /// of the levels before it.
-#[derive(Drop)]
 pub(crate) struct Held {
     pub has_point: bool,
     pub has_value: bool,
@@ -40,6 +39,26 @@ pub(crate) struct Held {
     pub levels: Certs,
     pub tree: Nodes,
     pub causes: Items<Cause>,
+}
+
+impl Drop for Held {
+    fn drop(self) {
+        let Held {
+            has_point: _,
+            has_value: _,
+            has_ray: _,
+            has_rounds: _,
+            has_tree: _,
+            has_cause: _,
+            point: _,
+            values: _,
+            ray: _,
+            rounds: _,
+            levels: _,
+            tree: _,
+            causes: _,
+        } = self;
+    }
 }
 
 /// Adds a number, if the text is one.
@@ -340,7 +359,9 @@ impl Held {
             has_point,
             has_value,
             has_ray,
+            has_rounds: _,
             has_tree,
+            has_cause: _,
             point,
             values,
             ray,
@@ -348,7 +369,6 @@ impl Held {
             levels,
             tree,
             causes,
-            ..
         } = self;
         let point = when(has_point, point);
         let values = when(has_value, values);

@@ -53,7 +53,6 @@ const CLAIMINGS: [Claiming; 5] = [
 ];
 
 /// What the marks so far leave. It holds no element, and no more than what they say.
-#[derive(Drop)]
 pub(crate) struct Standing {
     alloc: Global,
     place: Place,
@@ -71,6 +70,30 @@ pub(crate) struct Standing {
     bad: Option<BadItem>,
     held: Held,
     report: Report,
+}
+
+impl Drop for Standing {
+    // By hand, as for all types here that have lists or texts, so that letting one go is a call. What is derived would be taken apart wherever one is let go.
+    fn drop(self) {
+        let Standing {
+            alloc: _,
+            place: _,
+            depth: _,
+            count: _,
+            text: _,
+            general: _,
+            job: _,
+            message: _,
+            status: _,
+            claiming: _,
+            has_solution: _,
+            twice: _,
+            level: _,
+            bad: _,
+            held: _,
+            report: _,
+        } = self;
+    }
 }
 
 impl Model for Standing {
@@ -139,27 +162,33 @@ fn type_of<'a>(attributes: &'a Attributes<'_>) -> &'a [u8]
 }
 
 /// Whether a general status is that of an error, if there is one.
-fn is_error(kind: Option<Text>) -> Option<bool>
-    ensures { result ≡ option_map (λ t. bytes_eq t (codes "error")) kind }
+fn is_error(kind: &Option<Text>) -> Option<bool>
+    ensures { result ≡ option_map (λ t. bytes_eq t (codes "error")) kind.now }
 {
-    let kind = kind?;
-    Some(kind.as_slice() == b"error".as_slice())
+    match kind {
+        Some(kind) => Some(kind.as_slice() == b"error".as_slice()),
+        None => None,
+    }
 }
 
 /// The status of this word, if there is one.
-fn status_of(word: Option<Text>) -> Option<JobStatus>
-    ensures { result ≡ option_and_then (worded status_text all_statuses) word }
+fn status_of(word: &Option<Text>) -> Option<JobStatus>
+    ensures { result ≡ option_and_then (worded status_text all_statuses) word.now }
 {
-    let word = word?;
-    with_word(word.as_slice(), &STATUSES)
+    match word {
+        Some(word) => with_word(word.as_slice(), &STATUSES),
+        None => None,
+    }
 }
 
 /// What this word says that a solution claims, if it says that.
-fn claiming_of(word: Option<Text>) -> Option<Claiming>
-    ensures { result ≡ option_and_then (worded claiming_text all_claimings) word }
+fn claiming_of(word: &Option<Text>) -> Option<Claiming>
+    ensures { result ≡ option_and_then (worded claiming_text all_claimings) word.now }
 {
-    let word = word?;
-    with_word(word.as_slice(), &CLAIMINGS)
+    match word {
+        Some(word) => with_word(word.as_slice(), &CLAIMINGS),
+        None => None,
+    }
 }
 
 /// Whether a solution with such a status claims that no point is feasible; where there is no status so far, as is said.
@@ -207,8 +236,8 @@ fn level_or(level: Option<u64>, bad: Option<BadItem>) -> Option<BadItem>
 }
 
 /// The claim of a solution with such a status, if all parts are there that it needs.
-fn claim_of(alloc: Global, held: Held, word: Option<Text>) -> Result<Option<Claim>, AllocError>
-    ensures { IfOk result (λ c. c ≡ option_and_then (saying.claim_as held) (option_and_then (worded claiming_text all_claimings) word)) }
+fn claim_of(alloc: Global, held: Held, word: &Option<Text>) -> Result<Option<Claim>, AllocError>
+    ensures { IfOk result (λ c. c ≡ option_and_then (saying.claim_as held) (option_and_then (worded claiming_text all_claimings) word.now)) }
 {
     match claiming_of(word) {
         Some(claiming) => held.claim(alloc, claiming),
@@ -221,9 +250,9 @@ fn claimed(
     alloc: Global,
     has_solution: bool,
     held: Held,
-    word: Option<Text>,
+    word: &Option<Text>,
 ) -> Result<Option<Option<Claim>>, AllocError>
-    ensures { IfOk result (λ c. c ≡ cond has_solution (option_map Some (option_and_then (saying.claim_as held) (option_and_then (worded claiming_text all_claimings) word))) (Some None)) }
+    ensures { IfOk result (λ c. c ≡ cond has_solution (option_map Some (option_and_then (saying.claim_as held) (option_and_then (worded claiming_text all_claimings) word.now))) (Some None)) }
 {
     if !has_solution {
         return Ok(Some(None));
@@ -236,17 +265,17 @@ fn claimed(
 
 /// What is reported, if all parts are there that it needs.
 fn reported(
-    general: Option<Text>,
+    general: &Option<Text>,
     job: Option<Text>,
     message: Option<Text>,
     status: Option<JobStatus>,
     claim: Option<Option<Claim>>,
 ) -> Option<Report>
-    ensures { result ≡ saying.report_with general job message status claim }
+    ensures { result ≡ saying.report_with general.now job message status claim }
 {
-    let claim = claim?;
     let error = is_error(general)?;
     let status = status?;
+    let claim = claim?;
     Some(Report {
         error,
         job,
@@ -443,26 +472,16 @@ impl Standing {
     }
 
     /// What the marks have reported, if all parts are there.
-    fn into_report(self) -> Result<Option<Report>, AllocError>
+    fn into_report(mut self) -> Result<Option<Report>, AllocError>
         ensures { IfOk result (λ r. r ≡ saying.report_of self) }
     {
-        let Standing {
-            alloc,
-            general,
-            job,
-            message,
-            status,
-            claiming,
-            has_solution,
-            held,
-            ..
-        } = self;
-        let claim = claimed(alloc, has_solution, held, claiming)?;
+        let held = mem::replace(&mut self.held, Held::new(self.alloc));
+        let claim = claimed(self.alloc, self.has_solution, held, &self.claiming)?;
         Ok(reported(
-            general,
-            nonempty(job),
-            nonempty(message),
-            status_of(status),
+            &self.general,
+            nonempty(self.job.take()),
+            nonempty(self.message.take()),
+            status_of(&self.status),
             claim,
         ))
     }
@@ -537,10 +556,10 @@ impl Standing {
     }
 
     /// What the document reports, where its root has ended.
-    pub(crate) fn report(self) -> Report
+    pub(crate) fn report(mut self) -> Report
         ensures { result ≡ self.report }
     {
-        self.report
+        mem::replace(&mut self.report, nothing_said())
     }
 }
 

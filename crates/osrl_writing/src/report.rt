@@ -22,11 +22,22 @@ pub enum JobStatus {
 
 /// What a result document says: whether of an error, of which job, a message, how far the job is, and what is claimed of
 /// the instance.
-#[derive(Drop)]
 pub struct Report {
     pub error: bool,
     pub job: Option<Text>,
     pub message: Option<Text>,
     pub status: JobStatus,
     pub claim: Option<Claim>,
+}
+
+impl Drop for Report {
+    fn drop(self) {
+        let Report {
+            error: _,
+            job: _,
+            message: _,
+            status: _,
+            claim: _,
+        } = self;
+    }
 }

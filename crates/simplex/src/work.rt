@@ -26,7 +26,6 @@ use std::sync::ledger::Ledger;
 
 /// Memory for runs of one size, and what the last of them found. The entries of its dictionary are read and written on the ledger
 /// `L` alone.
-#[derive(Drop)]
 pub struct Work<L: Ledger> {
     dict: Dict<L>,
     ends: Vec<Ends>,
@@ -44,6 +43,22 @@ pub struct Work<L: Ledger> {
     ghost unknown_room: { width_of dict + height_of dict ≤ size_of unknown },
     ghost factors_long: { vec_len factors ≡ width_of dict + height_of dict },
     ghost movements_long: { vec_len movements ≡ width_of dict },
+}
+
+impl<L: Ledger> Drop for Work<L> {
+    // By hand, so that letting one go is a call. What is derived would be taken apart wherever one is let go.
+    fn drop(self) {
+        let Work {
+            dict: _,
+            ends: _,
+            statuses: _,
+            rest: _,
+            values: _,
+            unknown: _,
+            factors: _,
+            movements: _,
+        } = self;
+    }
 }
 
 /// The place of a column that isn't basic.

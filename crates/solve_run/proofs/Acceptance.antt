@@ -22,7 +22,8 @@ use Rattle.osrl_grammar.specs.Reading.{IsReportText}
 use Rattle.osrl_grammar.specs.Back.{IsBareOrNone, CauseComesBack, ClaimComesBack, ComesBack}
 use Rattle.document_checker.specs.declared.documents.Kind.{Kind}
 use Rattle.document_checker.specs.Documents.{kind, IsAcceptedText}
-use Rattle.solve_run.specs.Judging.{IsShownClaim, HasFewRounds, IsFinal, given_up, IsJudged, checked}
+use Rattle.certificate.specs.GivenUp.{given_up}
+use Rattle.solve_run.specs.Judging.{IsShownClaim, HasFewRounds, IsFinal, IsJudged, checked}
 use Rattle.solve_run.specs.Closings.{error_report, claim_report, IsShort, IsFitted, IsToldOf}
 use Rattle.solve_run.specs.JobAnswers.{job_terms, Solved, IsJobOf, IsBestOfSearch, AnswersJob, no_options, no_instance, solved, gave_up}
 use Rattle.solve_run.proofs.Lengths.{IsShortName, unsure_short, error_short}

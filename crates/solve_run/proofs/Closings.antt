@@ -8,7 +8,8 @@ use Rattle.certificate.specs.declared.claims.Claim.{Claim}
 use Rattle.certificate.specs.declared.claims.Claim.TheVariants.{Optimal, Infeasible, Unbounded, BestSoFar, Unsure}
 use Rattle.osrl_grammar.specs.Back.{CauseComesBack, ClaimComesBack}
 use Rattle.solve_run.specs.declared.document.Document.{Document}
-use Rattle.solve_run.specs.Judging.{IsShownClaim, HasFewRounds, given_up, wide_check, IsJudged, checked}
+use Rattle.certificate.specs.GivenUp.{given_up}
+use Rattle.solve_run.specs.Judging.{IsShownClaim, HasFewRounds, wide_check, IsJudged, checked}
 use Rattle.solve_run.specs.Closings.{IsFitted}
 use Rattle.solve_run.specs.Runs.{HasCauses, IsFittedDocument, IsClaimTold}
 use Rattle.solve_run.proofs.RoundTrips.{shown_back}

@@ -12,7 +12,8 @@ use Rattle.certificate.specs.declared.claims.Claim.TheVariants as Has
 use Rattle.search_rules.specs.Search.{Outcome, Optimal, Infeasible, Unbounded, BestSoFar, Unsure}
 use Rattle.search_rules.specs.Outcomes.{IsShown}
 use Rattle.branch_bound.specs.Claims.{said, cause_of, claimed_cause}
-use Rattle.solve_run.specs.Judging.{IsShownClaim, IsFinal, given_up}
+use Rattle.certificate.specs.GivenUp.{given_up}
+use Rattle.solve_run.specs.Judging.{IsShownClaim, IsFinal}
 
 pub given_other : (c : Claim) (cause : Cause) → IsFinal (given_up c cause) → ⊥
 given_other (Has.Optimal x vs cs) cause f = f

@@ -6,7 +6,7 @@ use Rattle.certificate.specs.declared.claims.Claim.{Claim}
 use Rattle.osrl_writing.specs.declared.report.Report.{Report}
 use Rattle.osrl_writing.specs.Writing.{report_text}
 use Rattle.solve_run.specs.declared.document.Document.{Document}
-use Rattle.solve_run.specs.Judging.{given_up}
+use Rattle.certificate.specs.GivenUp.{given_up}
 use Rattle.solve_run.specs.Closings.{error_report, claim_report, IsShort}
 use Rattle.solve_run.specs.Runs.{IsDocumentOf, IsTextOf, IsMemoryDocument, IsErrorDocument, IsFittedDocument}
 

@@ -7,7 +7,8 @@ use Rattle.certificate.specs.declared.claims.Claim.{Claim}
 use Rattle.osrl_writing.specs.declared.report.JobStatus.TheVariants.{Finished}
 use Rattle.osrl_writing.specs.declared.report.Report.{Report}
 use Rattle.osrl_writing.specs.Writing.{report_text}
-use Rattle.solve_run.specs.Judging.{given_up, IsJudged, checked}
+use Rattle.certificate.specs.GivenUp.{given_up}
+use Rattle.solve_run.specs.Judging.{IsJudged, checked}
 
 -- the report of an error of a finished job, with this message
 abbrev pub error_report : (job : Option (List ℕ)) → (message : List ℕ) → Report

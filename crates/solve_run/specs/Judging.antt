@@ -1,9 +1,10 @@
--- What is checked of a search's claim before it is told, and what is left of a claim that is given up.
+-- What is checked of a search's claim before it is told.
 use Rattle.std.specs.Prelude.{◌≡◌, ℕ, ◌≤◌, Option, None, Some, length}
 use Rattle.std.specs.List.{All}
 use Rattle.evidence.specs.Claim.{Accepts}
 use Rattle.instance.specs.Parts.{Parts}
 use Rattle.instance.specs.Program.{problem}
+use Rattle.certificate.specs.GivenUp.{given_up}
 use Rattle.certificate.specs.Meanings as Means
 use Rattle.certificate.specs.Nodes.{certs_of}
 use Rattle.certificate.specs.declared.nodes.Cert.{Cert}
@@ -41,14 +42,6 @@ IsFinal (Infeasible c) = Unit {0}
 IsFinal (Unbounded x vs cs r) = Unit {0}
 IsFinal (BestSoFar x vs c) = ⊥
 IsFinal (Unsure c) = ⊥
-
--- nothing of the claim stands but its point, if it has one, for this cause
-abbrev pub given_up : Claim → Cause → Claim
-given_up (Optimal x vs cs) c = BestSoFar x vs c
-given_up (Infeasible cert) c = Unsure c
-given_up (Unbounded x vs cs r) c = BestSoFar x vs c
-given_up (BestSoFar x vs old) c = BestSoFar x vs c
-given_up (Unsure old) c = Unsure c
 
 -- a sum by which node n is checked doesn't fit, and is formed after so many turns
 abbrev pub wide_check : (n turns : ℕ) → Cause

@@ -10,31 +10,6 @@ use instance::{Instance, problems_have_numbers};
 use os_io::Memory;
 use std::alloc::Global;
 
-/// What is left of a claim that is given up: its point, if it has one.
-pub fn give_up(claim: Claim, cause: Cause) -> Claim
-    ensures { result ≡ specs.given_up claim cause }
-{
-    match claim {
-        Claim::Optimal { point, values, .. } => Claim::BestSoFar {
-            point,
-            values,
-            cause,
-        },
-        Claim::Infeasible { .. } => Claim::Unsure { cause },
-        Claim::Unbounded { point, values, .. } => Claim::BestSoFar {
-            point,
-            values,
-            cause,
-        },
-        Claim::BestSoFar { point, values, .. } => Claim::BestSoFar {
-            point,
-            values,
-            cause,
-        },
-        Claim::Unsure { .. } => Claim::Unsure { cause },
-    }
-}
-
 /// The node at which a sum doesn't fit.
 fn wide_node(refused: Refused) -> u32
     requires { (n : ℕ) × specs.IsWideAt refused n }
@@ -105,7 +80,7 @@ pub fn checked(claim: Claim, turns: u64, width: Option<u32>) -> Claim
                 turn: turns,
                 step: Step::Check,
             };
-            give_up(claim, Cause::Wide(place))
+            claim.give_up(Cause::Wide(place))
         }
         None => claim,
     }

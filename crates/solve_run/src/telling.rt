@@ -4,11 +4,12 @@ ghost use Rattle.instance.specs.Parts.{IsValid};
 ghost use Rattle.certificate.specs.declared.causes.Cause.TheVariants as causes;
 ghost use Rattle.certificate.specs.declared.claims.Claim.{Claim as OneClaim};
 ghost use Rattle.osrl_grammar.specs.Back.{CauseComesBack};
-ghost use Rattle.solve_run.specs.Judging.{given_up, IsShownClaim, HasFewRounds};
+ghost use Rattle.certificate.specs.GivenUp.{given_up};
+ghost use Rattle.solve_run.specs.Judging.{IsShownClaim, HasFewRounds};
 ghost use Rattle.solve_run.specs.Closings as specs;
 ghost use Rattle.solve_run.specs.Runs.{IsClaimTold, IsTextOf, IsFittedDocument, IsMemoryDocument, IsErrorDocument, HasCauses};
 
-use crate::closing::{checked, give_up, judge};
+use crate::closing::{checked, judge};
 use crate::document::Document;
 use certificate::{Cause, Claim};
 use instance::Instance;
@@ -55,7 +56,7 @@ pub fn memory_document(alloc: Global, job: Option<Text>) -> Result<Document, Mem
 }
 
 /// The document of a report, or for want of memory of one that claims nothing of the same job.
-fn document_or_memory(alloc: Global, report: Report) -> Result<Document, Memory>
+fn document_or_memory(alloc: Global, mut report: Report) -> Result<Document, Memory>
     ensures { IfOk result (IsTextOf report) }
 {
     match encode(alloc, &report) {
@@ -63,7 +64,7 @@ fn document_or_memory(alloc: Global, report: Report) -> Result<Document, Memory>
             text,
             is_error: report.error,
         }),
-        Err(_) => memory_document(alloc, report.job),
+        Err(_) => memory_document(alloc, report.job.take()),
     }
 }
 
@@ -82,28 +83,22 @@ pub fn refusal(
 }
 
 /// The report whose claim is given up for its length.
-fn shortened(report: Report) -> Report
+fn shortened(mut report: Report) -> Report
     ensures { (job : Option (List ℕ)) (c : OneClaim) → report ≡ specs.claim_report job c → result ≡ specs.claim_report job (given_up c causes.Length) }
 {
-    Report {
-        error: report.error,
-        job: report.job,
-        message: report.message,
-        status: report.status,
-        claim: match report.claim {
-            Some(claim) => Some(give_up(claim, Cause::Length)),
-            None => None,
-        },
+    if let Some(claim) = report.claim.take() {
+        report.claim = Some(claim.give_up(Cause::Length));
     }
+    report
 }
 
 /// The document of a report with a claim, which is given up where the document would be longer than one may be.
 fn fitted(alloc: Global, job: Option<Text>, claim: Claim) -> Result<Document, Memory>
     ensures { IfOk result (IsFittedDocument job claim) }
 {
-    let report = claim_report(job, claim);
+    let mut report = claim_report(job, claim);
     let Ok(text) = encode(alloc, &report) else {
-        return memory_document(alloc, report.job);
+        return memory_document(alloc, report.job.take());
     };
     if text.len() as u64 <= MOST_BYTES {
         return Ok(Document {
