@@ -7,7 +7,8 @@
 //! is a fraction of 128 bits, and a sum that doesn't fit is a reason too.
 //!
 //! A round and a goal that is reached are each one more row of the program at hand, which has the
-//! instance's rows and then those that were added; all else goes over its rows, whichever they are. The tree is walked
+//! instance's rows and then those that were added; all else goes over its rows, whichever they are. [`Added`] is such a row and
+//! [`put`] makes one; [`round_sum`] and [`ceiling`] give its lower end to whoever derives rounds. The tree is walked
 //! in a loop: the cuts of the case at hand are kept beside what they replaced, and undone on the way back. Both stand in
 //! room that [`Scratch`] has from before. A leaf costs time in proportion to the variables and to the coefficients of
 //! the rows that its multipliers name. `check` takes no memory.

@@ -65,7 +65,7 @@ impl Step {
         }
     }
 
-    /// An equal step. It takes no memory.
+    /// An equal step. It takes no memory and never fails.
     pub fn try_copy(&self) -> Result<Step, AllocError>
         ensures { result ≡ Ok self.now }
     {
@@ -74,7 +74,7 @@ impl Step {
 }
 
 impl Place {
-    /// An equal place. It takes no memory.
+    /// An equal place. It takes no memory and never fails.
     pub fn try_copy(&self) -> Result<Place, AllocError>
         ensures { result ≡ Ok self.now }
     {
@@ -83,7 +83,7 @@ impl Place {
 }
 
 impl Cause {
-    /// An equal cause. It takes no memory.
+    /// An equal cause. It takes no memory and never fails.
     pub fn try_copy(&self) -> Result<Cause, AllocError>
         ensures { result ≡ Ok self.now }
     {

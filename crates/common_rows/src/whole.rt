@@ -18,7 +18,7 @@ pub fn narrowed(n: i128) -> Option<i64>
     i64::try_from(n).ok()
 }
 
-/// The number, where the fraction is whole and it has 64 bits.
+/// The number, where one is told: the fraction is whole, and it has 64 bits. That it is told then no clause says.
 #[inline]
 pub fn narrow(x: Frac) -> Option<i64>
     ensures whole { IfSome result (λ _. x.denom ≡ 1) }

@@ -49,7 +49,7 @@ impl<L: Ledger> Row<L> {
     ghost use Rattle.dictionary.specs.Rows.{numbers_of, numer_at, entries_at, IsRow, IsCleared, HasRowForm, IsSpread};
     ghost use Rattle.dictionary.specs.Steps.{nonzeros};
 
-    /// A row of so many columns without entries, and room for so many.
+    /// A row of so many columns without entries, with room for so many fractions.
     pub fn with_room(alloc: Global, columns: usize, room: usize) -> Result<Row<L>, AllocError>
         requires { columns ≤ 2 ^ 32 }
         ensures row { IfOk result (λ r. IsRow columns room r) }

@@ -19,7 +19,7 @@ use document_tags::tree_faults_have_one_text;
 use osil_grammar::{documents_are_refused_in_one_way, documents_mean_one_instance};
 use osrl_grammar::{document_has_one_refusal, document_has_one_report, report_is_not_refused};
 
-/// Law: the laws of instances' documents.
+/// Law: a document is one instance at most, and is refused in one way.
 pub fn instances_are_one()
     ensures { InstancesAreOne }
 {

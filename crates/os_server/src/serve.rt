@@ -120,7 +120,8 @@ pub fn serve_ends<I: Source, O: Sink, V: Verdicts, C: Mover<V>, S: Server<V>>(
     Served::Ended
 }
 
-/// Answers on an output that there is no memory for a conversation, of whose input nothing is read then: 503.
+/// Answers on an output that there is no memory for a conversation, of whose input nothing is read then: 503. The input and the
+/// server are handed in for the contract alone.
 pub fn turn_away<I: Source, O: Sink, V: Verdicts, S: Server<V>>(
     _input: &I,
     output: &mut O,

@@ -16,9 +16,9 @@ pub enum CallKind {
     Send,
     /// Gives the result of a job that was sent.
     Retrieve,
-    /// Asks what a job, or the server, does.
+    /// Asks for the states of all jobs.
     Knock,
-    /// Stops a job.
+    /// Asks a job to stop, or gives up one that is over.
     Kill,
 }
 

@@ -56,7 +56,7 @@ impl<R: Clock + Wait> Pace<R> {
         }
     }
 
-    /// Sets how long the system waits for the peer of this socket, and how many such waits may be in vain.
+    /// Sets how long one call of the system waits for the peer, and gives how many such waits of a write may be in vain.
     pub(crate) fn set_waits(&self, socket: &TcpStream) -> io::Result<u16> {
         let wait = Some(Duration::from_secs(WAIT));
         socket.set_read_timeout(wait)?;
