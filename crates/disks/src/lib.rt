@@ -16,8 +16,6 @@ mod disk;
 mod file_disk;
 mod file_stores;
 mod stores;
-#[cfg(test)]
-mod tests;
 
 pub use disk::Disk;
 pub use file_disk::FileDisk;

@@ -7,8 +7,6 @@
 
 mod mem_disk;
 mod mem_stores;
-#[cfg(test)]
-mod tests;
 
 pub use mem_disk::MemDisk;
 pub use mem_stores::{MemStore, MemStores};

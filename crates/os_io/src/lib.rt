@@ -29,8 +29,6 @@ mod mem_body;
 mod never;
 mod standard;
 mod streams;
-#[cfg(test)]
-mod tests;
 mod text;
 mod watch;
 

@@ -105,8 +105,8 @@ impl Door {
     }
 }
 
-/// The next connection. One that is gone before it could be taken is passed over.
-pub(crate) fn next_stream<L: OpenListener>(listener: &L) -> io::Result<L::Stream> {
+/// The next connection of a listener. One that was gone before it was accepted is passed over.
+pub fn next_stream<L: OpenListener>(listener: &L) -> io::Result<L::Stream> {
     for stream in listener.incoming() {
         match stream {
             Err(error) if is_gone(error.kind()) => {}

@@ -14,8 +14,6 @@
 
 mod closing_shift;
 mod gate;
-#[cfg(test)]
-mod tests;
 mod wake;
 mod work;
 

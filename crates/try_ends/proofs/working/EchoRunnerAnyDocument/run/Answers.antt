@@ -1,6 +1,6 @@
 use Rattle.std.proofs.Common.{Bool, true, false, [], ◌∷◌, refl}
 use Rattle.job_runs.specs.Runs.{AreLooks}
-use Rattle.workers.proofs.tests.EchoRunnerAnyDocument.run.Goals as goal
+use Rattle.try_ends.proofs.working.EchoRunnerAnyDocument.run.Goals as goal
 
 one_look : (stop : Bool) → AreLooks stop (stop ∷ [])
 one_look true = record { before = []; went_on = refl; are = refl }

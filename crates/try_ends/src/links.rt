@@ -1,0 +1,151 @@
+//! Links over TCP on this machine.
+
+use crate::telling::{Fault, Lines, read_of};
+use crate::threads::moved;
+use os_io::{Close, Failed, Link, Listener, Memory, send_all};
+use std::alloc::Global;
+use std::cell::Cell;
+use std::io::{self, ErrorKind};
+use std::net::{OpenListener, SocketAddr};
+use std::thread::join;
+use std::time::{Duration, Instant};
+use tcp_net::{TcpNet, next_stream};
+
+/// Where links come in.
+const HOST: &str = "localhost";
+
+/// How many seconds a link that came waits for its peer.
+const PATIENCE: u16 = 30;
+
+/// Within how many seconds an idle link ends for another one. By itself it would end after its patience.
+const MOST: u64 = 10;
+
+/// Listens, at a port that the system chooses.
+fn listen(net: &mut TcpNet<&HostRuntime>) -> Result<u16, Failed> {
+    net.listen(HOST, 0, PATIENCE)?;
+    Ok(net.port().unwrap_or(0))
+}
+
+/// Both ends of a link to this port: the one that was made, and the one that came.
+fn connected<N: Listener>(net: &mut N, port: u16) -> Result<(N::Conn, N::Conn), Failed>
+where
+    N::Conn: Drop,
+{
+    let near = net.connect(HOST, port)?;
+    let far = net.accept()?;
+    Ok((near, far))
+}
+
+/// Asks and answers on a link that the peer then gives up.
+fn talk(rt: &HostRuntime) -> Result<String, Fault> {
+    let alloc = rt.alloc();
+    let mut net = TcpNet::new(rt);
+    let early = match net.accept() {
+        Ok(_) => "a link",
+        Err(Failed) => "a fault",
+    };
+    let port = listen(&mut net)?;
+    let (mut near, mut far) = connected(&mut net, port)?;
+    send_all(&mut near, b"asked")?;
+    let asked = read_of(alloc, &mut far)?;
+    send_all(&mut far, b"answer")?;
+    let answer = read_of(alloc, &mut near)?;
+    net.done(moved(near));
+    let end = read_of(alloc, &mut far)?;
+    let (reads, writes, calls) = (far.read_faults(), far.write_faults(), net.faults());
+    Ok(format!(in alloc;
+        "{early} before it listens; {asked}, {answer}, then {end}; faults {reads} {writes} {calls}"
+    )?)
+}
+
+/// What a peer reads that first writes 6 MiB, more than the system's buffers hold. It then gives its link up.
+fn read_behind_much<S: Link + Drop>(alloc: Global, mut near: S) -> Result<String, Fault> {
+    for _ in 0..1_536 {
+        send_all(&mut near, &[b'x'; 4_096])?;
+    }
+    let answer = read_of(alloc, &mut near)?;
+    let end = read_of(alloc, &mut near)?;
+    Ok(format!(in alloc; "{answer}, then {end}")?)
+}
+
+/// Answers and closes a link whose peer goes on writing.
+fn close_before_the_peer(rt: &HostRuntime) -> Result<String, Fault> {
+    let alloc = rt.alloc();
+    let mut net = TcpNet::new(rt);
+    let port = listen(&mut net)?;
+    let (near, mut far) = connected(&mut net, port)?;
+    send_all(&mut far, b"answer")?;
+    let (far, read) = join(
+        rt,
+        move || {
+            far.close();
+            far
+        },
+        move || read_behind_much(alloc, near),
+    );
+    net.done(far);
+    let read = read?;
+    Ok(format!(in alloc; "its peer writes 6 MiB and reads {read}")?)
+}
+
+/// A listener whose first connection is gone, and which can't accept a second.
+#[derive(Drop)]
+struct Short {
+    calls: Cell<u8>,
+}
+
+impl OpenListener for Short {
+    type Stream = u8;
+
+    fn accept(&self) -> io::Result<(u8, SocketAddr)> {
+        let first = self.calls.replace(1) == 0;
+        Err(io::Error::from(if first {
+            ErrorKind::ConnectionAborted
+        } else {
+            ErrorKind::OutOfMemory
+        }))
+    }
+}
+
+/// Takes the next connection of such a listener.
+fn pass_over(alloc: Global) -> Result<String, Fault> {
+    let short = Short {
+        calls: Cell::new(0),
+    };
+    let next = match next_stream(&short) {
+        Ok(_) => "a connection",
+        Err(error) if error.kind() == ErrorKind::OutOfMemory => "want of memory",
+        Err(_) => "another fault",
+    };
+    Ok(format!(in alloc; "the next call's answer is {next}")?)
+}
+
+/// Reads from an idle link while another one waits.
+fn make_room(rt: &HostRuntime) -> Result<String, Fault> {
+    let alloc = rt.alloc();
+    let mut net = TcpNet::new(rt);
+    let port = listen(&mut net)?;
+    let (_idle, mut far) = connected(&mut net, port)?;
+    let mut near = net.connect(HOST, port)?;
+    send_all(&mut near, b"asked")?;
+    let begun = Instant::now(rt)?;
+    let read = read_of(alloc, &mut far)?;
+    let faults = far.read_faults();
+    let place = if begun.elapsed(rt)? < Duration::from_secs(MOST) {
+        "within"
+    } else {
+        "after"
+    };
+    let mut next = net.accept()?;
+    let asked = read_of(alloc, &mut next)?;
+    Ok(format!(in alloc;
+        "{read} {place} {MOST} seconds; faults {faults}; the next one brings {asked}"
+    )?)
+}
+
+pub(crate) fn tell(rt: &HostRuntime, lines: &mut Lines) -> Result<(), Memory> {
+    lines.tell("over loopback", talk(rt))?;
+    lines.tell("a link that is closed", close_before_the_peer(rt))?;
+    lines.tell("a connection that is gone", pass_over(rt.alloc()))?;
+    lines.tell("an idle link where another waits", make_room(rt))
+}
