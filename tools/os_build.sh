@@ -23,7 +23,7 @@ lines() {
         }' "$here/crates.txt"
 }
 
-# The room is a copy of these crates without their must-fail edits and their tests, so that the toolchain's gate there proves the
+# The room is a copy of these crates without their must-fail edits, so that the toolchain's gate there proves the
 # crates, builds the program, and tries no more. Where the toolchain keeps what it proved, a build that was interrupted goes on
 # where it was, and behind a change only the crate and those above it are proved again. The room stands outside the checkout, where the
 # gate wants no second crates.txt, and the folder .git makes it the top of a repository, wherever it stands.
@@ -35,19 +35,7 @@ lay_out() {
             case ${part##*/} in out | must-fail) continue ;; esac
             cp -R "$part" "$room/crates/$listed" || return 1
         done
-        leave_out_tests "$here/crates/$listed" "$room/crates/$listed" || return 1
     done
-}
-
-# Takes a crate's tests out of its copy: the file that has them, its two lines in the root, and their proofs. The gate wants files in
-# the toolchain's layout, so an empty line stays only between others, and one alone.
-leave_out_tests() {
-    [ -e "$2/src/tests.rt" ] || return 0
-    rm -rf "$2/src/tests.rt" "$2/proofs/tests" && awk '
-        /^#\[cfg\(test\)\]$/ { getline; next }
-        /^$/ { empty = 1; next }
-        { if (empty) print ""; empty = 0; print }
-    ' "$1/src/lib.rt" >"$2/src/lib.rt"
 }
 
 # How many crates are proved, of how many, and about how many minutes are left, by the seconds of docs/WORKING.md's table: as fast

@@ -113,7 +113,7 @@ cat >bin/rt <<'RT'
 #!/bin/sh
 [ "$*" != help ] || { echo "${RT_HELP-}" >&2 && exit; }
 [ "$*" = ci ] || exit 9
-{ find . -name '*.edit' -o -name 'tests*' && grep -r '^#.cfg' crates; } >"$RT_LEFT"
+find . -name '*.edit' >"$RT_LEFT"
 for listed in $(sed 's/[ :].*//' crates.txt); do
     if [ "$listed" = fraction ] && [ -n "${RT_STOPS-}" ]; then
         echo $$ >"$RT_PID"
@@ -121,7 +121,7 @@ for listed in $(sed 's/[ :].*//' crates.txt); do
     fi
     case " ${RT_KEPT-} " in
         *" $listed "*) echo "rt: $listed is kept: an earlier run on this machine proved the same files over the same libraries" ;;
-        *) echo "== $listed: its tests" && echo "rt: $listed proved" && cat "crates/$listed/src/lib.rt" >>"$RT_SEEN" ;;
+        *) echo "== $listed" && echo "rt: $listed proved" && cat "crates/$listed/src/lib.rt" >>"$RT_SEEN" ;;
     esac
     [ "$listed" != os_app ] || sleep 2
 done
@@ -137,10 +137,6 @@ mkdir "$TMPDIR"
 count=$(sh -c 'here=. crate=. program=. && . tools/os_build.sh && lines' | wc -l)
 mkdir crates/os_io/must-fail
 echo 'file: src/lib.rt' >crates/os_io/must-fail/one.edit
-mkdir -p crates/os_io/proofs/tests
-echo '// tests' >crates/os_io/src/tests.rt
-echo '-- tests' >crates/os_io/proofs/tests/Answers.antt
-printf '#[cfg(test)]\nmod tests;\n' >>crates/os_io/src/lib.rt
 
 RT_FAILS=yes ./os generate 1 >out 2>err
 expect 'status of a build that fails' $? 1
@@ -185,7 +181,7 @@ expect 'output behind a build' "$(cat out)" text
 expect 'what was changed is proved' "$(grep -c '^// changed' seen)" 1
 expect 'a crate that the program needs is proved' "$(grep -c '^// os_app$' seen)" 1
 expect 'no other crate is proved' "$(grep -c '^// try_runs$' seen)" 0
-expect 'neither edits nor tests are tried' "$(cat left)" ''
+expect 'no edits are tried' "$(cat left)" ''
 expect 'what a build makes' "$(ls crates/os_main/out | tr '\n' ' ')" 'crates.log lock os_main '
 expect 'first line of a build' "$(sed -n 's/ about .*//p' err | head -n 1 | sed 's/^os: [0-9]* /os: N /')" "os: N of $count crates proved, 0 min gone,"
 expect 'last lines of a build' "$(sed 's/about [0-9]* min/about N min/' err | tail -n 2)" "os: $count of $count crates proved, 0 min gone, about N min left
@@ -295,23 +291,6 @@ seen=$(STUB_SECONDS=1 STUB_TEXT=document at_terminal './os solve there' </dev/nu
 expect 'a short search at a terminal' "$seen" document
 STUB_SECONDS=3 STUB_TEXT=document ./os solve there >out 2>err
 expect 'a long search elsewhere' "$(cat out err)" document
-
-# What the build takes of a crate with tests: none of these, and no empty line at the end or behind another, as the toolchain's layout
-# has none, without which the gate refuses the crate.
-for tests in "$top"/crates/*/src/tests.rt; do
-    from=${tests%/src/tests.rt}
-    to=bare/${from##*/}
-    mkdir -p "$to/src"
-    cp "$from/src/lib.rt" "$tests" "$to/src"
-    (
-        crate=$to
-        # shellcheck source=tools/os_build.sh
-        . "$top/tools/os_build.sh"
-        leave_out_tests "$from" "$to"
-    )
-    expect "${from##*/} without its tests" "$(ls "$to/src"; grep -c 'cfg(test)\|mod tests' "$to/src/lib.rt")" "$(printf 'lib.rt\n0')"
-    expect "empty lines of ${from##*/}" "$(awk 'NR > 1 && last == "" && $0 == "" { odd++ } { last = $0 } END { print odd + (last == "") }' "$to/src/lib.rt")" 0
-done
 
 echo "os_lines: $((tried - failed)) of $tried as expected"
 [ "$failed" -eq 0 ]
