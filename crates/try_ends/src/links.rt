@@ -6,9 +6,10 @@ use os_io::{Close, Failed, Link, Listener, Memory, send_all};
 use std::alloc::Global;
 use std::cell::Cell;
 use std::io::{self, ErrorKind};
-use std::net::{OpenListener, SocketAddr};
-use std::thread::join;
-use std::time::{Duration, Instant};
+use std::net::{Net, OpenListener, SocketAddr, TcpListener, TcpStream};
+use std::sync::Wait;
+use std::thread::{Threads, join};
+use std::time::{Clock, Duration, Instant};
 use tcp_net::{TcpNet, next_stream};
 
 /// Where links come in.
@@ -20,8 +21,25 @@ const PATIENCE: u16 = 30;
 /// Within how many seconds an idle link ends for another one. By itself it would end after its patience.
 const MOST: u64 = 10;
 
+/// A system with a network and threads.
+pub(crate) trait System: Threads
+    + Wait
+    + Clock
+    + Sync
+    + AllocGlobal
+    + Net<Listener = TcpListener, Stream = TcpStream> {}
+
+impl<
+    R: Threads
+        + Wait
+        + Clock
+        + Sync
+        + AllocGlobal
+        + Net<Listener = TcpListener, Stream = TcpStream>,
+> System for R {}
+
 /// Listens, at a port that the system chooses.
-fn listen(net: &mut TcpNet<&HostRuntime>) -> Result<u16, Failed> {
+fn listen<R: System>(net: &mut TcpNet<&R>) -> Result<u16, Failed> {
     net.listen(HOST, 0, PATIENCE)?;
     Ok(net.port().unwrap_or(0))
 }
@@ -37,8 +55,7 @@ where
 }
 
 /// Asks and answers on a link that the peer then gives up.
-fn talk(rt: &HostRuntime) -> Result<String, Fault> {
-    let alloc = rt.alloc();
+fn talk<R: System>(rt: &R, alloc: Global) -> Result<String, Fault> {
     let mut net = TcpNet::new(rt);
     let early = match net.accept() {
         Ok(_) => "a link",
@@ -69,8 +86,7 @@ fn read_behind_much<S: Link + Drop>(alloc: Global, mut near: S) -> Result<String
 }
 
 /// Answers and closes a link whose peer goes on writing.
-fn close_before_the_peer(rt: &HostRuntime) -> Result<String, Fault> {
-    let alloc = rt.alloc();
+fn close_before_the_peer<R: System>(rt: &R, alloc: Global) -> Result<String, Fault> {
     let mut net = TcpNet::new(rt);
     let port = listen(&mut net)?;
     let (near, mut far) = connected(&mut net, port)?;
@@ -121,8 +137,7 @@ fn pass_over(alloc: Global) -> Result<String, Fault> {
 }
 
 /// Reads from an idle link while another one waits.
-fn make_room(rt: &HostRuntime) -> Result<String, Fault> {
-    let alloc = rt.alloc();
+fn make_room<R: System>(rt: &R, alloc: Global) -> Result<String, Fault> {
     let mut net = TcpNet::new(rt);
     let port = listen(&mut net)?;
     let (_idle, mut far) = connected(&mut net, port)?;
@@ -143,9 +158,9 @@ fn make_room(rt: &HostRuntime) -> Result<String, Fault> {
     )?)
 }
 
-pub(crate) fn tell(rt: &HostRuntime, lines: &mut Lines) -> Result<(), Memory> {
-    lines.tell("over loopback", talk(rt))?;
-    lines.tell("a link that is closed", close_before_the_peer(rt))?;
-    lines.tell("a connection that is gone", pass_over(rt.alloc()))?;
-    lines.tell("an idle link where another waits", make_room(rt))
+pub(crate) fn tell<R: System>(rt: &R, alloc: Global, lines: &mut Lines) -> Result<(), Memory> {
+    lines.tell("over loopback", talk(rt, alloc))?;
+    lines.tell("a link that is closed", close_before_the_peer(rt, alloc))?;
+    lines.tell("a connection that is gone", pass_over(alloc))?;
+    lines.tell("an idle link where another waits", make_room(rt, alloc))
 }

@@ -25,9 +25,9 @@ fn main(rt: HostRuntime) -> io::Result<()> {
     streams::tell(&rt, &mut lines)?;
     files::tell(&rt, &mut lines)?;
     stores::tell(rt.alloc(), &mut lines)?;
-    links::tell(&rt, &mut lines)?;
-    seats::tell(&rt, &mut lines)?;
-    working::tell(&rt, &mut lines)?;
+    links::tell(&rt, rt.alloc(), &mut lines)?;
+    seats::tell(&rt, rt.alloc(), &mut lines)?;
+    working::tell(&rt, rt.alloc(), &mut lines)?;
     match send_all(&mut StdSink::new(rt.stdout()), lines.as_bytes()) {
         Ok(()) => Ok(()),
         Err(Failed) => Err(io::Error::from(ErrorKind::BrokenPipe)),

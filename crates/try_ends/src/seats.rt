@@ -8,6 +8,7 @@ use job_table::moves::{Enter, Issue, Knock};
 use job_table::{IssueFault, Job, Table, Twin, Verdicts};
 use os_io::{Memory, Text};
 use std::alloc::Global;
+use std::sync::Wait;
 
 /// Any document is right.
 pub(crate) struct AnyDocument;
@@ -36,8 +37,7 @@ fn number_of(entered: Result<Job, IssueFault>) -> u64 {
 }
 
 /// The first seat gets a number, and the second one enters a job.
-fn see_one_history(rt: &HostRuntime) -> Result<String, Fault> {
-    let alloc = rt.alloc();
+fn see_one_history<R: Wait>(rt: &R, alloc: Global) -> Result<String, Fault> {
     let (desk, mut first) = Desk::<AnyDocument>::new(alloc, 5)?;
     let issued = desk.ask(rt, &mut first, Issue).unwrap_or(0);
     let desk = shared(desk);
@@ -54,8 +54,7 @@ fn see_one_history(rt: &HostRuntime) -> Result<String, Fault> {
 }
 
 /// The same at a desk with a store beside its table.
-fn keep_a_store(rt: &HostRuntime) -> Result<String, Fault> {
-    let alloc = rt.alloc();
+fn keep_a_store<R: Wait>(rt: &R, alloc: Global) -> Result<String, Fault> {
     let table = Table::new(alloc, 5);
     let made = StoredDesk::<AnyDocument, NoStore>::of(alloc, table, NoStore);
     let (desk, mut first) = match made {
@@ -81,7 +80,7 @@ fn keep_a_store(rt: &HostRuntime) -> Result<String, Fault> {
     )?)
 }
 
-pub(crate) fn tell(rt: &HostRuntime, lines: &mut Lines) -> Result<(), Memory> {
-    lines.tell("two seats", see_one_history(rt))?;
-    lines.tell("two seats over a store", keep_a_store(rt))
+pub(crate) fn tell<R: Wait>(rt: &R, alloc: Global, lines: &mut Lines) -> Result<(), Memory> {
+    lines.tell("two seats", see_one_history(rt, alloc))?;
+    lines.tell("two seats over a store", keep_a_store(rt, alloc))
 }

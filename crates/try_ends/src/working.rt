@@ -11,6 +11,7 @@ use job_table::moves::{Issue, Retrieve, Send};
 use job_table::{Retrieved, SharedText};
 use os_io::{Memory, Text, Watch};
 use std::alloc::Global;
+use std::sync::Wait;
 use workers::{Bell, Gate, OpenGate, Wake, wake_pair, work_loop, work_one_by_seat};
 
 /// Looks once, and takes the instance as the document.
@@ -53,8 +54,9 @@ impl Gate for LastLook {
 }
 
 /// A job that waits, and a token.
-fn queue(
-    rt: &HostRuntime,
+fn queue<R: Wait>(
+    rt: &R,
+    alloc: Global,
     desk: &Desk<AnyDocument>,
     seat: &mut Seat<AnyDocument>,
     wake: &Wake,
@@ -62,8 +64,8 @@ fn queue(
     requires { IsSeatOf (desk_id desk.now) seat.old }
     ensures { IsSeatOf (desk_id desk.now) seat.new }
 {
-    let osil = twin_of(rt.alloc(), b"osil")?;
-    let osol = twin_of(rt.alloc(), b"osol")?;
+    let osil = twin_of(alloc, b"osil")?;
+    let osol = twin_of(alloc, b"osol")?;
     let number = match desk.ask(rt, seat, Issue) {
         Ok(number) => number,
         Err(_) => return Err(Fault::Memory),
@@ -77,12 +79,11 @@ fn queue(
 }
 
 /// Queues two jobs, runs one by a seat, and has a worker work until it leaves.
-fn work_and_leave(rt: &HostRuntime) -> Result<String, Fault> {
-    let alloc = rt.alloc();
+fn work_and_leave<R: Wait>(rt: &R, alloc: Global) -> Result<String, Fault> {
     let (desk, mut seat) = Desk::<AnyDocument>::new(alloc, 1)?;
     let (wake, naps) = shared(wake_pair(alloc)?);
-    queue(rt, &desk, &mut seat, &wake)?;
-    queue(rt, &desk, &mut seat, &wake)?;
+    queue(rt, alloc, &desk, &mut seat, &wake)?;
+    queue(rt, alloc, &desk, &mut seat, &wake)?;
     drop(wake);
     let mut gate = LastLook(0);
     let worked = work_one_by_seat(rt, alloc, &desk, &mut seat, &Echo, false, &mut gate);
@@ -105,15 +106,15 @@ fn heard(is_heard: bool) -> &'static str {
 }
 
 /// Rings where somebody may sleep, and where nobody can any more.
-fn ring(rt: &HostRuntime) -> Result<String, Fault> {
-    let (wake, naps) = wake_pair(rt.alloc())?;
+fn ring<R: Wait>(rt: &R, alloc: Global) -> Result<String, Fault> {
+    let (wake, naps) = wake_pair(alloc)?;
     let first = heard(wake.ring(rt));
     drop(naps);
     let last = heard(wake.ring(rt));
-    Ok(format!(in rt.alloc(); "{first}, and where nobody can sleep {last}")?)
+    Ok(format!(in alloc; "{first}, and where nobody can sleep {last}")?)
 }
 
-pub(crate) fn tell(rt: &HostRuntime, lines: &mut Lines) -> Result<(), Memory> {
-    lines.tell("workers", work_and_leave(rt))?;
-    lines.tell("a bell", ring(rt))
+pub(crate) fn tell<R: Wait>(rt: &R, alloc: Global, lines: &mut Lines) -> Result<(), Memory> {
+    lines.tell("workers", work_and_leave(rt, alloc))?;
+    lines.tell("a bell", ring(rt, alloc))
 }
