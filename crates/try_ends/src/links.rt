@@ -158,7 +158,15 @@ fn make_room<R: System>(rt: &R, alloc: Global) -> Result<String, Fault> {
     )?)
 }
 
-pub(crate) fn tell<R: System>(rt: &R, alloc: Global, lines: &mut Lines) -> Result<(), Memory> {
+// The bounds of `System`, written out: so what calls it knows the network's types.
+pub(crate) fn tell<
+    R: Threads
+        + Wait
+        + Clock
+        + Sync
+        + AllocGlobal
+        + Net<Listener = TcpListener, Stream = TcpStream>,
+>(rt: &R, alloc: Global, lines: &mut Lines) -> Result<(), Memory> {
     lines.tell("over loopback", talk(rt, alloc))?;
     lines.tell("a link that is closed", close_before_the_peer(rt, alloc))?;
     lines.tell("a connection that is gone", pass_over(alloc))?;
