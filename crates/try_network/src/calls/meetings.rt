@@ -1,6 +1,6 @@
 //! Calls of a client that a server answers, told as texts.
 
-use crate::calls::{asked_text, called_text};
+use super::links::{asked_text, called_text};
 use job_solver::{SolvedJobs, Solver};
 use job_table::Table;
 use memory_ends::MemLink;

@@ -1,6 +1,6 @@
 //! Runs of the command `call`, told as texts.
 
-use crate::replies::{put, put_number};
+use super::replies::{put, put_number};
 use memory_ends::{MemFiles, MemLink, MemListener, MemSink};
 use os_client::{CallWords, make_call};
 use os_io::{Memory, Text};

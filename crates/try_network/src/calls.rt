@@ -1,35 +1,23 @@
-//! Tables of cases for a client: which replies bytes are, what it writes, what a call over a link answers, what calls answer that
-//! a server meets, and what the command `call` writes.
-//!
-//! The tables' answers come from the rules (RFC 9112, `docs/rules/http.md`, `calls.md` and `conversations.md`). The output is a
-//! line for each answer that is another, and how many cases there are.
-#![tactic(auto)]
+//! Replies and calls over links, for a client: which replies bytes are, what it writes, what a call over a link
+//! answers, what calls answer that a server meets, and what the command `call` writes (RFC 9112, `docs/rules/http.md`,
+//! `calls.md` and `conversations.md`).
 
-mod calls;
+mod links;
 mod meetings;
 mod replies;
 mod runs;
 
-use calls::{asked_text, called_text, failing_text};
-use cases::{Answers, Tables, number_of, repeated};
+use cases::{Answers, number_of, repeated};
+use links::{asked_text, called_text, failing_text};
 use meetings::met_text;
 use os_io::{Memory, Text};
 use replies::reply_text;
 use runs::{Given, run_text};
 use std::alloc::Global;
-use std::io;
 
 /// Given what is asked, and bytes.
 #[derive(Drop)]
-struct Client;
-
-/// Given calls.
-#[derive(Drop)]
-struct CallsMet;
-
-/// Given a call's name, three files, what the link gives, and what fails.
-#[derive(Drop)]
-struct CallRuns;
+pub(crate) struct Client;
 
 impl Answers for Client {
     fn answer(&mut self, alloc: Global, given: &[Vec<u8>]) -> Result<Text, Memory> {
@@ -68,11 +56,19 @@ impl Answers for Client {
     }
 }
 
+/// Given calls.
+#[derive(Drop)]
+pub(crate) struct CallsMet;
+
 impl Answers for CallsMet {
     fn answer(&mut self, alloc: Global, given: &[Vec<u8>]) -> Result<Text, Memory> {
         met_text(alloc, given)
     }
 }
+
+/// Given a call's name, three files, what the link gives, and what fails.
+#[derive(Drop)]
+pub(crate) struct CallRuns;
 
 impl Answers for CallRuns {
     fn answer(&mut self, alloc: Global, given: &[Vec<u8>]) -> Result<Text, Memory> {
@@ -89,12 +85,4 @@ impl Answers for CallRuns {
             _ => Text::from_slice(alloc, b"six fields"),
         }
     }
-}
-
-fn main(rt: HostRuntime) -> io::Result<()> {
-    let mut tables = Tables::new(&rt);
-    tables.try_file("replies.txt", &mut Client)?;
-    tables.try_file("meetings.txt", &mut CallsMet)?;
-    tables.try_file("runs.txt", &mut CallRuns)?;
-    tables.tell_count()
 }

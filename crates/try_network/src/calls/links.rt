@@ -1,6 +1,6 @@
 //! Calls over links in memory, told as texts.
 
-use crate::replies::{put, put_number};
+use super::replies::{put, put_number};
 use cases::count_left;
 use memory_ends::MemLink;
 use os_client::{

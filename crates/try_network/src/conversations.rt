@@ -1,25 +1,20 @@
-//! Tables of conversations: what is answered on a connection, also where another one is served between its moves of the same
-//! table of jobs.
-//!
-//! The tables' answers come from the rules (`docs/rules/conversations.md`, `jobs.md` and `http.md`). The output is a line for
-//! each answer that is another, and how many cases there are.
-#![tactic(auto)]
+//! Conversations: what is answered on a connection, also where another one is served between its moves of the same
+//! table of jobs (`docs/rules/conversations.md`, `jobs.md` and `http.md`).
 
 mod conditions;
 mod mover;
 mod served;
 
-use cases::{Answers, Tables, number_of, repeated};
+use cases::{Answers, number_of, repeated};
 use conditions::Conditions;
 use mover::CountingMover;
 use os_io::{Memory, Text};
 use served::{told_of_conversation, told_of_other};
 use std::alloc::Global;
-use std::io;
 
 /// Given conditions, and the bytes that come, which may be what they begin with, a part, how often it comes, and their end.
 #[derive(Drop)]
-struct Conversations;
+pub(crate) struct Conversations;
 
 impl Answers for Conversations {
     fn answer(&mut self, alloc: Global, given: &[Vec<u8>]) -> Result<Text, Memory> {
@@ -43,7 +38,7 @@ impl Answers for Conversations {
 /// Given conditions and the bytes of a connection, before which of its moves another connection is served, or 0 for behind its
 /// end, and the bytes of that one.
 #[derive(Drop)]
-struct Meetings;
+pub(crate) struct Meetings;
 
 impl Answers for Meetings {
     fn answer(&mut self, alloc: Global, given: &[Vec<u8>]) -> Result<Text, Memory> {
@@ -58,13 +53,4 @@ impl Answers for Meetings {
             _ => Text::from_slice(alloc, b"four fields"),
         }
     }
-}
-
-fn main(rt: HostRuntime) -> io::Result<()> {
-    let mut tables = Tables::new(&rt);
-    for name in ["conversations.txt", "faults.txt", "many.txt"] {
-        tables.try_file(name, &mut Conversations)?;
-    }
-    tables.try_file("meetings.txt", &mut Meetings)?;
-    tables.tell_count()
 }

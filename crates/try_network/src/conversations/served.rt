@@ -1,7 +1,7 @@
 //! Connections in memory, served and told as texts.
 
-use crate::conditions::Conditions;
-use crate::mover::CountingMover;
+use super::conditions::Conditions;
+use super::mover::CountingMover;
 use cases::count_left;
 use job_solver::Solver;
 use memory_ends::{MemLink, MemSink, MemSource};

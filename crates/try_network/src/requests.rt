@@ -1,20 +1,16 @@
-//! Tables of HTTP requests and responses: what comes on a source, and how an answer is written.
-//!
-//! The tables' answers come from the rules (RFC 9112, and the order of the checks in `docs/rules/http.md`). The output
-//! is a line for each answer that is another, and how many cases there are.
-#![tactic(auto)]
+//! Requests that are read and responses that are written: what comes on a source, and how an answer is written (RFC
+//! 9112, and the order of the checks in `docs/rules/http.md`).
 
-mod came;
+mod messages;
 
-use came::{told_in_pieces, told_of_response};
-use cases::{Answers, Tables, number_of, repeated};
+use cases::{Answers, number_of, repeated};
+use messages::{told_in_pieces, told_of_response};
 use os_io::{Memory, Text};
 use std::alloc::Global;
-use std::io;
 
 /// Given the bytes of a source, in any pieces.
 #[derive(Drop)]
-struct Requests;
+pub(crate) struct Requests;
 
 impl Answers for Requests {
     fn answer(&mut self, alloc: Global, given: &[Vec<u8>]) -> Result<Text, Memory> {
@@ -27,7 +23,7 @@ impl Answers for Requests {
 
 /// Given what a source begins with, a text, how often it comes, and the end.
 #[derive(Drop)]
-struct Heads;
+pub(crate) struct Heads;
 
 impl Answers for Heads {
     fn answer(&mut self, alloc: Global, given: &[Vec<u8>]) -> Result<Text, Memory> {
@@ -45,7 +41,7 @@ impl Answers for Heads {
 
 /// Given a body, and which write of its answer fails.
 #[derive(Drop)]
-struct Responses;
+pub(crate) struct Responses;
 
 impl Answers for Responses {
     fn answer(&mut self, alloc: Global, given: &[Vec<u8>]) -> Result<Text, Memory> {
@@ -56,12 +52,4 @@ impl Answers for Responses {
             _ => Text::from_slice(alloc, b"two fields"),
         }
     }
-}
-
-fn main(rt: HostRuntime) -> io::Result<()> {
-    let mut tables = Tables::new(&rt);
-    tables.try_file("requests.txt", &mut Requests)?;
-    tables.try_file("heads.txt", &mut Heads)?;
-    tables.try_file("responses.txt", &mut Responses)?;
-    tables.tell_count()
 }
