@@ -1,6 +1,6 @@
 //! What a case gives, and how it is answered.
 
-use crate::results::{repeated_tree, result_of};
+use super::results::{repeated_tree, result_of};
 use cases::{Answers, bytes_of, number_of};
 use document_checker::{answer_text, check_docs};
 use os_io::{Files, Memory, Text};
