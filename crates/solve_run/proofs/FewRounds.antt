@@ -1,5 +1,5 @@
 -- A search derives no more rounds than it may.
-use Rattle.std.proofs.Common.{◌≡◌, ℕ, ◌≤◌, inl, inr, Option, None, Some, List, [], ◌∷◌, ◌++◌, length, arith, sym, subst}
+use Rattle.std.proofs.Common.{◌≡◌, ◌≤◌, inl, inr, Option, None, Some, List, [], ◌∷◌, ◌++◌, length, arith, sym, subst}
 use Rattle.std.specs.List.{All}
 use Rattle.std.proofs.lemmas.List.{length_push}
 use Rattle.std.proofs.lemmas.List.Elements.{All-nil, All-cons, All-push}
@@ -12,7 +12,7 @@ use Rattle.simplex_rules.specs.Ends.{Terms, Clock, End, Clash, Empty, Best, Endl
 use Rattle.simplex_rules.specs.Runs.{looked_once}
 use Rattle.search_rules.specs.Branching.{Case}
 use Rattle.search_rules.specs.Cuts.{Trial, NoCut, WideCut, Cut}
-use Rattle.search_rules.specs.Search.{Found, Outcome, SearchMoment, NextOfSearch, To, Out, early, shown_at, StopsBefore, Branches, MayCut, TakesFound, TakesPoint, MeetsPoint, GoesFromTrial, ImprovesBest, GoesFromBest, GoesFrom, ClosesLevel, IsNextInSearch, ComesInSearch, begins, goes_on, Search, IsSearchAnswer, searched, given_up, given_up_after}
+use Rattle.search_rules.specs.Search.{Found, Outcome, SearchMoment, NextOfSearch, To, Out, early, shown_at, StopsBefore, Branches, MayCut, TakesFound, TakesPoint, MeetsPoint, GoesFromTrial, GoesFromBest, GoesFrom, ClosesLevel, IsNextInSearch, ComesInSearch, begins, goes_on, IsSearchAnswer, searched, given_up, given_up_after}
 use Rattle.branch_bound.specs.Claims.{said}
 use Rattle.solve_run.proofs.ClaimNodes.{said_certificates}
 

@@ -1,5 +1,5 @@
 -- How many rounds options may ask for.
-use Rattle.std.proofs.Common.{ℕ, ◌≤◌, List, [], ◌∷◌}
+use Rattle.std.proofs.Common.{◌≤◌, List, [], ◌∷◌}
 use Rattle.osol_grammar.specs.declared.options.Options.{Options}
 use Rattle.osol_grammar.specs.Back.{ComesBack}
 use Rattle.osol_grammar.specs.Limits as limits

@@ -1,5 +1,5 @@
 -- What a search has shown is read back as it is told.
-use Rattle.std.proofs.Common.{◌≡◌, ◌∙◌, ℕ, suc, ◌+◌, ◌^◌, ◌<◌, ◌≤◌, ℤ, pos, negsuc, Option, None, Some, List, [], ◌∷◌, map, length, refl, sym, subst, arith}
+use Rattle.std.proofs.Common.{◌≡◌, ◌∙◌, suc, ◌^◌, ◌<◌, ◌≤◌, ℤ, pos, negsuc, Option, None, Some, List, [], ◌∷◌, map, length, refl, sym, subst, arith}
 use Rattle.std.specs.Prelude.{unsigned_abs, neg_ℤ, ◌≤ℤ◌, ◌<ℤ◌}
 use Rattle.std.specs.List.{All}
 use Rattle.std.proofs.lemmas.Int.{ints}
@@ -10,7 +10,6 @@ use Rattle.rational.specs.Width.{most}
 use Rattle.fraction.specs.Frac.{ratio}
 use Rattle.evidence.specs.Instance.{Problem}
 use Rattle.evidence.specs.Cases as Of
-use Rattle.evidence.specs.Rounds.{Certificate}
 use Rattle.evidence.specs.Claim as Says
 use Rattle.instance.specs.Parts.{Parts, IsValid}
 use Rattle.instance.specs.Program.{problem}

@@ -1,5 +1,5 @@
 -- What a search has shown is refused for width alone.
-use Rattle.std.proofs.Common.{◌≡◌, ◌∙◌, ℕ, ◌+◌, ◌≤◌, inl, inr, None, List, [], ◌∷◌, length, arith, ap, sym, subst}
+use Rattle.std.proofs.Common.{◌≡◌, ℕ, ◌+◌, ◌≤◌, inl, inr, None, List, [], ◌∷◌, length, arith, ap, sym, subst}
 use Rattle.std.proofs.lemmas.List.{length-map, length-drop, get_or_default}
 use Rattle.rational.specs.Ratio.{Ratio, IsNumber}
 use Rattle.fraction.specs.Frac.{ratio, ratios}

@@ -1,5 +1,5 @@
 -- What the run of a job answers after its looks, of which the last may have stopped it.
-use Rattle.std.specs.Prelude.{◌≡◌, ◌⊎◌, ℕ, ◌+◌, Bool, true, false, Option, None, Some, Result, Ok, IfOk, List}
+use Rattle.std.specs.Prelude.{◌≡◌, ◌⊎◌, ℕ, Bool, false, Option, Some, Result, Ok, IfOk, List}
 use Rattle.instance.specs.Parts.{Parts}
 use Rattle.instance.specs.Program.{problem}
 use Rattle.certificate.specs.declared.causes.Cause.TheVariants.{Memory}

@@ -1,11 +1,14 @@
-use Rattle.std.proofs.Common.{arith, ap, sym}
+use Rattle.std.proofs.Common.{Option, List, ℕ, arith, ap, subst, sym}
 use Rattle.std.proofs.lemmas.Result.{IfOk-weaker}
 use Rattle.osrl_writing.specs.declared.report.Report.{Report}
+use Rattle.solve_run.specs.Runs.{IsMemoryDocument}
 use Rattle.solve_run.proofs.Texts.{fitted_short, fitted_long, fitted_memory}
 use Rattle.solve_run.proofs.telling.fitted.Goals as goal
 
 pub returns-in_default : goal.returns-in_default
-returns-in_default c = IfOk-weaker c.memory_document.result _ _ (λ doc memory. fitted_memory _ _ _ doc c.claim_report-report.ensures memory) c.memory_document.ensures
+returns-in_default c =
+    IfOk-weaker c.memory_document.result _ _ (λ doc memory. fitted_memory _ _ _ doc c.claim_report-report.ensures (subst (λ (job : Option (List ℕ)). IsMemoryDocument job doc) c.take.ensures.value memory))
+    c.memory_document.ensures
 
 pub returns-then-len-le-MOST_BYTES : goal.returns-then-len-le-MOST_BYTES
 returns-then-len-le-MOST_BYTES c =
