@@ -10,7 +10,7 @@ use std::net::{Net, OpenListener, SocketAddr, TcpListener, TcpStream};
 use std::sync::Wait;
 use std::thread::{Threads, join};
 use std::time::{Clock, Duration, Instant};
-use tcp_net::{TcpNet, next_stream};
+use tcp_net::{TcpLink, TcpNet, next_stream};
 
 /// Where links come in.
 const HOST: &str = "localhost";
@@ -21,27 +21,38 @@ const PATIENCE: u16 = 30;
 /// Within how many seconds an idle link ends for another one. By itself it would end after its patience.
 const MOST: u64 = 10;
 
-/// A system with a network and threads.
-pub(crate) trait System: Threads
-    + Wait
-    + Clock
-    + Sync
-    + AllocGlobal
-    + Net<Listener = TcpListener, Stream = TcpStream> {}
+/// A listener that also says at which port it listens, and how often something failed.
+trait Counted: Listener {
+    /// The port that it listens at, or 0.
+    fn own_port(&self) -> u16;
+
+    /// How many calls of it failed.
+    fn calls_failed(&self) -> u64;
+
+    /// How many reads and how many writes of a link failed.
+    fn failed_on(link: &Self::Conn) -> (u64, u64);
+}
 
 impl<
-    R: Threads
-        + Wait
-        + Clock
-        + Sync
-        + AllocGlobal
-        + Net<Listener = TcpListener, Stream = TcpStream>,
-> System for R {}
+    R: Net<Listener = TcpListener, Stream = TcpStream> + AllocGlobal + Clock + Wait + Copy + Drop,
+> Counted for TcpNet<R> {
+    fn own_port(&self) -> u16 {
+        self.port().unwrap_or(0)
+    }
+
+    fn calls_failed(&self) -> u64 {
+        self.faults()
+    }
+
+    fn failed_on(link: &TcpLink<R>) -> (u64, u64) {
+        (link.read_faults(), link.write_faults())
+    }
+}
 
 /// Listens, at a port that the system chooses.
-fn listen<R: System>(net: &mut TcpNet<&R>) -> Result<u16, Failed> {
+fn listen<N: Counted>(net: &mut N) -> Result<u16, Failed> {
     net.listen(HOST, 0, PATIENCE)?;
-    Ok(net.port().unwrap_or(0))
+    Ok(net.own_port())
 }
 
 /// Both ends of a link to this port: the one that was made, and the one that came.
@@ -55,21 +66,24 @@ where
 }
 
 /// Asks and answers on a link that the peer then gives up.
-fn talk<R: System>(rt: &R, alloc: Global) -> Result<String, Fault> {
-    let mut net = TcpNet::new(rt);
+fn talk<N: Counted>(alloc: Global, net: &mut N) -> Result<String, Fault>
+where
+    N::Conn: Send + Drop,
+{
     let early = match net.accept() {
         Ok(_) => "a link",
         Err(Failed) => "a fault",
     };
-    let port = listen(&mut net)?;
-    let (mut near, mut far) = connected(&mut net, port)?;
+    let port = listen(net)?;
+    let (mut near, mut far) = connected(net, port)?;
     send_all(&mut near, b"asked")?;
     let asked = read_of(alloc, &mut far)?;
     send_all(&mut far, b"answer")?;
     let answer = read_of(alloc, &mut near)?;
     net.done(moved(near));
     let end = read_of(alloc, &mut far)?;
-    let (reads, writes, calls) = (far.read_faults(), far.write_faults(), net.faults());
+    let (reads, writes) = N::failed_on(&far);
+    let calls = net.calls_failed();
     Ok(format!(in alloc;
         "{early} before it listens; {asked}, {answer}, then {end}; faults {reads} {writes} {calls}"
     )?)
@@ -86,10 +100,16 @@ fn read_behind_much<S: Link + Drop>(alloc: Global, mut near: S) -> Result<String
 }
 
 /// Answers and closes a link whose peer goes on writing.
-fn close_before_the_peer<R: System>(rt: &R, alloc: Global) -> Result<String, Fault> {
-    let mut net = TcpNet::new(rt);
-    let port = listen(&mut net)?;
-    let (near, mut far) = connected(&mut net, port)?;
+fn close_before_the_peer<R: Threads, N: Counted>(
+    rt: &R,
+    alloc: Global,
+    net: &mut N,
+) -> Result<String, Fault>
+where
+    N::Conn: Send + Drop,
+{
+    let port = listen(net)?;
+    let (near, mut far) = connected(net, port)?;
     send_all(&mut far, b"answer")?;
     let (far, read) = join(
         rt,
@@ -137,16 +157,18 @@ fn pass_over(alloc: Global) -> Result<String, Fault> {
 }
 
 /// Reads from an idle link while another one waits.
-fn make_room<R: System>(rt: &R, alloc: Global) -> Result<String, Fault> {
-    let mut net = TcpNet::new(rt);
-    let port = listen(&mut net)?;
-    let (_idle, mut far) = connected(&mut net, port)?;
+fn make_room<C: Clock, N: Counted>(clock: &C, alloc: Global, net: &mut N) -> Result<String, Fault>
+where
+    N::Conn: Drop,
+{
+    let port = listen(net)?;
+    let (_idle, mut far) = connected(net, port)?;
     let mut near = net.connect(HOST, port)?;
     send_all(&mut near, b"asked")?;
-    let begun = Instant::now(rt)?;
+    let begun = Instant::now(clock)?;
     let read = read_of(alloc, &mut far)?;
-    let faults = far.read_faults();
-    let place = if begun.elapsed(rt)? < Duration::from_secs(MOST) {
+    let (faults, _) = N::failed_on(&far);
+    let place = if begun.elapsed(clock)? < Duration::from_secs(MOST) {
         "within"
     } else {
         "after"
@@ -158,7 +180,6 @@ fn make_room<R: System>(rt: &R, alloc: Global) -> Result<String, Fault> {
     )?)
 }
 
-// The bounds of `System`, written out: so what calls it knows the network's types.
 pub(crate) fn tell<
     R: Threads
         + Wait
@@ -167,8 +188,14 @@ pub(crate) fn tell<
         + AllocGlobal
         + Net<Listener = TcpListener, Stream = TcpStream>,
 >(rt: &R, alloc: Global, lines: &mut Lines) -> Result<(), Memory> {
-    lines.tell("over loopback", talk(rt, alloc))?;
-    lines.tell("a link that is closed", close_before_the_peer(rt, alloc))?;
+    lines.tell("over loopback", talk(alloc, &mut TcpNet::new(rt)))?;
+    lines.tell(
+        "a link that is closed",
+        close_before_the_peer(rt, alloc, &mut TcpNet::new(rt)),
+    )?;
     lines.tell("a connection that is gone", pass_over(alloc))?;
-    lines.tell("an idle link where another waits", make_room(rt, alloc))
+    lines.tell(
+        "an idle link where another waits",
+        make_room(rt, alloc, &mut TcpNet::new(rt)),
+    )
 }
