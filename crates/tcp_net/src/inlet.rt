@@ -32,7 +32,6 @@ const CLOSING: u16 = 5;
 const CLOSING_IN_VAIN: (u16, usize) = (1, 2);
 
 /// How long a link that came waits for bytes of its peer.
-#[derive(Drop)]
 pub(crate) struct Pace<R> {
     clock: R,
     /// How many seconds the peer may send nothing.
@@ -42,6 +41,18 @@ pub(crate) struct Pace<R> {
     /// Whether the peer was waited for in vain, or another link gets this one's seat.
     is_given_up: bool,
     door: Arc<Door, Global>,
+}
+
+impl<R: Drop> Drop for Pace<R> {
+    fn drop(self) {
+        let Pace {
+            clock: _,
+            patience: _,
+            begun: _,
+            is_given_up: _,
+            door: _,
+        } = self;
+    }
 }
 
 impl<R: Clock + Wait> Pace<R> {

@@ -15,7 +15,6 @@ use std::time::Clock;
 /// A link over TCP, with a count of faults each way. It tells nothing of its bytes. A read takes ahead what has come,
 /// and what is written goes out with a flush, or where its buffer is full. One that came waits for its peer as long as its listener
 /// says, one that was made without end.
-#[derive(Drop)]
 pub struct TcpLink<R> {
     input: BufReader<Inlet<R>>,
     output: BufWriter<Outlet>,
@@ -23,6 +22,20 @@ pub struct TcpLink<R> {
     write_faults: u64,
     /// Whether its own side wasn't ended yet.
     unended: bool,
+}
+
+impl<R: Drop> Drop for TcpLink<R> {
+    // By hand, as for the network and a link's pace, so that letting one go is a call. What is derived would be taken apart wherever one
+    // is let go.
+    fn drop(self) {
+        let TcpLink {
+            input: _,
+            output: _,
+            read_faults: _,
+            write_faults: _,
+            unended: _,
+        } = self;
+    }
 }
 
 impl<R: Clock + Wait + Drop> TcpLink<R> {

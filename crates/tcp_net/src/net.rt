@@ -21,12 +21,22 @@ const TRIES: u32 = 50;
 /// [`listen`](Listener::listen) was told, and where it has only read for ten times as long. Where it is idle, with nothing read behind what
 /// was written last, and others wait for a seat, it fails after a second and a tenth. Others wait where a connection stands in the
 /// system's queue, and in that tenth of a second nobody waited for one in [`accept`](Listener::accept).
-#[derive(Drop)]
 pub struct TcpNet<R> {
     system: R,
     door: Option<Arc<Door, Global>>,
     patience: u16,
     faults: u64,
+}
+
+impl<R: Drop> Drop for TcpNet<R> {
+    fn drop(self) {
+        let TcpNet {
+            system: _,
+            door: _,
+            patience: _,
+            faults: _,
+        } = self;
+    }
 }
 
 impl<
