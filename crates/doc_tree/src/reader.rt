@@ -28,9 +28,14 @@ pub fn read(alloc: Global, bytes: &[u8], limit: u64) -> Result<Tree, TreeFault>
 /// Reads a document of at most `limit` bytes and of a depth of at most 32, piece by piece: [`Events`] that tell a tree.
 ///
 /// Contracts say which bytes it was fed (`WasFed`), and why it takes no more, if it doesn't.
-#[derive(Drop)]
 pub struct Reader {
     events: Events<Gathering>,
+}
+
+impl Drop for Reader {
+    fn drop(self) {
+        let Reader { events: _ } = self;
+    }
 }
 
 impl Model for Reader {
@@ -72,8 +77,9 @@ impl Reader {
         ensures only { IfOk result (λ tree. (bytes : List ℕ) → WasFed self bytes → ReadsOnly bytes tree) }
         ensures refuses { IfErr result (λ fault. (bytes : List ℕ) → WasFed self bytes → ReadingFails self.limit bytes fault) }
     {
-        let at = self.events.reading.count();
-        match self.events.finish() {
+        let Reader { events } = self;
+        let at = events.reading.count();
+        match events.finish() {
             Ok(gathering) => match gathering.finish() {
                 Ok(Some(tree)) => Ok(tree),
                 Ok(None) => Err(TreeFault::Malformed { at }),
