@@ -1,3 +1,4 @@
+//! The fractions that are added and multiplied.
 ghost use Rattle.std.specs.Prelude.{◌<◌, pos, ◌<ℤ◌};
 
 use fraction::Frac;

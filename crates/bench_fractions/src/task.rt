@@ -1,3 +1,4 @@
+//! What a line of the input asks for, and its answer.
 use crate::operands::{Digits, operands};
 use fraction::{Frac, Wide};
 use std::alloc::{AllocError, Global};

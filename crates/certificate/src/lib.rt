@@ -9,7 +9,8 @@
 //! have one.
 //!
 //! Contracts see each list as a list, and a claim as these lists; `specs` has what each means in `evidence`'s sense. Nothing
-//! here says that a claim is true. Each type has `try_copy`, which gives an equal value or finds no memory.
+//! here says that a claim is true. Each type has `try_copy`, which gives an equal value or finds no memory, and
+//! [`Claim::give_up`] leaves of a claim its point, if it has one.
 #![tactic(auto)]
 
 mod causes;

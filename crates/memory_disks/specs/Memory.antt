@@ -1,3 +1,4 @@
+-- The bytes of a disk in memory.
 use Rattle.std.specs.Prelude.{ℕ, List}
 use Rattle.memory_disks.specs.declared.mem_disk.MemDisk.{MemDisk}
 

@@ -109,6 +109,7 @@ fn tell_each(rt: &HostRuntime, name: &str, lines: &mut Lines) -> Result<(), Memo
     lines.tell("a file that is looked for", ended(rt, name, found))
 }
 
+/// Tells what was seen of files.
 pub(crate) fn tell(rt: &HostRuntime, lines: &mut Lines) -> Result<(), Memory> {
     match free_name(rt) {
         Ok(name) => tell_each(rt, name.as_str(), lines),

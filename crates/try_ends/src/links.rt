@@ -180,6 +180,7 @@ where
     )?)
 }
 
+/// Tells what was seen of links over TCP.
 pub(crate) fn tell<
     R: Threads
         + Wait

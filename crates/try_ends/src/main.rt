@@ -1,4 +1,4 @@
-//! The system's ends, each used once, and a desk with workers, without a server around them: the standard input and output, files, files as
+//! The system's ends, and a desk with workers, without a server around them: the standard input and output, files, files as
 //! disks, and links over TCP on this machine; a disk in memory that is opened by its name; two seats of a desk, with a store beside its
 //! table and without one, a worker that leaves, and a bell that nobody hears.
 //!

@@ -80,6 +80,7 @@ fn keep_a_store<R: Wait>(rt: &R, alloc: Global) -> Result<String, Fault> {
     )?)
 }
 
+/// Tells what was seen of two seats of a desk.
 pub(crate) fn tell<R: Wait>(rt: &R, alloc: Global, lines: &mut Lines) -> Result<(), Memory> {
     lines.tell("two seats", see_one_history(rt, alloc))?;
     lines.tell("two seats over a store", keep_a_store(rt, alloc))

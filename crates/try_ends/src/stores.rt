@@ -32,6 +32,7 @@ fn open_once(alloc: Global) -> Result<String, Fault> {
     )?)
 }
 
+/// Tells what was seen of a disk in memory.
 pub(crate) fn tell(alloc: Global, lines: &mut Lines) -> Result<(), Memory> {
     lines.tell("a disk in memory", open_once(alloc))
 }

@@ -47,6 +47,7 @@ fn use_broken(alloc: Global) -> Result<String, Fault> {
     Ok(format!(in alloc; "a read gives {read}, a flush {flushed}; faults {reads} {flushes}")?)
 }
 
+/// Tells what was seen of the standard input, and of ends that fail.
 pub(crate) fn tell(rt: &HostRuntime, lines: &mut Lines) -> Result<(), Memory> {
     lines.tell("the standard input", read_input(rt))?;
     lines.tell("what is broken", use_broken(rt.alloc()))

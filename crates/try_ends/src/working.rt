@@ -114,6 +114,7 @@ fn ring<R: Wait>(rt: &R, alloc: Global) -> Result<String, Fault> {
     Ok(format!(in alloc; "{first}, and where nobody can sleep {last}")?)
 }
 
+/// Tells what was seen of a worker, and of a bell.
 pub(crate) fn tell<R: Wait>(rt: &R, alloc: Global, lines: &mut Lines) -> Result<(), Memory> {
     lines.tell("workers", work_and_leave(rt, alloc))?;
     lines.tell("a bell", ring(rt, alloc))

@@ -9,6 +9,7 @@ use cases::Tables;
 use os_io::DiskFiles;
 use std::{fs, io};
 
+/// Compares the answers of each of these tables.
 pub(crate) fn try_tables<R: fs::Files + Print + AllocGlobal>(
     rt: &R,
     tables: &mut Tables<'_, R>,

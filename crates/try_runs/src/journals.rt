@@ -19,6 +19,7 @@ const TABLES: [(&str, Kind); 3] = [
     ("copies.txt", Kind::Copy),
 ];
 
+/// Compares the answers of each of these tables.
 pub(crate) fn try_tables<R: Threads + Wait + Sync + fs::Files + Print + AllocGlobal>(
     rt: &R,
     tables: &mut Tables<'_, R>,

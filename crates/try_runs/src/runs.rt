@@ -18,6 +18,7 @@ const TABLES: [(&str, Kind); 4] = [
     ("links.txt", Kind::Linked),
 ];
 
+/// Compares the answers of each of these tables.
 pub(crate) fn try_tables<R: Threads + Wait + Sync + fs::Files + Print + AllocGlobal>(
     rt: &R,
     tables: &mut Tables<'_, R>,

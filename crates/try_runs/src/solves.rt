@@ -12,6 +12,7 @@ use std::sync::Wait;
 use std::thread::Threads;
 use std::{fs, io};
 
+/// Compares the answers of each of these tables.
 pub(crate) fn try_tables<R: Threads + Wait + Sync + fs::Files + Print + AllocGlobal>(
     rt: &R,
     tables: &mut Tables<'_, R>,

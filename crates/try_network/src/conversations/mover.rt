@@ -35,6 +35,7 @@ pub(crate) struct CountingMover {
 }
 
 impl CountingMover {
+    /// One with a table without jobs, whose move of this number finds no memory.
     pub(crate) fn new(alloc: Global, lacks: u64) -> CountingMover {
         CountingMover {
             alloc,
