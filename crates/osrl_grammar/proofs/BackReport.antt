@@ -141,11 +141,11 @@ module _ (s : State) (type : Option (List ℕ)) where
       part_goes parts.Cause put IsCause (λ text g bad. bad) (λ t text. never_noted (has_one_level true true t)) (λ before t y is. (y, is, refl)) (cause_text c ∷ []) (c ∷ []) (cause_back c back, tt) s type h more z first (ap put empty) behind
 
   bound_goes : (h : Held) (b : Option ProvedBound) → h.has_bound ≡ false → h.bounds ≡ [] → h.has_rounds ≡ false → h.rounds ≡ [] → h.has_tree ≡ false → h.levels ≡ [] → h.tree ≡ [] → BoundComesBack b → Goes (bound_parts b) (solving s places.Results type h) (solving s places.Results type (with_bound b h))
-  bound_goes h None first empty no_round none begun before latest back = goes_none (solving s places.Results type h)
-  bound_goes h (Some b) first empty no_round none begun before latest back =
+  bound_goes h None first empty unrounded no_round begun before latest back = goes_none (solving s places.Results type h)
+  bound_goes h (Some b) first empty unrounded no_round begun before latest back =
       let put : List Frac → Held = λ l. record h { has_bound = true; bounds = l } in
       fractions_go parts.Bound put (λ text g bad. bad) (λ t text. never_noted (has_one_level true true t)) (λ before t y is. (y, is, refl)) (b.number ∷ []) h (tree_parts b.cert []) (solving s places.Results type (with_bound (Some b) h)) first (ap put empty)
-      (tree_goes (put (b.number ∷ [])) b.cert [] no_round none begun before latest (inr refl) (lit≤ tt) back)
+      (tree_goes (put (b.number ∷ [])) b.cert [] unrounded no_round begun before latest (inr refl) (lit≤ tt) back)
 
   -- numbers for people are passed over
   abbrev Passes : (Nodes → Nodes) → Type 0
@@ -212,9 +212,9 @@ claim_goes s (Unbounded x vs cs r) back few =
 claim_goes s (BestSoFar x vs c b) back few =
     let type : Option (List ℕ) = Some (claiming_text claiming.BestSoFar) in
     let last : Held = held_of (BestSoFar x vs c b) in
-    let parts = cause_part c (bound_parts b) in
+    let rest = cause_part c (bound_parts b) in
     let bounds = bound_goes s type (with_cause c (held_point x vs)) b refl refl refl refl refl refl refl back.2 in
-    solution_goes s claiming.BestSoFar (point_parts x vs parts) (point_values x vs) last (point_passes s type x vs) (points_go s type x vs parts (solving s places.Results type last) (cause_goes s type (held_point x vs) c (bound_parts b) (solving s places.Results type last) refl refl back.1 bounds))
+    solution_goes s claiming.BestSoFar (point_parts x vs rest) (point_values x vs) last (point_passes s type x vs) (points_go s type x vs rest (solving s places.Results type last) (cause_goes s type (held_point x vs) c (bound_parts b) (solving s places.Results type last) refl refl back.1 bounds))
 claim_goes s (Unsure c b) back few =
     let type : Option (List ℕ) = Some (claiming_text claiming.Unsure) in
     let last : Held = held_of (Unsure c b) in
