@@ -115,6 +115,8 @@ fn documents_are_judged_once()
 /// inside a request; and 9 where the journal is damaged, and `damaged at` and the place were written in a line. Where there was no
 /// memory to read the words or to make the text that they ask for, or the journal wasn't opened, nothing is taken and no link is asked
 /// for, and nothing but that line is written.
+///
+/// It waits for others by the server that is handed in, which serves sessions and links, and by nothing else.
 pub fn run<F: Files, K: Stores, I: Source, O: Sink, N: Listener, S: Serves>(
     server: &S,
     alloc: Global,
