@@ -132,9 +132,10 @@ class Result:
     `status`: `optimal`, `infeasible`, `unbounded`, `bestSoFar` or `unsure`. `values`: one number for each variable, and `objective`,
     what they are worth, where there is a point: with `optimal`, `unbounded` and `bestSoFar`. `ray`: with `unbounded`, the direction
     in which the objective gets better without end. `cause`: with `bestSoFar` and `unsure`, what ended the search, as
-    `nodeLimit 10000`. `tree`: with `optimal` and `infeasible`, the nodes of the tree of cases, in preorder; where there are several
+    `nodeLimit 10000`. `tree`: with `optimal`, `infeasible` and a bound, the nodes of the tree of cases, in preorder; where there are several
     objectives, `level L` and the nodes of the next tree. `document`: the text. `objectives`: where there is a point, what it is worth by
-    each objective, in order; `objective` is the first of them.
+    each objective, in order; `objective` is the first of them. `bound`: with `bestSoFar` and `unsure`, where the document has one, a number
+    that no point's first objective is better than.
     """
 
     status: str
@@ -145,6 +146,7 @@ class Result:
     tree: Optional[tuple[str, ...]]
     document: str
     objectives: Optional[tuple[Fraction, ...]] = None
+    bound: Optional[Fraction] = None
 
 
 class Jobs(NamedTuple):
@@ -555,12 +557,21 @@ def _result(document: str, job: str) -> Result:
     if values == ():
         raise NoReply("no item where there is one for each objective", came)
     cause = _one(items["cause"], came) if "cause" in items else None
-    return Result(status, values[0] if values else None, point, ray, cause, items.get("tree"), document, values)
+    bound = None
+    if "cause" in items and _parts(solutions[0], "bound"):
+        bound = _ratios((_one(_items(solutions[0], "bound", came), came),), came)[0]
+        items["tree"] = _items(solutions[0], "tree", came)
+    return Result(status, values[0] if values else None, point, ray, cause, items.get("tree"), document, values, bound)
+
+
+def _parts(solution: ElementTree.Element, name: str) -> list[ElementTree.Element]:
+    """The parts of the certificate that have this name."""
+    return [it for it in _below(solution, "otherSolutionResults", "otherSolutionResult") if it.get("name") == f"os_cert.{name}"]
 
 
 def _items(solution: ElementTree.Element, name: str, came: bytes) -> tuple[str, ...]:
     """The items of one part of the certificate."""
-    parts = [it for it in _below(solution, "otherSolutionResults", "otherSolutionResult") if it.get("name") == f"os_cert.{name}"]
+    parts = _parts(solution, name)
     if len(parts) != 1:
         raise NoReply(f"{len(parts)} parts os_cert.{name}", came)
     return tuple(_text(item, came) for item in _below(parts[0], "item"))

@@ -7,6 +7,7 @@ ghost use Rattle.os_app.specs.CompactRuns.{EndsCompact};
 ghost use Rattle.os_app.specs.JournalFaults.{IsSaidOf, IsSaidOfCopy, unopened_status};
 ghost use Rattle.os_app.specs.StoredRuns.{IsOpen, KeepsServer, KeepsSession, Unopened};
 
+use crate::serves::Serves;
 use crate::statuses::{serve_status, session_status};
 use command_answers::send_number;
 use command_answers::status::{DAMAGED, DONE, NO_MEMORY, READ_FAULT, WRITE_FAULT};
@@ -15,11 +16,8 @@ use job_journal::{CompactFault, Journal, OpenFault};
 use job_solver::{SolvedJobs, compact_jobs, open_jobs};
 use job_table::Table;
 use os_io::{Failed, FileFault, Listener, Sink, Source};
-use serving::{Setup, serve_stored};
-use sessions::serve_stored_session;
+use serving::Setup;
 use std::alloc::Global;
-use std::sync::Wait;
-use std::thread::Threads;
 
 /// Says why a journal wasn't opened, and gives the status of the run. Takes no memory.
 fn tell_fault<O: Sink>(output: &mut O, fault: OpenFault) -> u8
@@ -47,8 +45,8 @@ fn open_named<K: Stores>(
 ) -> Result<(Table<SolvedJobs>, Journal<K::Store>), OpenFault>
     requires some { 1 ≤ first }
     requires within { first ≤ most_first }
-    ensures opened { IfOk result (λ r. IsOpen K.Store.Disk name.now first r.0 r.1 (stores_run K.held K.back K.faults stores.old stores.new)) }
-    ensures unopened { IfErr result (λ fault. Unopened K.Store.Disk name.now first (stores_run K.held K.back K.faults stores.old stores.new) fault) }
+    ensures opened { IfOk result (λ r. IsOpen K.Store.Disk name.now first r.0 r.1 (stores_run K.held K.back K.opened K.faults stores.old stores.new)) }
+    ensures unopened { IfErr result (λ fault. Unopened K.Store.Disk name.now first (stores_run K.held K.back K.opened K.faults stores.old stores.new) fault) }
 {
     let disk = match stores.open_store(name) {
         Ok(disk) => disk,
@@ -65,21 +63,21 @@ fn open_named<K: Stores>(
 }
 
 /// Serves a session over the journal in the file of this name, and gives its disk back.
-pub(crate) fn keep_session<K: Stores, I: Source, O: Sink, R: Wait>(
-    rt: &R,
+pub(crate) fn keep_session<K: Stores, I: Source, O: Sink, S: Serves>(
+    server: &S,
     alloc: Global,
     stores: &mut K,
     name: &str,
     input: &mut I,
     output: &mut O,
 ) -> u8
-    ensures ends { KeepsSession K.Store.Disk name.now result (stores_run K.held K.back K.faults stores.old stores.new) (I.tells input.old) (I.tells input.new) (O.tells output.old) (O.tells output.new) }
+    ensures ends { KeepsSession K.Store.Disk name.now result (stores_run K.held K.back K.opened K.faults stores.old stores.new) (I.tells input.old) (I.tells input.new) (O.tells output.old) (O.tells output.new) }
     ensures output_of_input { SameOutput (I.tells input.old) (I.tells input.new) }
     ensures input_of_output { SameInput (O.tells output.old) (O.tells output.new) }
 {
     match open_named(alloc, stores, name, 1) {
         Ok((table, journal)) => {
-            let (served, disk) = serve_stored_session(rt, alloc, table, journal, input, output);
+            let (served, disk) = server.serve_stored_session(alloc, table, journal, input, output);
             stores.done_store(disk);
             session_status(served)
         }
@@ -88,8 +86,8 @@ pub(crate) fn keep_session<K: Stores, I: Source, O: Sink, R: Wait>(
 }
 
 /// Serves links over the journal in the file of this name, and gives its disk back.
-pub(crate) fn keep_server<K: Stores, O: Sink, N: Listener, R: Threads + Wait + Sync>(
-    rt: &R,
+pub(crate) fn keep_server<K: Stores, O: Sink, N: Listener, S: Serves>(
+    server: &S,
     alloc: Global,
     stores: &mut K,
     name: &str,
@@ -105,13 +103,13 @@ where
     requires servers { 1 ≤ setup.limits.servers }
     requires first { 1 ≤ setup.first }
     requires fits { setup.first ≤ most_first }
-    ensures ends { KeepsServer K.Store.Disk host.now port setup name.now result (stores_run K.held K.back K.faults stores.old stores.new) (N.tells net.old) (N.tells net.new) (O.tells output.old) (O.tells output.new) }
+    ensures ends { KeepsServer K.Store.Disk host.now port setup name.now result (stores_run K.held K.back K.opened K.faults stores.old stores.new) (N.tells net.old) (N.tells net.new) (O.tells output.old) (O.tells output.new) }
     ensures input_of_output { SameInput (O.tells output.old) (O.tells output.new) }
 {
     match open_named(alloc, stores, name, setup.first) {
         Ok((table, journal)) => {
-            let (ending, disk) = serve_stored(
-                rt, alloc, net, output, host, port, setup, table, journal,
+            let (ending, disk) = server.serve_stored(
+                alloc, net, output, host, port, setup, table, journal,
             );
             stores.done_store(disk);
             serve_status(ending)
@@ -153,7 +151,7 @@ pub(crate) fn compact_named<K: Stores, O: Sink>(
     to: &str,
     output: &mut O,
 ) -> u8
-    ensures ends { EndsCompact K.Store.Disk from.now to.now result (stores_run K.held K.back K.faults stores.old stores.new) (O.tells output.old) (O.tells output.new) }
+    ensures ends { EndsCompact K.Store.Disk from.now to.now result (stores_run K.held K.back K.opened K.faults stores.old stores.new) (O.tells output.old) (O.tells output.new) }
     ensures input_of_output { SameInput (O.tells output.old) (O.tells output.new) }
 {
     let old = match stores.find_store(from) {

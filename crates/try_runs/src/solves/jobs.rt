@@ -2,7 +2,7 @@
 
 use memory_disks::{MemDisk, MemStores};
 use memory_ends::{MemFiles, MemListener, MemSink, MemSource};
-use os_app::run;
+use os_app::{ThreadServer, run};
 use os_io::{Memory, Text};
 use std::alloc::Global;
 use std::sync::Wait;
@@ -43,7 +43,7 @@ fn ran<R: Threads + Wait + Sync>(
     let disk = MemDisk::new(alloc, &[], &[], u64::MAX)?;
     let mut stores = MemStores::new(alloc, "journal", disk)?;
     let status = run(
-        rt,
+        &ThreadServer(rt),
         alloc,
         words.as_slice(),
         files,
@@ -122,5 +122,34 @@ pub(crate) fn answer_job<R: Threads + Wait + Sync>(
     put_status(&mut text, solved.verdict)?;
     text.extend(solved.line.as_slice())?;
     text.extend(solved.document.as_slice())?;
+    Ok(text)
+}
+
+/// The items of a result document's values, none where it has none.
+fn value_items(document: &str) -> &str {
+    match document.split_once("os_cert.value\">") {
+        Some((_, rest)) => match rest.split_once("</otherSolutionResult>") {
+            Some((items, _)) => items,
+            None => "",
+        },
+        None => "",
+    }
+}
+
+/// Given the text of an instance: what the checker says of its result, and behind an optimum the values of its goals.
+pub(crate) fn answer_program<R: Threads + Wait + Sync>(
+    rt: &R,
+    alloc: Global,
+    given: &[Vec<u8>],
+) -> Result<Text, Memory> {
+    let [osil] = given else {
+        return Text::from_slice(alloc, b"one field");
+    };
+    let solved = solve(rt, alloc, osil.as_slice(), b"", false)?;
+    let mut text = Text::from_slice(alloc, solved.line.as_slice())?;
+    if solved.line.as_slice() == b"accepted optimal\n".as_slice() {
+        let document = str::from_utf8(solved.document.as_slice()).unwrap_or("");
+        text.extend(value_items(document).as_bytes())?;
+    }
     Ok(text)
 }

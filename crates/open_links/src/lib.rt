@@ -1,7 +1,9 @@
-//! A link that is served while it is open.
+//! Links that are open while they are served, or while a call is made over them.
 //!
-//! Whoever serves a link is handed an [`OpenLink`]. Only [`OpenLink::new`] makes one, of a link of which it is known that it is open:
-//! that it came from a listener, and that nobody closed it ([`os_io::Close`]). So a link that may be closed already can't be served.
+//! Whoever serves a link, or makes a call over one, is handed an [`OpenLink`]. Only [`OpenLink::new`] makes one, of a link of which it is
+//! known that it is open: that it came from a listener, and that nobody closed it ([`os_io::Close`]). So a link that may be closed already
+//! can't be served, and no call be made over it; and whoever takes one apart has none to give back.
+#![tactic(auto)]
 
 ghost use Rattle.std.specs.Prelude.{◌≡◌};
 
@@ -23,7 +25,7 @@ impl<L: Close> OpenLink<L> {
     }
 
     /// The link itself, to be closed and given back.
-    pub(crate) fn into_link(self) -> L
+    pub fn into_link(self) -> L
         ensures { L.tells result ≡ ⟦<OpenLink<L> as Stream>⟧.tells self }
     {
         self.link
