@@ -52,6 +52,14 @@ pub record Heard (had : List Mark → Type 0) (f : Feeding) (bytes : List ℕ) :
   pub has : had told
   pub taken : IsTaken (behind told f) bytes
 
+-- What was told begins what each document says that begins so: some first ones of these bytes were taken, and what they say was told or waits.
+pub record ToldBefore (had : List Mark → Type 0) (bytes : List ℕ) : Type 0 where
+  pub before : List ℕ
+  pub more : List ℕ
+  pub are : bytes ≡ before ++ more
+  pub reader : Feeding
+  pub heard : Heard had reader before
+
 -- These bytes were fed, and what they say was told or waits.
 abbrev pub WasHeard : (List Mark → Type 0) → Feeding → List ℕ → Type 0
 WasHeard had f bytes = MatchOption f.refusal (Heard had f bytes) (Refused f.limit bytes)
