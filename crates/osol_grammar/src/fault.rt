@@ -2,22 +2,19 @@
 
 use doc_tree::TreeFault;
 use std::alloc::AllocError;
+use std::fmt;
 use thiserror::Error;
 
 /// What is wrong with an options document. At one tag the first of these is told.
 #[derive(Clone, Copy, PartialEq, Eq, Debug, Drop, Error)]
 pub enum Refusal {
     /// The root isn't `osol`.
-    #[error("Root")]
     Root,
     /// There is a further `jobID`.
-    #[error("JobTwice")]
     JobTwice,
     /// The value of a limit's option is wanting, isn't a count, or isn't one that the limit may have.
-    #[error("BadLimit")]
     BadLimit,
     /// The job's name, without the white space round it, has more than 256 bytes.
-    #[error("LongJob")]
     LongJob,
 }
 
@@ -25,14 +22,42 @@ pub enum Refusal {
 #[derive(Clone, Copy, PartialEq, Debug, Drop, Error)]
 pub enum OsolFault {
     /// They are no document within the limits.
-    #[error("osol {0}")]
     Tree(TreeFault),
     /// They are a document that is refused. `at` is the ordinal of the element: the root is 1, each start tag counts.
-    #[error("osol {refusal} at {at}")]
     Refused { refusal: Refusal, at: u64 },
     /// There was no memory.
-    #[error("there was no memory")]
     Memory,
+}
+
+impl fmt::Display for Refusal {
+    ghost use Rattle.std.specs.Prelude.{Some};
+    ghost use Rattle.osol_grammar.specs.Texts.{refusal_name};
+
+    ghost output = { λ r. Some (refusal_name r) };
+
+    fn fmt<W: fmt::Write>(&self, f: &mut fmt::Formatter<W>) -> fmt::Result {
+        match self {
+            Refusal::Root => write!(f, "Root"),
+            Refusal::JobTwice => write!(f, "JobTwice"),
+            Refusal::BadLimit => write!(f, "BadLimit"),
+            Refusal::LongJob => write!(f, "LongJob"),
+        }
+    }
+}
+
+impl fmt::Display for OsolFault {
+    ghost use Rattle.std.specs.Prelude.{Some};
+    ghost use Rattle.osol_grammar.specs.Texts.{fault_words};
+
+    ghost output = { λ f. Some (fault_words f) };
+
+    fn fmt<W: fmt::Write>(&self, f: &mut fmt::Formatter<W>) -> fmt::Result {
+        match self {
+            OsolFault::Tree(fault) => write!(f, "osol {fault}"),
+            OsolFault::Refused { refusal, at } => write!(f, "osol {refusal} at {at}"),
+            OsolFault::Memory => write!(f, "there was no memory"),
+        }
+    }
 }
 
 impl From<AllocError> for OsolFault {
