@@ -28,7 +28,7 @@ use Rattle.solve_run.proofs.Numbers.{HasColumn, IsWithin, nodes_within, some_nod
 use Rattle.solve_run.proofs.LevelProofs.{ProvesIn, most_columns, best_levels, endless_levels}
 
 -- that of a bound
-abbrev bound_certificates : Option With.ProvedBound → List Certificate
+abbrev pub bound_certificates : Option With.ProvedBound → List Certificate
 bound_certificates None = []
 bound_certificates (Some b) = b.certificate ∷ []
 
@@ -54,7 +54,7 @@ pub carried : (c : Claim) (o : Outcome) → ClaimTells c o → said_certificates
 carried c o tells = sym (ap said_certificates tells.says) ∙ meant c
 
 -- a search has no bound
-abbrev bound_said : Says.Claim → Option With.ProvedBound
+abbrev pub bound_said : Says.Claim → Option With.ProvedBound
 bound_said (Says.BestSoFar x vs b) = b
 bound_said (Says.Unsure b) = b
 bound_said c = None
