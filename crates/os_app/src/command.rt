@@ -12,7 +12,6 @@ ghost use Rattle.os_app.specs.Runs.{Runs};
 
 use crate::checking::answer_about;
 use crate::generating::generate;
-use crate::serves::Serves;
 use crate::solving::solve_files;
 use crate::statuses::{serve_status, session_status};
 use crate::stored::{compact_named, keep_server, keep_session};
@@ -25,9 +24,12 @@ use document_checker::{
 };
 use os_client::make_call;
 use os_io::{Failed, FileFault, Files, Listener, Memory, Sink, Source};
-use serving::{ServeLimits, Setup};
+use serving::{ServeLimits, Setup, serve};
+use sessions::serve_session;
 use std::alloc::{AllocError, Global};
 use std::process::ExitCode;
+use std::sync::Wait;
+use std::thread::Threads;
 
 /// Sends an answer, if there is one, and says how it went.
 fn tell<O: Sink>(output: &mut O, answer: Result<StatusText, FileFault>) -> u8
@@ -115,10 +117,8 @@ fn documents_are_judged_once()
 /// inside a request; and 9 where the journal is damaged, and `damaged at` and the place were written in a line. Where there was no
 /// memory to read the words or to make the text that they ask for, or the journal wasn't opened, nothing is taken and no link is asked
 /// for, and nothing but that line is written.
-///
-/// It waits for others by the server that is handed in, which serves sessions and links, and by nothing else.
-pub fn run<F: Files, K: Stores, I: Source, O: Sink, N: Listener, S: Serves>(
-    server: &S,
+pub fn run<F: Files, K: Stores, I: Source, O: Sink, N: Listener, R: Threads + Wait + Sync>(
+    rt: &R,
     alloc: Global,
     words: &[String],
     files: &mut F,
@@ -151,8 +151,8 @@ where
 {
     match read_words(alloc, words) {
         Ok(Some(Asked::Session { journal })) => match journal {
-            None => session_status(server.serve_session(alloc, input, output)),
-            Some(name) => keep_session(server, alloc, stores, name, input, output),
+            None => session_status(serve_session(rt, alloc, input, output)),
+            Some(name) => keep_session(rt, alloc, stores, name, input, output),
         },
         Ok(Some(Asked::Check { osil, osrl })) => {
             documents_are_judged_once();
@@ -177,9 +177,9 @@ where
             numbers_are_within_their_ends();
             let setup = setup_of(to);
             match to.journal {
-                None => serve_status(server.serve(alloc, net, output, to.host, to.port, setup)),
+                None => serve_status(serve(rt, alloc, net, output, to.host, to.port, setup)),
                 Some(name) => keep_server(
-                    server, alloc, stores, name, net, output, to.host, to.port, setup,
+                    rt, alloc, stores, name, net, output, to.host, to.port, setup,
                 ),
             }
         }

@@ -9,10 +9,6 @@
 //! `--journal FILE` has a session or a server keep its jobs in a file, and `compact OLD NEW` writes such a file again, without what
 //! jobs that are gone had. The program `os_main` hands in the real ends and ends with the status of `run`, [`exit_code`]. The laws say
 //! what the words mean, and when `solve --safe` doesn't end at its limit of turns.
-//!
-//! Sessions and links are served by whoever is handed in ([`Serves`]; the program's is [`ThreadServer`]), who may wait for others. [`run`]
-//! itself has no handle by which it might wait: what the words ask for beside these two ends where the files, disks, links and the
-//! output do.
 #![tactic(auto)]
 
 mod checking;
@@ -20,7 +16,6 @@ mod command;
 mod generating;
 mod laws;
 mod safe;
-mod serves;
 mod solving;
 mod statuses;
 mod stored;
@@ -28,4 +23,3 @@ mod stored;
 pub use command::{exit_code, run};
 pub use command_line::{commands_have_their_words, numbers_are_within_their_ends};
 pub use laws::safe_solves_stay_within_turns;
-pub use serves::{Serves, ThreadServer};

@@ -7,7 +7,6 @@ ghost use Rattle.os_app.specs.CompactRuns.{EndsCompact};
 ghost use Rattle.os_app.specs.JournalFaults.{IsSaidOf, IsSaidOfCopy, unopened_status};
 ghost use Rattle.os_app.specs.StoredRuns.{IsOpen, KeepsServer, KeepsSession, Unopened};
 
-use crate::serves::Serves;
 use crate::statuses::{serve_status, session_status};
 use command_answers::send_number;
 use command_answers::status::{DAMAGED, DONE, NO_MEMORY, READ_FAULT, WRITE_FAULT};
@@ -16,8 +15,11 @@ use job_journal::{CompactFault, Journal, OpenFault};
 use job_solver::{SolvedJobs, compact_jobs, open_jobs};
 use job_table::Table;
 use os_io::{Failed, FileFault, Listener, Sink, Source};
-use serving::Setup;
+use serving::{Setup, serve_stored};
+use sessions::serve_stored_session;
 use std::alloc::Global;
+use std::sync::Wait;
+use std::thread::Threads;
 
 /// Says why a journal wasn't opened, and gives the status of the run. Takes no memory.
 fn tell_fault<O: Sink>(output: &mut O, fault: OpenFault) -> u8
@@ -63,8 +65,8 @@ fn open_named<K: Stores>(
 }
 
 /// Serves a session over the journal in the file of this name, and gives its disk back.
-pub(crate) fn keep_session<K: Stores, I: Source, O: Sink, S: Serves>(
-    server: &S,
+pub(crate) fn keep_session<K: Stores, I: Source, O: Sink, R: Wait>(
+    rt: &R,
     alloc: Global,
     stores: &mut K,
     name: &str,
@@ -77,7 +79,7 @@ pub(crate) fn keep_session<K: Stores, I: Source, O: Sink, S: Serves>(
 {
     match open_named(alloc, stores, name, 1) {
         Ok((table, journal)) => {
-            let (served, disk) = server.serve_stored_session(alloc, table, journal, input, output);
+            let (served, disk) = serve_stored_session(rt, alloc, table, journal, input, output);
             stores.done_store(disk);
             session_status(served)
         }
@@ -86,8 +88,8 @@ pub(crate) fn keep_session<K: Stores, I: Source, O: Sink, S: Serves>(
 }
 
 /// Serves links over the journal in the file of this name, and gives its disk back.
-pub(crate) fn keep_server<K: Stores, O: Sink, N: Listener, S: Serves>(
-    server: &S,
+pub(crate) fn keep_server<K: Stores, O: Sink, N: Listener, R: Threads + Wait + Sync>(
+    rt: &R,
     alloc: Global,
     stores: &mut K,
     name: &str,
@@ -108,8 +110,8 @@ where
 {
     match open_named(alloc, stores, name, setup.first) {
         Ok((table, journal)) => {
-            let (ending, disk) = server.serve_stored(
-                alloc, net, output, host, port, setup, table, journal,
+            let (ending, disk) = serve_stored(
+                rt, alloc, net, output, host, port, setup, table, journal,
             );
             stores.done_store(disk);
             serve_status(ending)

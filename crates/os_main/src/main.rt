@@ -9,7 +9,7 @@
 #![tactic(auto)]
 
 use disks::FileStores;
-use os_app::{ThreadServer, exit_code, run};
+use os_app::{exit_code, run};
 use os_io::{DiskFiles, Memory, StdSink, StdSource};
 use std::alloc::AllocError;
 use std::env;
@@ -39,7 +39,7 @@ fn main(rt: HostRuntime) -> ExitCode {
     let mut output = StdSink::new(rt.stdout());
     let mut net = TcpNet::new(&rt);
     exit_code(Ok(run(
-        &ThreadServer(&rt),
+        &rt,
         rt.alloc(),
         words.as_slice(),
         &mut files,

@@ -5,7 +5,7 @@ use crate::words::words_of;
 use cases::bytes_of;
 use memory_disks::{MemDisk, MemStores};
 use memory_ends::{MemFiles, MemLink, MemListener, MemSink, MemSource};
-use os_app::{ThreadServer, run};
+use os_app::run;
 use os_io::{Files, Memory, Text};
 use std::alloc::Global;
 use std::sync::Wait;
@@ -94,7 +94,7 @@ impl<'r, R: Threads + Wait + Sync, F: Files> World<'r, R, F> {
         let disk = MemDisk::new(alloc, &[], &[], u64::MAX)?;
         let mut stores = MemStores::new(alloc, "journal", disk)?;
         let status = run(
-            &ThreadServer(self.rt),
+            self.rt,
             alloc,
             words.as_slice(),
             &mut files,

@@ -7,7 +7,7 @@ use crate::words::{behind, words_of};
 use cases::number_of;
 use memory_disks::MemDisk;
 use memory_ends::{MemFiles, MemListener, MemSink, MemSource};
-use os_app::{ThreadServer, run};
+use os_app::run;
 use os_io::{Memory, Text};
 use std::alloc::Global;
 use std::sync::Wait;
@@ -95,7 +95,7 @@ impl<'r, R: Threads + Wait + Sync> Keeper<'r, R> {
         let mut output = MemSink::new(alloc, ROOM, &[])?;
         let mut net = MemListener::new(alloc, &[])?;
         let status = run(
-            &ThreadServer(self.rt),
+            self.rt,
             alloc,
             words.as_slice(),
             &mut files,

@@ -5,7 +5,7 @@ use crate::words::{behind, words_of};
 use cases::{bytes_of, number_of};
 use memory_disks::{MemDisk, MemStores};
 use memory_ends::MemListener;
-use os_app::{ThreadServer, run};
+use os_app::run;
 use os_io::{Files, Memory, Text};
 use std::alloc::Global;
 use std::sync::Wait;
@@ -92,7 +92,7 @@ impl<'r, R: Threads + Wait + Sync, F: Files> World<'r, R, F> {
         let disk = MemDisk::new(alloc, &[], &[fails.disk], u64::MAX)?;
         let mut stores = MemStores::new(alloc, "journal", disk)?;
         let status = run(
-            &ThreadServer(self.rt),
+            self.rt,
             alloc,
             words.as_slice(),
             &mut files,

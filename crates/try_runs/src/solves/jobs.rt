@@ -2,7 +2,7 @@
 
 use memory_disks::{MemDisk, MemStores};
 use memory_ends::{MemFiles, MemListener, MemSink, MemSource};
-use os_app::{ThreadServer, run};
+use os_app::run;
 use os_io::{Memory, Text};
 use std::alloc::Global;
 use std::sync::Wait;
@@ -43,7 +43,7 @@ fn ran<R: Threads + Wait + Sync>(
     let disk = MemDisk::new(alloc, &[], &[], u64::MAX)?;
     let mut stores = MemStores::new(alloc, "journal", disk)?;
     let status = run(
-        &ThreadServer(rt),
+        rt,
         alloc,
         words.as_slice(),
         files,

@@ -101,13 +101,13 @@ pub generate-requires-clause-most : goal.generate-requires-clause-most
 generate-requires-clause-most g c = (c.numbers_are_within_their_ends.ensures _ _ (asks_it _ _ _ (c.in-Ok-Some-Generate.field-0-is ∙ ap Some c.in-Ok-Some-Generate.field-0-0-is) c.in-Ok-Some-Generate.ensures)).1
 
 pub serve-requires-clause-servers : goal.serve-requires-clause-servers
-serve-requires-clause-servers g c = set_within c.in-Ok-Some-Serve.to _ c.setup_of-setup.ensures (λ s. 1 ≤ s.limits.servers) ((c.numbers_are_within_their_ends-in-Ok-Some-Serve.ensures _ _ (asks_it _ _ _ (c.in-Ok-Some-Serve.field-0-is ∙ ap Some c.in-Ok-Some-Serve.field-0-0-is) c.in-Ok-Some-Serve.ensures)).2.0)
+serve-requires-clause-servers g c κs lives = set_within c.in-Ok-Some-Serve.to _ c.setup_of-setup.ensures (λ s. 1 ≤ s.limits.servers) ((c.numbers_are_within_their_ends-in-Ok-Some-Serve.ensures _ _ (asks_it _ _ _ (c.in-Ok-Some-Serve.field-0-is ∙ ap Some c.in-Ok-Some-Serve.field-0-0-is) c.in-Ok-Some-Serve.ensures)).2.0)
 
 pub serve-requires-clause-first : goal.serve-requires-clause-first
-serve-requires-clause-first g c = set_within c.in-Ok-Some-Serve.to _ c.setup_of-setup.ensures (λ s. 1 ≤ s.first) ((c.numbers_are_within_their_ends-in-Ok-Some-Serve.ensures _ _ (asks_it _ _ _ (c.in-Ok-Some-Serve.field-0-is ∙ ap Some c.in-Ok-Some-Serve.field-0-0-is) c.in-Ok-Some-Serve.ensures)).5.0)
+serve-requires-clause-first g c κs lives = set_within c.in-Ok-Some-Serve.to _ c.setup_of-setup.ensures (λ s. 1 ≤ s.first) ((c.numbers_are_within_their_ends-in-Ok-Some-Serve.ensures _ _ (asks_it _ _ _ (c.in-Ok-Some-Serve.field-0-is ∙ ap Some c.in-Ok-Some-Serve.field-0-0-is) c.in-Ok-Some-Serve.ensures)).5.0)
 
 pub serve-requires-clause-fits : goal.serve-requires-clause-fits
-serve-requires-clause-fits g c = set_within c.in-Ok-Some-Serve.to _ c.setup_of-setup.ensures (λ s. s.first ≤ most_first) ((c.numbers_are_within_their_ends-in-Ok-Some-Serve.ensures _ _ (asks_it _ _ _ (c.in-Ok-Some-Serve.field-0-is ∙ ap Some c.in-Ok-Some-Serve.field-0-0-is) c.in-Ok-Some-Serve.ensures)).5.1)
+serve-requires-clause-fits g c κs lives = set_within c.in-Ok-Some-Serve.to _ c.setup_of-setup.ensures (λ s. s.first ≤ most_first) ((c.numbers_are_within_their_ends-in-Ok-Some-Serve.ensures _ _ (asks_it _ _ _ (c.in-Ok-Some-Serve.field-0-is ∙ ap Some c.in-Ok-Some-Serve.field-0-0-is) c.in-Ok-Some-Serve.ensures)).5.1)
 
 pub keep_server-requires-clause-servers : goal.keep_server-requires-clause-servers
 keep_server-requires-clause-servers g c κs lives = set_within c.in-Ok-Some-Serve.to _ c.setup_of-setup.ensures (λ s. 1 ≤ s.limits.servers) ((c.numbers_are_within_their_ends-in-Ok-Some-Serve.ensures _ _ (asks_it _ _ _ (c.in-Ok-Some-Serve.field-0-is ∙ ap Some c.in-Ok-Some-Serve.field-0-0-is) c.in-Ok-Some-Serve.ensures)).2.0)
