@@ -3,7 +3,8 @@
     gubnatris_fzn [-a] [-s] [-v] [-t MILLISECONDS] FILE.fzn
 
 It reads FlatZinc as MiniZinc writes it with its library for linear solvers, and answers as FlatZinc solvers do (The MiniZinc Handbook,
-FlatZinc and FlatZinc builtins; Interfacing Solvers to MiniZinc). Integers and floats are taken as they are written.
+FlatZinc and FlatZinc builtins; Interfacing Solvers to MiniZinc). Integers are taken as they are written, and floats to 15
+digits.
 """
 
 from __future__ import annotations
@@ -28,6 +29,7 @@ TOKEN = re.compile(
     r'(?P<space>[ \t\r\n]+|%[^\n]*)|(?P<number>-?\d+(?:\.\d+(?:[eE][+-]?\d+)?|[eE][+-]?\d+)?)|(?P<name>[A-Za-z_]\w*)|(?P<text>"[^"\n]*")'
     r"|(?P<sign>::|\.\.|[][(){},:;=])"
 )
+FLOAT_DIGITS = 15  # so many of any decimal a float holds; MiniZinc computes in floats and writes 16, 8.8 as 8.800000000000001
 MOST_PIECES = 1_000  # of a set that a variable is to be in
 # Rows by the names of constraints: how the sum of their terms stands to the number, and whether they have factors.
 ROWS = {
@@ -144,7 +146,9 @@ class Flat:
         text = self.tokens.take()
         if not re.fullmatch(r"-?\d.*", text):
             raise BadFlat(f"{self.tokens.where()}: a number should stand there, and here is {text[:20]!r}")
-        return exact(Decimal(text), self.tokens.where())
+        if re.fullmatch(r"-?\d+", text):
+            return exact(Decimal(text), self.tokens.where())
+        return exact(Decimal(f"{Decimal(text):.{FLOAT_DIGITS}g}"), self.tokens.where())
 
     def value(self) -> Value:
         """A number, a truth value, a text, a list, a set, or what a name stands for."""
