@@ -17,6 +17,7 @@ from gubnatris.limits import GREATEST, MOST_COLUMNS, MOST_DOCUMENT, MOST_VALUES
 from gubnatris.writing import NO_XML, GoalText, RowText, VariableText, osil_text
 
 MOST_FILE = 64_000_000
+INPUT = "-"  # in place of a file's name
 MOST_DIGITS, MOST_EXPONENT = 300, 10_000  # past these no number is within 128 bits, nor is it what anybody writes for infinity
 INFINITE = decimal.Decimal("1e20")  # CPLEX's CPX_INFBOUND: an end of this size is none
 # Numbers within 128 bits and their sums have far fewer digits, so nothing is rounded; if something were, it would be an exception.
@@ -159,9 +160,9 @@ def osil(program):
 
 
 def read_bytes(path, most=MOST_FILE):
-    """The bytes of a file of at most so many."""
+    """The bytes of a file of at most so many; `-` is the standard input."""
     try:
-        with open(path, "rb") as it:
+        with open(sys.stdin.fileno() if path == INPUT else path, "rb", closefd=path != INPUT) as it:
             data = it.read(most + 1)
     except OSError as error:
         raise Unread(f"{path}: can't be read: {error.strerror.lower()}") from error
@@ -244,7 +245,7 @@ def convert(tool, read, usage, flags):
 
     def work():
         program = read(read_text(words[0]), given)
-        program.name = program.name or os.path.basename(words[0]).split(".")[0]
+        program.name = program.name or ("input" if words[0] == INPUT else os.path.basename(words[0]).split(".")[0])
         write_whole(osil(program), words[1] if len(words) == 2 else None)
         for note in program.notes:
             say(tool, f"note: {words[0]}: {note}")

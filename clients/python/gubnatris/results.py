@@ -158,7 +158,7 @@ class Result:
         found["objectives"] = [{"name": name, "sense": sense, **_both(value)} for name, sense, value in self._goals()]
         found["variables"] = [_json_line(line) for line in self._lines("variable")]
         found["rows"] = [_json_line(line) for line in self._lines("row")]
-        return json.dumps(found, ensure_ascii=False, indent=indent)
+        return json.dumps(found, indent=indent)
 
     def to_csv(self) -> str:
         """The objectives, variables and rows as CSV, one a line: floats, and the exact fractions beside them."""
