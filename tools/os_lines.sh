@@ -93,6 +93,25 @@ has() {
 expect "the usage is the program's" "$(sed -n 's/^const USAGE.*b"\(.*\)\\n";$/\1/p' "$top"/crates/command_line/src/*.rt)" "$usage"
 expect "the README's tables" "$(sh "$top/tools/commands_table.sh" --check)" ''
 
+# ---- completion
+
+sh "$top/tools/completions.sh" bash >complete.bash
+sh "$top/tools/completions.sh" zsh >complete.zsh
+# WORDS..: what bash completes the last of these words to.
+completed() {
+    bash -c '. "$0" && COMP_WORDS=("$@") COMP_CWORD=$(($# - 1)) && _gubnatris && echo "${COMPREPLY[*]}"' "$room/complete.bash" "$@"
+}
+expect 'completion of a command' "$(completed ./os se)" 'serve session'
+expect 'completion of a flag' "$(completed ./os solve a.lp --s)" '--safe'
+expect 'completion of a flag that stands alone' "$(completed ./os solve --o)" '--options --osrl'
+expect 'completion of a call' "$(completed ./os call k)" 'knock kill'
+expect 'completion of a file' "$(completed ./os check crates.t)" 'crates.txt'
+expect 'completion of help' "$(completed ./os help g)" 'generate'
+if command -v zsh >/dev/null; then
+    told=$(zsh -fc 'words=(os solve --s) CURRENT=3 PREFIX=--s; compadd() { echo "$@" }; _files() { echo files }; . "$1"' zsh "$room/complete.zsh" 2>&1)
+    expect 'what zsh completes' "$told" '-- --options --safe --free --max --glpk --osrl'
+fi
+
 # ---- before the program is built
 
 all='./os solve OSIL [--options OSOL] [--safe]'
