@@ -12,6 +12,7 @@ status=1 # of that process
 
 . "$here/tools/os_words.sh"
 . "$here/tools/os_build.sh"
+. "$here/tools/os_files.sh"
 
 # Hands a signal on. It goes as TERM, since what a script starts behind itself ignores INT and QUIT.
 hand_on() {
@@ -33,6 +34,7 @@ await() {
 
 # Ends as whoever is ended by this signal.
 end_by() {
+    remove_converted
     trap - "$1" 2>/dev/null
     kill -s "$1" $$
     exit "$status"
@@ -87,13 +89,19 @@ run_program() {
 }
 
 is_command "${1-}" || answer_no_command "$@"
+answer_at_once "$@"
 for signal in HUP INT QUIT TERM; do
     # shellcheck disable=SC2064 # the name is to stand in the trap
     trap "hand_on $signal" "$signal"
 done
-is_built || build
-run_program "$@"
+if is_to_convert "$@"; then
+    solve_converted "$@"
+else
+    hint_on_files "$@"
+    is_built || build
+    run_program "$@"
+fi
 [ -z "$caught" ] || end_by "$caught"
 [ "$status" -le 1 ] || explain "$status" "$@"
 [ "$status" -le 128 ] || end_by "$(kill -l "$status")"
-exit "$status"
+leave "$status"

@@ -20,7 +20,7 @@ awk '
             for (i = 1; i <= statuses; i++) print status[i]
         }
     }
-    { line = $0; sub(/^[a-z]+ /, "", line); gsub(/\|/, "\\|", line); gsub(/docs\/[a-z\/]+\.md/, "`&`", line) }
+    { line = $0; sub(/^[a-z]+ /, "", line); gsub(/\|/, "\\|", line); gsub(/docs\/[a-z_\/]+\.md/, "`&`", line) }
     FNR == NR && $1 == "command" { end_row() }
     FNR == NR && $1 == "words" { words = line }
     FNR == NR && $1 == "does" { does = line }

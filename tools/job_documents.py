@@ -5,213 +5,31 @@ Numbers are exact. It says what a document says and doesn't judge it: `./os chec
 
 import fractions
 import re
-from xml.parsers import expat
 
-from linear_program import MOST_COLUMNS, MOST_DOCUMENT, MOST_VALUES, NUMBER, Complaint, printable, read_bytes
+from linear_program import Complaint, printable, read_bytes
+
+from gubnatris.instances import Column, count, read_instance, tree_of
+from gubnatris.limits import MOST_DOCUMENT
 
 RATIO = re.compile(r"-?\d+(?:/\d+)?")
 CERTIFICATE = "os_cert."
-DEEPEST = 32
-MOST_GOALS = 8
 
 
-class Element:
-    """An element: its local name, its attributes, its child elements, and the characters that stand in it."""
-
-    def __init__(self, name, attributes):
-        self.name, self.attributes, self.children, self.text = name, attributes, [], ""
-
-    def find(self, *names):
-        """The first element at a path, or none."""
-        for name in names:
-            self = next((child for child in self.children if child.name == name), None)
-            if self is None:
-                return None
-        return self
-
-    def all(self, name):
-        return [child for child in self.children if child.name == name]
-
-
-def tree_of(data, what, root):
-    """The root element of a document, which has this name."""
-    parser, top, stack = expat.ParserCreate(), Element("", {}), []
-    stack.append(top)
-
-    def begin(name, attributes):
-        if len(stack) > DEEPEST:
-            raise Complaint(f"it isn't {what}: its elements stand more than {DEEPEST} deep")
-        element = Element(name.rsplit(":", 1)[-1], attributes)
-        stack[-1].children.append(element)
-        stack.append(element)
-
-    def refuse(*_):
-        raise Complaint(f"it isn't {what}: it has a document type")
-
-    def add(text):
-        stack[-1].text += text
-
-    parser.buffer_text = True
-    parser.StartElementHandler, parser.EndElementHandler = begin, lambda _: stack.pop()
-    parser.CharacterDataHandler, parser.StartDoctypeDeclHandler = add, refuse
-    try:
-        parser.Parse(data, True)
-    except expat.ExpatError as error:
-        raise Complaint(f"it isn't {what}: line {error.lineno}, column {error.offset + 1}: {expat.ErrorString(error.code)}") from error
-    except LookupError as error:
-        raise Complaint(f"it isn't {what}: {error}") from error
-    found = top.children[0]
-    if found.name != root:
-        raise Complaint(f"it isn't {what}: its root is {found.name}, not {root}")
-    return found
-
-
-def decimal(text, what):
-    text = text.strip()
-    if not NUMBER.fullmatch(text) or len(text) > 400 or abs(int((text.lower().partition("e")[2] or "0"))) > 400:
-        raise Complaint(f"{what} is {text[:40]!r}, which is no number that a server takes")
-    return fractions.Fraction(text)
-
-
-def bound(text, what):
-    return None if text.strip() in ("INF", "+INF", "-INF") else decimal(text, what)
-
-
-def count(text, what):
-    if not re.fullmatch(r"\s*\+?\d{1,18}\s*", text):
-        raise Complaint(f"{what} is {text[:40]!r}, which is no count")
-    return int(text)
-
-
-class Column:
-    """A variable, or the activity of a row: its name, its ends (none where there is none), whether it is whole, and whether it may be 0
-    besides."""
-
-    def __init__(self, name, low, high, whole=False, zero=False):
-        self.name, self.low, self.high, self.whole, self.zero = printable(name), low, high, whole, zero
-
-
-class Goal:
-    """An objective: its name, whether more is better, its constant, and its costs by the variables' numbers."""
-
-    def __init__(self, name="", maximise=False, constant=fractions.Fraction(0)):
-        self.name, self.maximise, self.constant, self.costs = printable(name), maximise, constant, {}
-
-    def change(self, step):
-        return sum((cost * step[j] for j, cost in self.costs.items()), fractions.Fraction(0))
-
-    def turned(self, value):
-        """The value as one of which less is better, without the constant."""
-        return self.constant - value if self.maximise else value - self.constant
-
-
-class Instance:
-    """An instance. Its columns are the variables and then the rows; a row's factors are by the variables' numbers. Without an objective it
-    has one that is 0."""
-
-    def __init__(self):
-        self.name, self.description = "", ""
-        self.variables, self.rows, self.goals, self.factors = [], [], [], []
-
-    # of the first objective
-    goal = property(lambda self: self.goals[0].name)
-    maximise = property(lambda self: self.goals[0].maximise)
-    constant = property(lambda self: self.goals[0].constant)
-    costs = property(lambda self: self.goals[0].costs)
-
-    def columns(self):
-        return self.variables + self.rows
-
-    def activity(self, row, point):
-        return sum((factor * point[j] for j, factor in self.factors[row].items()), fractions.Fraction(0))
-
-
-def repeated(element, length, most, what):
-    """How many an element stands for, where there are so many before it."""
-    times = count(element.attributes.get("mult", "1"), "a mult")
-    if length + times > most:
-        raise Complaint(f"it is too big: more than {most:,} {what}")
-    return times
-
-
-def read_variables(instance, parts):
-    for element in parts.all("var"):
-        name, kind = element.attributes.get("name", ""), element.attributes.get("type", "C")
-        low, high = bound(element.attributes.get("lb", "0"), "a lb"), bound(element.attributes.get("ub", "INF"), "a ub")
-        if kind == "B":
-            low = fractions.Fraction(0) if low is None else max(low, 0)
-            high = fractions.Fraction(1) if high is None else min(high, 1)
-        for k in range(repeated(element, len(instance.variables), MOST_COLUMNS, "variables")):
-            own = name and (f"{name}.{k}" if element.attributes.get("mult", "1").strip() != "1" else name)
-            instance.variables.append(Column(own or f"variable {len(instance.variables)}", low, high, kind in "BIJ", kind in "DJ"))
-
-
-def read_goals(instance, parts):
-    for element in parts.all("obj") if parts else []:
-        constant = decimal(element.attributes.get("constant", "0"), "the constant of the goal")
-        goal = Goal(element.attributes.get("name", ""), element.attributes.get("maxOrMin", "min") == "max", constant)
-        for coef in element.all("coef"):
-            column = count(coef.attributes.get("idx", ""), "an idx")
-            if column >= len(instance.variables):
-                raise Complaint(f"a cost is of variable {column}, and there are {len(instance.variables)}")
-            goal.costs[column] = goal.costs.get(column, 0) + decimal(coef.text, "a cost")
-        instance.goals += [goal] * repeated(element, len(instance.goals), MOST_GOALS, "objectives")
-    instance.goals = instance.goals or [Goal()]
-
-
-def read_rows(instance, parts):
-    for element in parts.all("con") if parts else []:
-        low, high = bound(element.attributes.get("lb", "-INF"), "a lb"), bound(element.attributes.get("ub", "INF"), "a ub")
-        name, constant = element.attributes.get("name", ""), decimal(element.attributes.get("constant", "0"), "the constant of a row")
-        for k in range(repeated(element, len(instance.rows), MOST_COLUMNS, "rows")):
-            own = name and (f"{name}.{k}" if element.attributes.get("mult", "1").strip() != "1" else name)
-            ends = [end if end is None else end - constant for end in (low, high)]
-            instance.rows.append(Column(own or f"row {len(instance.rows)}", *ends))
-            instance.factors.append({})
-
-
-def read_list(element, what):
-    """The numbers of a list of the matrix."""
-    numbers = []
-    for el in element.all("el"):
-        first, step = decimal(el.text, what), decimal(el.attributes.get("incr", "0"), "an incr")
-        times = repeated(el, len(numbers), MOST_VALUES + 1, "numbers in a list")
-        numbers += [first + k * step for k in range(times)]
-    return numbers
-
-
-def read_matrix(instance, parts):
-    if parts is None or not parts.children:
-        return
-    by_rows = parts.find("colIdx") is not None
-    lists = [parts.find(name) for name in ("start", "colIdx" if by_rows else "rowIdx", "value")]
-    if None in lists:
-        raise Complaint("its matrix lacks one of start, colIdx or rowIdx, and value")
-    starts, others, values = (read_list(element, f"a number of {element.name}") for element in lists)
-    lines = len(instance.rows if by_rows else instance.variables)
-    if len(starts) != lines + 1 or len(others) != len(values) or starts[0] != 0 or starts[-1] != len(values) or starts != sorted(starts):
-        raise Complaint("the lists of its matrix don't fit each other")
-    for line in range(lines):
-        for at in range(int(starts[line]), int(starts[line + 1])):
-            row, column = (line, int(others[at])) if by_rows else (int(others[at]), line)
-            if not (0 <= row < len(instance.rows) and 0 <= column < len(instance.variables)):
-                raise Complaint(f"its matrix has a number at row {row} and variable {column}, and there are none")
-            instance.factors[row][column] = instance.factors[row].get(column, 0) + values[at]
+def named(column, otherwise):
+    """Gives a variable, a row or an objective a name that can be shown: its own, or another one."""
+    column.name = printable(column.name) or otherwise
 
 
 def instance_of(path):
-    """The instance in a file."""
-    root = tree_of(read_bytes(path, MOST_DOCUMENT), "OSiL", "osil")
-    instance, data, header = Instance(), root.find("instanceData"), root.find("instanceHeader")
-    if data is None or data.find("variables") is None:
-        raise Complaint("it isn't OSiL: it has no instanceData with variables")
-    for name in ("name", "description"):
-        element = header.find(name) if header else None
-        setattr(instance, name, printable(" ".join(element.text.split())) if element else "")
-    read_variables(instance, data.find("variables"))
-    read_goals(instance, data.find("objectives"))
-    read_rows(instance, data.find("constraints"))
-    read_matrix(instance, data.find("linearConstraintCoefficients"))
+    """The instance in a file, each variable and row with a name."""
+    instance = read_instance(read_bytes(path, MOST_DOCUMENT))
+    instance.name, instance.description = printable(instance.name), printable(instance.description)
+    for k, column in enumerate(instance.variables):
+        named(column, f"variable {k}")
+    for k, column in enumerate(instance.rows):
+        named(column, f"row {k}")
+    for goal in instance.goals:
+        named(goal, "")
     return instance
 
 

@@ -6,25 +6,22 @@ file says that a program hasn't is a `Complaint`, and what it leaves open is a n
 
 import decimal
 import os
-import re
 import sys
 import tempfile
-from xml.sax.saxutils import escape, quoteattr
 
-MOST_COLUMNS = 1_000
-MOST_VALUES = 100_000
-MOST_DOCUMENT = 4_194_304
+sys.path.append(os.path.join(os.path.dirname(os.path.dirname(os.path.abspath(__file__))), "clients", "python"))
+
+from gubnatris.errors import NotInstance as Complaint  # why a file isn't what it should be, in one line
+from gubnatris.instances import NUMBER
+from gubnatris.limits import GREATEST, MOST_COLUMNS, MOST_DOCUMENT, MOST_VALUES
+from gubnatris.writing import NO_XML, GoalText, RowText, VariableText, osil_text
+
 MOST_FILE = 64_000_000
-GREATEST = 2**127 - 1
+INPUT = "-"  # in place of a file's name
 MOST_DIGITS, MOST_EXPONENT = 300, 10_000  # past these no number is within 128 bits, nor is it what anybody writes for infinity
-NUMBER = re.compile(r"[+-]?(?:\d+\.?\d*|\.\d+)(?:[eE][+-]?\d+)?")
 INFINITE = decimal.Decimal("1e20")  # CPLEX's CPX_INFBOUND: an end of this size is none
 # Numbers within 128 bits and their sums have far fewer digits, so nothing is rounded; if something were, it would be an exception.
 decimal.setcontext(decimal.Context(prec=400, traps=[decimal.Inexact, decimal.InvalidOperation]))
-
-
-class Complaint(Exception):
-    """Why a file isn't what it should be, in one line."""
 
 
 class Unread(Exception):
@@ -98,10 +95,14 @@ def total(left, right, where):
 
 
 class Variable:
-    """A variable: its ends, none where there is none, and whether it is whole."""
+    """A variable: its ends, none where there is none, whether it is whole, and whether it may be 0 besides them."""
 
     def __init__(self, name):
-        self.name, self.low, self.high, self.whole = name, decimal.Decimal(0), None, False
+        self.name, self.low, self.high, self.whole, self.zero = name, decimal.Decimal(0), None, False, False
+
+    def kind(self):
+        """Its type in OSiL."""
+        return ("J" if self.whole else "D") if self.zero else ("I" if self.whole else "C")
 
 
 class Row:
@@ -136,52 +137,22 @@ def plain(value):
     return "0" if text in ("-0", "") else text
 
 
-def end(value, infinite):
-    return infinite if value is None else plain(value)
+def plain_end(value):
+    return None if value is None else plain(value)
 
 
-def listed(name, numbers):
-    return f"<{name}>\n" + "".join(f"<el>{number}</el>\n" for number in numbers) + f"</{name}>\n"
-
-
-def named(name):
-    return f" name={quoteattr(name)}" if name else ""
-
-
-def variable_element(variable):
-    kind = "I" if variable.whole else "C"
-    return f'<var{named(variable.name)} type="{kind}" lb="{end(variable.low, "-INF")}" ub="{end(variable.high, "INF")}"/>\n'
-
-
-def matrix_element(rows):
-    """The matrix by rows, each row's variables in their order."""
-    starts, columns, values = [0], [], []
-    for row in rows:
-        used = sorted(column for column, factor in row.factors.items() if factor)
-        columns += used
-        values += [plain(row.factors[column]) for column in used]
-        starts.append(len(values))
-    lists = listed("start", starts) + listed("colIdx", columns) + listed("value", values) if values else ""
-    return f'<linearConstraintCoefficients numberOfValues="{len(values)}">\n{lists}</linearConstraintCoefficients>\n'
+def plain_terms(factors):
+    """Factors that aren't 0 by the variables' numbers, in their order."""
+    return [(column, plain(factor)) for column, factor in sorted(factors.items()) if factor]
 
 
 def osil(program):
     """The OSiL document of a program (`docs/rules/instances.md`)."""
     program.find_too_big()
-    costs = [(column, cost) for column, cost in sorted(program.costs.items()) if cost]
-    constant = f' constant="{plain(program.constant)}"' if program.constant else ""
-    sense = "max" if program.maximise else "min"
-    rows = "".join(f'<con{named(row.name)} lb="{end(row.low, "-INF")}" ub="{end(row.high, "INF")}"/>\n' for row in program.rows)
-    text = (
-        '<?xml version="1.0" encoding="UTF-8"?>\n<osil xmlns="os.optimizationservices.org">\n'
-        f"<instanceHeader><name>{escape(program.name)}</name></instanceHeader>\n<instanceData>\n"
-        f'<variables numberOfVariables="{len(program.variables)}">\n{"".join(map(variable_element, program.variables))}</variables>\n'
-        f'<objectives numberOfObjectives="1">\n<obj maxOrMin="{sense}"{named(program.goal)}{constant} numberOfObjCoef="{len(costs)}">\n'
-        + "".join(f'<coef idx="{column}">{plain(cost)}</coef>\n' for column, cost in costs)
-        + f'</obj>\n</objectives>\n<constraints numberOfConstraints="{len(program.rows)}">\n{rows}</constraints>\n'
-        + matrix_element(program.rows)
-        + "</instanceData>\n</osil>\n"
-    )
+    variables = [VariableText(it.name, it.kind(), plain_end(it.low), plain_end(it.high)) for it in program.variables]
+    goal = GoalText(program.goal, program.maximise, plain(program.constant), plain_terms(program.costs))
+    rows = [RowText(row.name, plain_end(row.low), plain_end(row.high), plain_terms(row.factors)) for row in program.rows]
+    text = osil_text(program.name, variables, [goal], rows)
     size = len(text.encode())
     if size > MOST_DOCUMENT:
         raise Complaint(f"it is too big: its OSiL has {size:,} bytes, and {MOST_DOCUMENT:,} are the most; shorter names help")
@@ -189,9 +160,9 @@ def osil(program):
 
 
 def read_bytes(path, most=MOST_FILE):
-    """The bytes of a file of at most so many."""
+    """The bytes of a file of at most so many; `-` is the standard input."""
     try:
-        with open(path, "rb") as it:
+        with open(sys.stdin.fileno() if path == INPUT else path, "rb", closefd=path != INPUT) as it:
             data = it.read(most + 1)
     except OSError as error:
         raise Unread(f"{path}: can't be read: {error.strerror.lower()}") from error
@@ -207,7 +178,7 @@ def read_text(path):
         text = data.decode()
     except UnicodeDecodeError as error:
         raise Complaint(f"it is no text: byte {error.start + 1} isn't UTF-8") from error
-    bad = re.search("[^\t\n\r\x20-\ud7ff\ue000-\ufffd\U00010000-\U0010ffff]", text)
+    bad = NO_XML.search(text)
     if bad:
         raise Complaint(f"it is no text: line {text.count(chr(10), 0, bad.start()) + 1} has the character U+{ord(bad.group()):04X}")
     return text.removeprefix("\ufeff")
@@ -274,7 +245,7 @@ def convert(tool, read, usage, flags):
 
     def work():
         program = read(read_text(words[0]), given)
-        program.name = program.name or os.path.basename(words[0]).split(".")[0]
+        program.name = program.name or ("input" if words[0] == INPUT else os.path.basename(words[0]).split(".")[0])
         write_whole(osil(program), words[1] if len(words) == 2 else None)
         for note in program.notes:
             say(tool, f"note: {words[0]}: {note}")

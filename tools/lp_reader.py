@@ -24,8 +24,9 @@ HEADS = [
         ("bounds", ["bounds", "bound"]),
         ("whole", ["generals", "general", "gen", "integers", "integer", "int"]),
         ("binary", ["binaries", "binary", "bin"]),
+        ("semi", ["semi-continuous", "semis", "semi"]),
         ("end", ["end"]),
-        ("", ["semi-continuous", "semis", "semi", "sos", "sos1", "sos2", "lazy constraints", "user cuts", "pwlobj", "general constraints",
+        ("", ["sos", "sos1", "sos2", "lazy constraints", "user cuts", "pwlobj", "general constraints",
               "multi-objectives", "scenario"]),
     )
     for words in forms
@@ -259,6 +260,10 @@ class Reader:
             variable = self.variable(name)
             variable.whole, variable.low, variable.high = True, lp.decimal.Decimal(0), lp.decimal.Decimal(1)
 
+    def semi(self, tokens):
+        for name in self.names(tokens):
+            self.variable(name).zero = True
+
     def names(self, tokens):
         while tokens.kind():
             if tokens.kind() != "name":
@@ -289,7 +294,7 @@ def read(text, _):
     if {"min", "max", "rows"} & set(kinds[2:]):
         raise Complaint("it has a second goal, or Subject To twice")
     reader.program.maximise = kinds[0] == "max"
-    take = {"min": reader.goal, "max": reader.goal, "rows": reader.rows, "bounds": reader.bounds, "whole": reader.whole, "binary": reader.binary}
+    take = {"min": reader.goal, "max": reader.goal, "rows": reader.rows, "bounds": reader.bounds, "whole": reader.whole, "binary": reader.binary, "semi": reader.semi}  # fmt: skip
     for section, tokens in sections:
         if section != "end":
             take[section](Tokens(tokens))

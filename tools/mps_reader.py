@@ -12,7 +12,7 @@ LAST = 72  # sequence numbers stand behind it
 SECTIONS = ("NAME", "OBJSENSE", "OBJNAME", "ROWS", "COLUMNS", "RHS", "RANGES", "BOUNDS", "ENDATA")
 SENSES = {"MAX": True, "MAXIMIZE": True, "MAXIMISE": True, "MIN": False, "MINIMIZE": False, "MINIMISE": False}
 ENDLESS = ("FR", "MI", "PL", "BV")
-BOUNDED = ("LO", "UP", "FX", "LI", "UI")
+BOUNDED = ("LO", "UP", "FX", "LI", "UI", "SC", "SI")
 
 
 def fixed_fields(line, where):
@@ -186,8 +186,6 @@ class Reader:
 
     def bound(self, line):
         kind, name, column, text = self.bound_fields(line)
-        if kind in ("SC", "SI"):
-            raise Complaint(f"{self.where}: {kind} makes {column} semi-continuous, which a linear program hasn't; a 0-1 variable can say it")
         if kind not in ENDLESS + BOUNDED:
             raise Complaint(f"{self.where}: {kind or 'nothing'} is no kind of bound; those read are {', '.join(BOUNDED + ENDLESS)}")
         if column not in self.columns:
@@ -198,14 +196,14 @@ class Reader:
             self.set_ends(kind, variable, lp.end_number(text, self.where) if kind in BOUNDED else None)
 
     def set_ends(self, kind, variable, value):
-        if kind in ("BV", "LI", "UI"):
-            variable.whole = True
+        variable.whole |= kind in ("BV", "LI", "UI", "SI")
+        variable.zero |= kind in ("SC", "SI")
         if kind == "BV":
             variable.low, variable.high = lp.decimal.Decimal(0), lp.decimal.Decimal(1)
         if kind in ("LO", "LI", "FX", "FR", "MI"):
             variable.low = None if value is None else lp.lower_end(value, self.where)
             self.low_said.add(variable.name)
-        if kind in ("UP", "UI", "FX", "FR", "PL"):
+        if kind in ("UP", "UI", "FX", "FR", "PL", "SC", "SI"):
             variable.high = None if value is None else lp.upper_end(value, self.where)
 
     # The whole
@@ -251,6 +249,9 @@ class Reader:
         if constant:
             lp.fitted(constant, "the constant of the goal")
             program.constant = constant if self.is_glpk else -constant
+        others = [name for name, kind in self.kinds.items() if kind == "N" and name != self.goal]
+        if others:
+            program.notes.append(f"rows of the kind N that aren't the goal {self.goal} restrict nothing and are left out: {', '.join(others)}")
         for section, count in self.passed_over.items():
             program.notes.append(f"lines of {section} that are of other sets than {self.sets[section] or 'that without a name'} were passed over: {count}")
         return program

@@ -14,6 +14,8 @@ failed=0
 mkdir -p tools docs bin
 cp "$top/os" "$top/crates.txt" "$top/HANDLES" .
 cp "$top/tools/os_words.sh" "$top/tools/os_build.sh" tools
+cp "$top/tools/os_files.sh" "$top"/tools/*_to_osil "$top/tools/show_result" "$top"/tools/*.py tools
+mkdir clients && cp -R "$top/clients/python" clients
 cp "$top/docs/commands.txt" "$top/docs/WORKING.md" docs
 for name in $(sed -n 's/^\([a-z][a-z0-9_]*\):.*/\1/p' crates.txt); do
     mkdir -p "crates/$name/src"
@@ -65,6 +67,16 @@ says_no_command() {
     expect "first line of: $*" "$(head -n 1 err)" "$line"
 }
 
+# LINE WORDS..: a call for help gets it on the output, and status 0, whether the program is built or not.
+says_help() {
+    line=$1
+    shift
+    ./os "$@" >out 2>err </dev/null
+    expect "status of: $*" $? 0
+    expect "first line of: $*" "$(head -n 1 out)" "$line"
+    expect "lines beside: $*" "$(cat err)" ''
+}
+
 # Runs a command line at a terminal of its own, whose keys are this function's input, and prints what was seen there.
 at_terminal() {
     TERM=xterm script -qec "$1" /dev/null | tr -d '\r'
@@ -81,20 +93,43 @@ has() {
 expect "the usage is the program's" "$(sed -n 's/^const USAGE.*b"\(.*\)\\n";$/\1/p' "$top"/crates/command_line/src/*.rt)" "$usage"
 expect "the README's tables" "$(sh "$top/tools/commands_table.sh" --check)" ''
 
+# ---- completion
+
+sh "$top/tools/completions.sh" bash >complete.bash
+sh "$top/tools/completions.sh" zsh >complete.zsh
+# WORDS..: what bash completes the last of these words to.
+completed() {
+    bash -c '. "$0" && COMP_WORDS=("$@") COMP_CWORD=$(($# - 1)) && _gubnatris && echo "${COMPREPLY[*]}"' "$room/complete.bash" "$@"
+}
+expect 'completion of a command' "$(completed ./os se)" 'serve session'
+expect 'completion of a flag' "$(completed ./os solve a.lp --s)" '--safe'
+expect 'completion of a flag that stands alone' "$(completed ./os solve --o)" '--options --osrl'
+expect 'completion of a call' "$(completed ./os call k)" 'knock kill'
+expect 'completion of a file' "$(completed ./os check crates.t)" 'crates.txt'
+expect 'completion of help' "$(completed ./os help g)" 'generate'
+if command -v zsh >/dev/null; then
+    told=$(zsh -fc 'words=(os solve --s) CURRENT=3 PREFIX=--s; compadd() { echo "$@" }; _files() { echo files }; . "$1"' zsh "$room/complete.zsh" 2>&1)
+    expect 'what zsh completes' "$told" '-- --options --safe --free --max --glpk --osrl'
+fi
+
 # ---- before the program is built
 
 all='./os solve OSIL [--options OSOL] [--safe]'
 says_no_command "$all"
-says_no_command "$all" help
-says_no_command "$all" --help
-says_no_command './os check OSIL OSRL' help check
-says_no_command 'os: there is no command fly' help fly
+says_help "$all" help
+says_help "$all" --help
+says_help "$all" -h
+says_help './os check OSIL OSRL' help check
+says_help './os check OSIL OSRL' --help check
+says_help './os check OSIL OSRL' check --help
+says_help './os check OSIL OSRL' check there -h
+says_no_command 'os: there is no command fly; ./os help lists those that there are' help fly
 says_no_command 'os: there is no command fly; ./os help lists those that there are' fly away
 says_no_command 'os: there is no command -x; ./os help lists those that there are' -x
 for command in $(sed -n 's/^command //p' docs/commands.txt); do
-    ./os help "$command" >/dev/null 2>err
+    ./os help "$command" >out 2>err
     for part in takes gives ends example; do
-        expect "help $command has $part" "$(grep -c "^$part " err)" 1
+        expect "help $command has $part" "$(grep -c "^$part " out)" 1
     done
 done
 if [ -e /dev/full ]; then
@@ -102,6 +137,27 @@ if [ -e /dev/full ]; then
     expect 'status of a usage that no one takes' $? 4
     expect 'line of a usage that no one takes' "$(cat err)" "os: the output couldn't be written; see that there is room and that whoever reads it is still there"
 fi
+./os version >out 2>err
+expect 'status of version' $? 0
+expect 'what version says' "$(sed 's/ [0-9.]*$/ N/' out | tr '\n' ' '; cat err)" 'gubnatris N program not built of these sources yet '
+# FILE TEXT HINT WORDS..: of a file with this text, named in these words as FILE, this is hinted before anything is built.
+hints() {
+    file=$1 line=$3
+    printf '%s' "$2" >"$file"
+    shift 3
+    PATH=/bin:/usr/bin ./os "$@" >out 2>err
+    expect "hint of: $*" "$(sed '$d' err)" "${line:+os: $file $line}"
+}
+hints a.lp 'max' "is in CPLEX's LP format; tools/lp_to_osil a.lp NEW.osil turns it into OSiL" check a.lp r.osrl
+hints a.mps 'NAME' 'is MPS; tools/mps_to_osil a.mps NEW.osil turns it into OSiL, and with --free free MPS' call solve a 80 --osil a.mps
+hints a.nl 'g3 1 1 0' "is AMPL's; clients/ampl/gubnatris_ampl a.nl solves it" solve a.nl
+hints a.mod 'var x;' 'is in GNU MathProg; glpsol --check --math a.mod --wlp NEW.lp makes a file of it that ./os solve takes' solve a.mod
+hints a.mzn 'var int: x;' "is MiniZinc's; clients/minizinc/README.md says how minizinc solves it" solve a.mzn --safe
+hints r.osrl '<?xml version="1.0"?><x:osrl xmlns:x="y">' 'is a result (OSrL), and an instance (OSiL) should stand there; tools/show_result OSIL r.osrl shows it' solve r.osrl
+hints o.osol '<osol/>' 'has options (OSoL), and an instance (OSiL) should stand there; options come behind --options, or --osol of call' solve o.osol
+hints i.osil '<osil><a/>' 'is an instance (OSiL), and options (OSoL) should stand there' solve there --options i.osil
+hints i.osil '<osil><a/>' 'is an instance (OSiL), and a result (OSrL) should stand there' check there i.osil
+hints other 'anything' '' solve other
 PATH=/bin:/usr/bin ./os generate 1 >out 2>err
 expect 'status without rt' $? 1
 expect 'line without rt' "$(cat out err)" "os: not built: the toolchain's command rt isn't on the PATH; README.md names the toolchain"
@@ -266,6 +322,34 @@ wait $! 2>/dev/null
 expect 'status of a program that was killed' $? 137
 expect 'line of a program that was killed' "$(cat err)" 'os: the program was killed (signal 9), as the system does where memory is short; end other programs, or give a smaller instance'
 
+# ---- planners' files
+
+diet="$top/examples/diet.lp"
+STUB_TEXT=$(cat "$top/examples/diet.osrl") ./os solve "$diet" >out 2>err
+expect 'status of a converted file' $? 0
+expect 'output of a converted file' "$(cat out err)" "$(cat "$top/examples/diet.osrl")"
+seen=$(STUB_TEXT=$(cat "$top/examples/diet.osrl") at_terminal "./os solve --safe '$diet'; echo status \$?" </dev/null)
+expect 'a converted file at a terminal' "$(has 'The least cost is 2.007272727272.., exactly 552/275.' "$seen") $(has 'status 0' "$seen")" 'yes yes'
+seen=$(STUB_TEXT=document at_terminal "./os solve '$diet' --osrl" </dev/null)
+expect 'a converted file at a terminal, with --osrl' "$seen" document
+printf 'NAME t\nROWS\n N c\n L r\nCOLUMNS\n x c 1 r 1\nENDATA\n' >free.mps
+STUB_TEXT=document ./os solve free.mps --free --max >out 2>err
+expect 'a file of free MPS' "$(cat out err)" document
+./os solve free.mps >out 2>err
+expect 'status of a file that is refused' $? 1
+expect 'line of a file that is refused' "$(has 'is it free MPS? then give --free' "$(cat out err)")" yes
+mkdir rooms2
+TMPDIR=$room/rooms2 STUB_HANGS=yes ./os solve "$diet" >out 2>err &
+for _ in $(seq 300); do
+    [ -z "$(ls rooms2)" ] || break
+    sleep 0.1
+done
+sleep 2
+kill -TERM $!
+wait $! 2>/dev/null
+expect 'status of a converted file that is interrupted' $? 143
+expect 'what is left of converted files' "$(ls rooms2)" ''
+
 # ---- input, signals and the time of a search
 
 expect 'the input is handed on' "$(printf 'a request' | ./os session)" 'a request'
@@ -292,5 +376,5 @@ expect 'a short search at a terminal' "$seen" document
 STUB_SECONDS=3 STUB_TEXT=document ./os solve there >out 2>err
 expect 'a long search elsewhere' "$(cat out err)" document
 
-echo "os_lines: $((tried - failed)) of $tried as expected"
+echo "$((tried - failed)) passed, $failed failed"
 [ "$failed" -eq 0 ]

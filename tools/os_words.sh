@@ -1,6 +1,6 @@
 # shellcheck shell=sh disable=SC2154
-# Read by ./os: what it says of commands and statuses. All of it goes to the standard error, but for the usage where the words are no
-# command's, which is the program's own.
+# Read by ./os: what it says of commands and statuses. All of it goes to the standard error, but for help that is asked for, the version, and
+# the usage where the words are no command's, which is the program's own.
 
 say() {
     printf 'os: %s\n' "$1" >&2
@@ -21,7 +21,7 @@ help_on_all() {
         $1 == "words" { print "./os " line }
         $1 == "does" { print "    " line }
         END { print "./os help COMMAND says what a command takes, gives and ends with." }
-    ' "$commands" >&2
+    ' "$commands"
 }
 
 help_on() {
@@ -41,25 +41,66 @@ help_on() {
         $1 == "words" { print "./os " line; next }
         $1 == "does" { print "    " line; next }
         NF { put($1 == before ? "" : $1, line); before = $1 }
-    ' "$commands" >&2
+    ' "$commands"
 }
 
-# Words that begin with no command get what the program answers, which need not be built for it: the usage, and status 2.
+# Whether a command's words ask what the command is, in place of running it.
+asks_help() {
+    for word; do
+        case $word in
+            --) return 1 ;;
+            -h | --help) return 0 ;;
+        esac
+    done
+    return 1
+}
+
+# What the sources are, and whether the program is built of them. The number is that of the package of the Python client.
+tell_version() {
+    echo "gubnatris $(sed -n 's/^version = "\(.*\)"$/\1/p' "$here/clients/python/pyproject.toml")"
+    commit=$(git -C "$here" rev-parse --short=10 HEAD 2>/dev/null) || commit=
+    [ -z "$commit" ] || echo "commit $commit$([ -z "$(git -C "$here" status --porcelain 2>/dev/null)" ] || echo ', with changes')"
+    if is_built; then echo "program built of these sources"; else echo "program not built of these sources yet"; fi
+}
+
+# What needs no program: help and the version, on the output.
+answer_at_once() {
+    case $1 in
+        help)
+            if is_command "${2-}"; then
+                help_on "$2"
+            elif [ $# -lt 2 ]; then
+                help_on_all
+            else
+                answer_no_command "$2"
+            fi
+            ;;
+        version) tell_version ;;
+        *)
+            shown=$1
+            shift
+            asks_help "$@" || return 0
+            help_on "$shown"
+            ;;
+    esac
+    exit 0
+}
+
+# Words that begin with no command get what the program answers, which need not be built for it: the usage, and status 2; a call for help
+# gets help, on the output.
 answer_no_command() {
+    case ${1-} in
+        -h | --help)
+            shift
+            answer_at_once help "$@"
+            ;;
+    esac
     if ! sed -n 's/^usage //p' "$commands" 2>/dev/null; then
         explain 4
         exit 4
     fi
     case ${1-} in
-        '') help_on_all ;;
-        help | -h | --help)
-            if is_command "${2-}"; then
-                help_on "$2"
-            else
-                [ $# -lt 2 ] || say "there is no command $2"
-                help_on_all
-            fi
-            ;;
+        '') help_on_all >&2 ;;
         *) say "there is no command $1; ./os help lists those that there are" ;;
     esac
     exit 2
@@ -72,7 +113,7 @@ take_apart() {
     unset options osil osol ospl journal
     while [ $# -gt 0 ] && [ "$1" != -- ]; do
         case $1 in
-            --safe) ;;
+            --safe | --osrl | --free | --max | --glpk) ;;
             --*=*) keep_option "${1%%=*}" "${1#*=}" ;;
             --*)
                 keep_option "$1" "${2-}"

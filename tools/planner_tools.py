@@ -5,8 +5,11 @@ hand from the formats' references; `glpsol` reads the same files; its values, ac
 states of jobs are those that `os call knock` tells. Each bad input has to end with its status and one line, and to write nothing.
 """
 
+import csv
 import fcntl
+import fractions
 import html.parser
+import json
 import os
 import pty
 import re
@@ -46,6 +49,8 @@ CONVERTED = [
      [("OBJSENSE\n    MAXIMIZE\nOBJNAME\n profit\n", ""), (" N other\n", ""), (" other 5", ""), (" N third\n", ""), (" third 1", "")],
      {"row -1 and variable -1": "GLPK doesn't negate the constant"}),
     ("sections.lp", ["lp_to_osil"], None, [], {}),
+    ("semi.lp", ["lp_to_osil"], None, [], {}),
+    ("semi.fmps", ["mps_to_osil", "--free"], None, [], {}),
     ("plain.lp", ["lp_to_osil"], ["--lp"], [], {"x is from 0 to 1": "GLPK 5.0 keeps what was said before Binary; its manual (C.5) says that it is dropped"}),
 ]  # fmt: skip
 
@@ -87,7 +92,7 @@ def facts(instance):
     """What an instance says, one fact a line."""
 
     def ends(column):
-        return f"{'whole ' if column.whole else ''}{plain(column.low) or '-INF'} {plain(column.high) or 'INF'}"
+        return f"{'whole ' if column.whole else ''}{plain(column.low) or '-INF'} {plain(column.high) or 'INF'}{' or 0' if column.zero else ''}"
 
     variables, rows = instance.variables, instance.rows
     lines = [f"{'max' if instance.maximise else 'min'} {instance.goal} constant {plain(instance.constant)}"]
@@ -134,6 +139,34 @@ def try_examples(folder):
         check(made.stderr == "" and facts(job_documents.instance_of(f"{folder}/osil")) == wanted, file, made.stderr)
 
 
+def try_input():
+    """What comes on the standard input says what it says in a file, and rows of the kind N beyond the goal are told."""
+    for file, words in (("semi.fmps", ["mps_to_osil", "--free"]), ("semi.lp", ["lp_to_osil"])):
+        with open(f"{CASES}/{file}", encoding="utf-8") as it:
+            made = ran([sys.executable, f"{TOOLS}/{words[0]}", *words[1:], "-"], stdin=it)
+        wanted = tool(words[0], *words[1:], f"{CASES}/{file}")
+        check(made.stdout.replace("<name>input</name>", "<name>semi</name>") == wanted.stdout and made.returncode == 0, f"{file} as input", made.stderr)
+    made = tool("mps_to_osil", "--free", f"{CASES}/semi.fmps")
+    check(is_one_line(made.stderr, "mps_to_osil", "aren't the goal c restrict nothing and are left out: other"), "a second row of the kind N", made.stderr)
+
+
+def try_data():
+    """JSON and CSV of the examples have the exact numbers that stand in their certificates."""
+    for name, status, wanted in (("diet", "optimal", "552/275"), ("transport", "optimal", "6147/40"), ("cutting_stock", "bestSoFar", "453"), ("infeasible_schedule", "infeasible", None)):
+        files = [f"{TOOLS}/../examples/{name}.{end}" for end in ("osil", "osrl")]
+        found, lines = json.loads(tool("show_result", *files, "--json").stdout), list(csv.reader(tool("show_result", *files, "--csv").stdout.splitlines()))
+        instance = job_documents.instance_of(files[0])
+        check((found["status"], found["objectives"][0]["exactly"]) == (status, wanted), f"JSON of {name}", str(found["objectives"]))
+        check(len({len(line) for line in lines}) == 1 and lines[1][3] == (wanted or ""), f"CSV of {name}", str(lines[:2]))
+        if wanted:
+            names, point = [line["name"] for line in found["variables"]], [fractions.Fraction(line["exactly"]) for line in found["variables"]]
+            check(names == [column.name for column in instance.variables], f"names of {name}", str(names))
+            check(str(sum(cost * point[j] for j, cost in instance.costs.items()) + instance.constant) == wanted, f"point of {name}")
+            check([line[1] for line in lines[2:]] == names + [line["name"] for line in found["rows"]], f"lines of {name}")
+    diet = json.loads(tool("show_result", *(f"{TOOLS}/../examples/diet.{end}" for end in ("osil", "osrl")), "--json").stdout)
+    check(diet["rows"][0]["multiplier"]["exactly"] == "3/2750", "a dual as JSON")  # as GLPK finds: 0.00109091
+
+
 def try_published():
     """Optima that stand in the comments of GLPK's own MPS files, from the books that these programs come from."""
     with tempfile.TemporaryDirectory() as folder:
@@ -161,7 +194,7 @@ REFUSED = [
     ("data before a section", "mps_to_osil", " N c\n", "line 1 stands in no section"),
     ("cut short", "mps_to_osil --free", mps("").replace("ENDATA\n", ""), "ends without ENDATA"),
     ("no columns", "mps_to_osil --free", "NAME\nROWS\n N c\nENDATA\n", "no ROWS or no COLUMNS"),
-    ("semi-continuous", "mps_to_osil --free", mps("BOUNDS\n SC B x 5\n"), "line 8: SC makes x semi-continuous"),
+    ("semi-continuous without an end", "mps_to_osil --free", mps("BOUNDS\n SC B x\n"), "line 8: there is no variable B"),
     ("bound of no kind", "mps_to_osil --free", mps("BOUNDS\n XX B x 5\n"), "line 8: XX is no kind of bound"),
     ("bound of nobody", "mps_to_osil --free", mps("BOUNDS\n UP B y 5\n"), "line 8: there is no variable y"),
     ("quadratic", "mps_to_osil --free", mps("QUADOBJ\n x x 5\n"), "line 7: the section QUADOBJ isn't read"),
@@ -202,7 +235,7 @@ REFUSED = [
     ("quadratic LP", "lp_to_osil", "min\n x + [ x ^ 2 ] / 2\nst\n c: x >= 1\nend\n", "line 2: [ begins what isn't linear"),
     ("product", "lp_to_osil", "min\n 3 * x\nst\n c: x >= 1\nend\n", "line 2: * begins what isn't linear"),
     ("indicator", "lp_to_osil", "min\n x\nst\n c: b = 1 -> x >= 1\nend\n", "line 4: an indicator (->)"),
-    ("semi LP", "lp_to_osil", "min\n x\nst\n c: x >= 1\nSemi-Continuous\n x\nend\n", "line 5: the section semi-continuous isn't read"),
+    ("semi LP", "lp_to_osil", "min\n x\nst\n c: x >= 1\nSemi-Continuous\n x <= 4\nend\n", "line 6: names of variables stand there, and here is '<='"),
     ("lazy", "lp_to_osil", "min\n x\nst\n c: x >= 1\nLazy Constraints\n d: x >= 2\nend\n", "line 5: the section lazy constraints isn't read"),
     ("sets LP", "lp_to_osil", "min\n x\nst\n c: x >= 1\nSOS\n s: S1:: x:1\nend\n", "line 5: the section sos isn't read"),
     ("no relation", "lp_to_osil", "min\n x\nst\n c: x + 2 y\nend\n", "line 4: <=, >= or = should stand there, and here is the end"),
@@ -564,9 +597,11 @@ def main():
     for case in CONVERTED:
         with tempfile.TemporaryDirectory() as folder:
             try_case(folder, *case)
+    try_input()
+    try_data()
     try_published()
     try_other_servers()
-    print("\n".join(failures) or f"{tried[0]} checks of the planners' tools as the references, GLPK and the rules say")
+    print("\n".join([*failures, f"{tried[0] - len(failures)} passed, {len(failures)} failed"]))
     return bool(failures)
 
 

@@ -63,6 +63,11 @@ def only_leaf(instance, result):
     return dict(result.nodes[0].multipliers) if is_leaf and result.claim == "optimal" else None
 
 
+def in_own_sense(instance, multiplier):
+    """A multiplier of the minimising form as by how much the objective itself changes for one more of the end."""
+    return None if multiplier is None else -multiplier if instance.maximise else multiplier
+
+
 def goal_word(instance, k):
     """What an objective is called."""
     return instance.goals[k].name or ("value" if len(instance.goals) == 1 else f"value of objective {k + 1}")
@@ -123,28 +128,29 @@ def sentences(instance, result):
 
 
 def variables_table(instance, result):
-    """The variables with their values, their ends, and of one leaf their multipliers."""
+    """The variables with their values, their ends, and of one leaf their reduced costs."""
     leaf, rows = only_leaf(instance, result) or {}, []
     for j, (column, value) in enumerate(zip(instance.variables, result.point)):
         row = [column.name, shown(value), exact(value)]
         row += [shown(result.ray[j])] if result.ray else []
         row += [ends(column), at_end(column, value)]
-        row += [shown(leaf.get(j)), exact(leaf.get(j))] if leaf else []
+        cost = in_own_sense(instance, leaf.get(j))
+        row += [shown(cost), exact(cost)] if leaf else []
         rows.append(row)
-    head = ["variable", "value", "exactly", *["direction"] * bool(result.ray), "between", "at its end", *["multiplier", "exactly"] * bool(leaf)]
-    return Table("Variables", head, rows, ("value", "direction", "multiplier"))
+    head = ["variable", "value", "exactly", *["direction"] * bool(result.ray), "between", "at its end", *["reduced cost", "exactly"] * bool(leaf)]
+    return Table("Variables", head, rows, ("value", "direction", "reduced cost"))
 
 
 def binding_table(instance, result):
-    """The rows that stand at one of their ends, with their multipliers where the certificate is one leaf."""
+    """The rows that stand at one of their ends, with their duals where the certificate is one leaf."""
     leaf, rows, count = only_leaf(instance, result) or {}, [], len(instance.variables)
     for i, column in enumerate(instance.rows):
         value = instance.activity(i, result.point)
         if at_end(column, value):
-            multiplier = leaf.get(count + i)
-            rows.append([column.name, shown(value), ends(column), at_end(column, value)] + [shown(multiplier), exact(multiplier)] * bool(leaf))
-    head = ["row", "value", "between", "at its end"] + ["multiplier", "exactly"] * bool(leaf)
-    return Table(f"Rows that bind: {len(rows)} of {len(instance.rows)}", head, rows, ("value", "multiplier"))
+            dual = in_own_sense(instance, leaf.get(count + i))
+            rows.append([column.name, shown(value), ends(column), at_end(column, value)] + [shown(dual), exact(dual)] * bool(leaf))
+    head = ["row", "value", "between", "at its end"] + ["dual", "exactly"] * bool(leaf)
+    return Table(f"Rows that bind: {len(rows)} of {len(instance.rows)}", head, rows, ("value", "dual"))
 
 
 def conflict_table(instance, result):
@@ -187,12 +193,13 @@ def notes(instance, result):
     """How to read the tables."""
     lines = []
     if result.claim == "optimal" and only_leaf(instance, result):
-        change = "its multiplier" if not instance.maximise else "its multiplier with the other sign"
-        lines.append(f"While the same ends bind, an end that is raised by one changes {instance.goal or 'the value'} by {change}.")
+        goal = f"the {'greatest' if instance.maximise else 'least'} {goal_word(instance, 0)}"
+        lines.append(f"A dual is by how much {goal} changes where the end at which its row stands is raised by one, while the same ends bind; a reduced")
+        lines.append("cost is that of a variable's end. How far an end may be raised so isn't told.")
     if result.rounds:
         lines.append(f"Rows that were rounded: {len(result.rounds)}; each holds at every feasible point.")
     if result.claim == "optimal" and len(result.nodes) > 1:
-        lines.append("The proof has cases, and each its own multipliers, so none stand in the tables.")
+        lines.append("The proof has cases, and each its own multipliers, so there are no duals and no reduced costs.")
     if result.claim == "infeasible" and len(result.nodes) == 1 and result.nodes[0].kind == "farkas":
         total = low_sum(columns_at(instance, result, 0), result.nodes[0].multipliers)
         if total is not None:

@@ -454,8 +454,8 @@ class Served(unittest.TestCase):
 
 
     def test_what_is_shown_comes(self):
-        for name in ("gubnatris.py", "README.md"):
-            text = Path(__file__).with_name(name).read_text(encoding="utf-8").replace("127.0.0.1:8080", f"127.0.0.1:{self.port}")
+        for name in ("gubnatris/__init__.py", "README.md"):
+            text = Path(__file__).parent.joinpath(name).read_text(encoding="utf-8").replace("127.0.0.1:8080", f"127.0.0.1:{self.port}")
             shown = doctest.DocTestParser().get_doctest(text.replace('"examples/', f'"{ROOT}/examples/'), {}, name, name, 0)
             told = doctest.DocTestRunner(verbose=False).run(shown)
             self.assertGreater(told.attempted, 4)

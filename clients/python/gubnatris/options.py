@@ -1,0 +1,32 @@
+"""The options of a search: an OSoL document (`docs/rules/options.md`)."""
+
+from __future__ import annotations
+
+from typing import Optional
+from xml.sax.saxutils import escape, quoteattr
+
+from .errors import NotOffered
+
+MOST_NODES, MOST_TURNS = 1_000_000, 100_000_000  # what an option may set at most
+
+
+def options_text(
+    job: Optional[str] = None, node_limit: Optional[int] = None, turn_limit: Optional[int] = None, rounds: Optional[int] = None
+) -> str:
+    """The options, or the empty text where there are none."""
+    named = f"<general><jobID>{escape(job)}</jobID></general>" if job is not None else ""
+    limits = [("nodeLimit", node_limit), ("pivotLimit", turn_limit), ("rounds", rounds)]
+    set_ones = "".join(f"<solverOption name={quoteattr(name)} value={quoteattr(str(limit))}/>" for name, limit in limits if limit is not None)
+    limited = f"<optimization><solverOptions>{set_ones}</solverOptions></optimization>" if set_ones else ""
+    return f'<osol xmlns="os.optimizationservices.org">{named}{limited}</osol>' if named or limited else ""
+
+
+def find_not_offered(gap: object, fast: bool, start: object) -> None:
+    """Raises `NotOffered` where an option is asked for that this version doesn't have."""
+    for name, is_asked, instead in (
+        ("gap", gap is not None, "each optimum is exact; `seconds` or `node_limit` end a search sooner"),
+        ("fast", fast, "each answer is computed in exact fractions"),
+        ("start", start is not None, "a search begins without a first point"),
+    ):
+        if is_asked:
+            raise NotOffered(f"this version has no option {name}: {instead}")

@@ -1,0 +1,159 @@
+"""The program on this machine: it solves and checks without a server."""
+
+from __future__ import annotations
+
+import contextlib
+import os
+import shutil
+import socket
+import subprocess
+import tempfile
+from pathlib import Path
+from typing import Iterator, Optional, Union
+
+from .errors import NoProgram, NotReached, ProgramFailed
+from .options import find_not_offered, options_text
+from .results import Result, read_of_job
+from .server import Server
+from .sources import Given, Source, source_of
+
+STATUSES = {
+    2: "it doesn't know the words that it was given, so it is another program, or another version",
+    3: "it couldn't read a file",
+    4: "it couldn't write its answer",
+    5: "there was no memory",
+}
+ENDS_WITHIN = 5.0  # seconds that a program has to end by itself
+PORTS_TRIED = 5
+
+
+class Program:
+    """The program on this machine.
+
+    `path`: where it is. Without one it is the one that the environment names (`OS_PROGRAM`), else `./os` of the checkout that this package
+    stands in, else `gubnatris` or `os_main` on the `PATH`. Raises `NoProgram` where there is none.
+    """
+
+    def __init__(self, path: Union[str, Path, None] = None):
+        self.path = _found(path)
+
+    def solve(
+        self,
+        instance: Given,
+        *,
+        node_limit: Optional[int] = None,
+        turn_limit: Optional[int] = None,
+        rounds: Optional[int] = None,
+        seconds: Optional[float] = None,
+        gap: object = None,
+        fast: bool = False,
+        start: object = None,
+    ) -> Result:
+        """Solves an instance. The options are those of `Server.solve`.
+
+        With `seconds` the search runs behind a server of its own on a port of this machine, which is asked to stop when they are over, so
+        that what it has found by then isn't lost. Raises `Refused` where the instance or a limit is, and `ProgramFailed`.
+        """
+        find_not_offered(gap, fast, start)
+        source = source_of(instance)
+        if seconds is not None:
+            with self._serving() as server:
+                return server.solve(instance, node_limit=node_limit, turn_limit=turn_limit, rounds=rounds, seconds=seconds)
+        return self._solve(source, options_text(None, node_limit, turn_limit, rounds))
+
+    def check(self, instance: Given, document: str) -> str:
+        """What the checker says of a result document: `accepted` and the kind of claim, or `refused` and the first reason."""
+        with _files(osil=source_of(instance).text, osrl=document) as folder:
+            return self._ran("check", f"{folder}/osil", f"{folder}/osrl").strip()
+
+    def _solve(self, source: Source, options: str) -> Result:
+        with _files(osil=source.text, osol=options) as folder:
+            return read_of_job(self._ran("solve", f"{folder}/osil", *(["--options", f"{folder}/osol"] if options else [])), "the job", source)
+
+    def _ran(self, *words: str) -> str:
+        """What the program writes. It is ended where this is interrupted."""
+        with self._begun(*words, errors=subprocess.PIPE) as process:
+            out, err = process.communicate()
+        if process.returncode not in (0, 1) or not out:
+            raise self._failure(process.returncode, err.decode(errors="replace"))
+        return out.decode()
+
+    def _failure(self, status: int, told: str) -> ProgramFailed:
+        lines = told.strip().splitlines()
+        why = lines[-1] if lines else STATUSES.get(status, "it was killed" if status < 0 else "it isn't the program, or another version")
+        return ProgramFailed(f"{self.path} ended with status {status}: {why}", status)
+
+    @contextlib.contextmanager
+    def _begun(self, *words: str, errors: Optional[int] = None) -> Iterator[subprocess.Popen[bytes]]:
+        try:
+            process = subprocess.Popen([self.path, *words], stdin=subprocess.DEVNULL, stdout=subprocess.PIPE, stderr=errors)
+        except OSError as failure:
+            raise NoProgram(f"{self.path} can't be run: {failure.strerror}") from failure
+        try:
+            yield process
+        finally:
+            _end(process)
+
+    @contextlib.contextmanager
+    def _serving(self) -> Iterator[Server]:
+        """A server of one worker on a free port of this machine, for as long as it is used."""
+        for _ in range(PORTS_TRIED):
+            with socket.create_server(("127.0.0.1", 0)) as free:
+                port = free.getsockname()[1]
+            with self._begun("serve", "127.0.0.1", str(port), "--workers", "1", "--servers", "2") as process:
+                assert process.stdout is not None
+                if process.stdout.readline() == b"listening\n":
+                    yield Server(f"http://127.0.0.1:{port}")
+                    return
+        raise NotReached(f"{self.path} can't listen on a port of this machine")
+
+
+def solver(server: Optional[str] = None) -> Union[Server, Program]:
+    """What solves, as the environment says: the server that is named here or by `OS_SERVER`, else the program on this machine.
+
+    `OS_USER` and `OS_PASSWORD` are for a proxy that asks for them. Raises `ValueError` where the name is no URL.
+    """
+    url = server or os.environ.get("OS_SERVER")
+    if not url:
+        return Program()
+    return Server(url, user=os.environ.get("OS_USER"), password=os.environ.get("OS_PASSWORD", ""))
+
+
+def _found(path: Union[str, Path, None]) -> str:
+    named = str(path) if path is not None else os.environ.get("OS_PROGRAM")
+    if named:
+        found = shutil.which(named)
+        if not found:
+            raise NoProgram(f"{named} is no program that can be run")
+        return os.path.abspath(found)
+    checkout = Path(__file__).resolve().parents[3]
+    if (checkout / "crates.txt").is_file() and os.access(checkout / "os", os.X_OK):
+        return str(checkout / "os")
+    for name in ("gubnatris", "os_main"):
+        found = shutil.which(name)
+        if found:
+            return found
+    raise NoProgram("there is no program: set OS_PROGRAM to it, put gubnatris on the PATH, or name a server by OS_SERVER")
+
+
+@contextlib.contextmanager
+def _files(**texts: str) -> Iterator[str]:
+    """A folder with these texts, while it is used."""
+    with tempfile.TemporaryDirectory(prefix="gubnatris-") as folder:
+        for name, text in texts.items():
+            Path(folder, name).write_text(text, encoding="utf-8", newline="")
+        yield folder
+
+
+def _end(process: subprocess.Popen[bytes]) -> None:
+    """Ends a process that still runs, and what it wrote is dropped."""
+    if process.poll() is None:
+        process.terminate()
+        try:
+            process.wait(ENDS_WITHIN)
+        except subprocess.TimeoutExpired:
+            process.kill()
+            process.wait()
+    for stream in (process.stdout, process.stderr):
+        if stream:
+            stream.close()
