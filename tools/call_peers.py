@@ -234,7 +234,7 @@ def main():
         by_closed(answers)
         by_axis(answers)
         by_others(answers)
-    print("\n".join([*answers.wrong, f"{answers.right} answers as the rules give them, {len(answers.wrong)} others"]))
+    print("\n".join([*answers.wrong, f"answers as the rules give them:\n{answers.right} passed, {len(answers.wrong)} failed"]))
     return bool(answers.wrong)
 
 

@@ -295,5 +295,5 @@ expect 'a short search at a terminal' "$seen" document
 STUB_SECONDS=3 STUB_TEXT=document ./os solve there >out 2>err
 expect 'a long search elsewhere' "$(cat out err)" document
 
-echo "os_lines: $((tried - failed)) of $tried as expected"
+echo "$((tried - failed)) passed, $failed failed"
 [ "$failed" -eq 0 ]
