@@ -12,6 +12,7 @@ status=1 # of that process
 
 . "$here/tools/os_words.sh"
 . "$here/tools/os_build.sh"
+. "$here/tools/os_try.sh"
 
 # Hands a signal on. It goes as TERM, since what a script starts behind itself ignores INT and QUIT.
 # shellcheck disable=SC2317 # a trap calls it
@@ -92,6 +93,10 @@ for signal in HUP INT QUIT TERM; do
     # shellcheck disable=SC2064 # the name is to stand in the trap
     trap "hand_on $signal" "$signal"
 done
+if [ "$1" = try ]; then
+    shift
+    try_unproved "$@"
+fi
 is_built || build
 run_program "$@"
 [ -z "$caught" ] || end_by "$caught"

@@ -1,0 +1,126 @@
+# shellcheck shell=sh disable=SC2154
+# Read by ./os: runs the sources of the program without a proof, by the toolchain's `rt try`, which compiles them anew each time and keeps
+# nothing of it.
+
+# Why a command can't be tried, if it can't: it would leave a file, or says something before it has ended.
+why_not_tried() {
+    case $asked in
+        serve) echo "serve goes on without an end, and what is tried says nothing before it has ended" ;;
+        compact) echo "compact writes a file, and what is tried leaves none" ;;
+        *) [ -z "${journal+x}" ] || echo "a journal is a file, and what is tried leaves none" ;;
+    esac
+}
+
+# Says what is amiss with the words before minutes are spent on them.
+check_words() {
+    if ! is_command "$asked" || [ "$asked" = try ]; then
+        say "name a command to be tried: $own (./os help try says which)"
+        exit 2
+    fi
+    take_apart "$@"
+    why=$(why_not_tried)
+    if [ -n "$why" ]; then
+        say "not tried: $why; ./os $asked proves the program, and runs it then"
+        exit 2
+    fi
+    own=$(own_words "$asked")
+    case $asked in
+        solve | check) set -- ${first:+"$first"} ${second:+"$second"} ${options+"$options"} ;;
+        call) set -- ${osil+"$osil"} ${osol+"$osol"} ${ospl+"$ospl"} ;;
+        *) return 0 ;;
+    esac
+    ! tell_unread "$@" || exit 3
+}
+
+# Keeps the path of a file that the run gets as a copy, whose name there is `text`.
+hand_over() {
+    text=$1
+    [ -f "$1" ] || return 0
+    given=$((given + 1))
+    case $1 in
+        /*) eval "given_$given=\$1" ;;
+        *) eval "given_$given=\$PWD/\$1" ;;
+    esac
+    text=file$given
+}
+
+# WORD: what the run gets in its place. A file is what an option names, and each word of solve and check that stands for itself.
+place() {
+    text=$1
+    case $alone$1 in
+        --) alone=yes ;;
+        --*=*)
+            hand_over "${1#*=}"
+            text=${1%%=*}=$text
+            ;;
+        --*)
+            option=$1
+            return
+            ;;
+        *)
+            case $asked$option in
+                solve* | check* | *--*) hand_over "$1" ;;
+            esac
+            ;;
+    esac
+    option=
+}
+
+# At a terminal shows in place how long it takes.
+show_try() {
+    [ -t 2 ] && [ "${TERM:-dumb}" != dumb ] || return 0
+    while [ -z "$caught" ] && kill -0 "$child" 2>/dev/null; do
+        printf 'os: %s s\r' $(($(date +%s) - begun)) >&2
+        sleep 1
+    done
+    printf '\033[K' >&2
+}
+
+# Runs the words, with the input where it is a session's, for an hour at most, and keeps what rt says of it.
+run_tried() {
+    given=0 alone='' option=''
+    for word; do
+        place "$word"
+        shift
+        set -- "$@" "$text"
+    done
+    set -- -- "$asked" "$@"
+    while [ "$given" -gt 0 ]; do
+        eval "set -- --data \"file$given=\$given_$given\" \"\$@\""
+        given=$((given - 1))
+    done
+    [ "$asked" = session ] || exec </dev/null
+    exec 3<&0
+    (cd "$crate" && exec rt try --seconds 3600 "$@") <&3 3<&- 2>"$told" &
+    child=$!
+    exec 3<&-
+    begun=$(date +%s)
+    show_try
+    await
+}
+
+# How it ended: with the program's own status, or with what rt says in the place of one.
+end_try() {
+    ended_by_itself=$(sed -n '$s/^run=ended status=[0-9]* .*/yes/p' "$told")
+    [ -n "$ended_by_itself" ] || [ -n "$caught" ] || sed 's/^/os: /' "$told" >&2
+    rm -f "$told"
+    [ -z "$caught" ] || end_by "$caught"
+    if [ -z "$ended_by_itself" ]; then
+        say "the run came to no end of its own: the toolchain says above why"
+        exit 1
+    fi
+    [ "$status" -le 1 ] || explain "$status" "$asked" "$@"
+    exit "$status"
+}
+
+# Runs a command's words without a proof, and ends as it did.
+try_unproved() {
+    asked=${1-} own=$(own_words try)
+    [ $# -eq 0 ] || shift
+    check_words "$@"
+    command -v rt >/dev/null || give_up "the toolchain's command rt isn't on the PATH; README.md names the toolchain"
+    told=$(mktemp) || give_up "$(cant_write "${TMPDIR:-/tmp}")"
+    say "nothing of this run is proved: the sources are compiled, in about 2 min, and run once; ./os $asked proves them, in about $(minutes_of_proof) min, and keeps the program"
+    run_tried "$@"
+    end_try "$@"
+}
