@@ -12,7 +12,6 @@ status=1 # of that process
 
 . "$here/tools/os_words.sh"
 . "$here/tools/os_build.sh"
-. "$here/tools/os_try.sh"
 
 # Hands a signal on. It goes as TERM, since what a script starts behind itself ignores INT and QUIT.
 # shellcheck disable=SC2317 # a trap calls it

@@ -86,7 +86,7 @@ def rule_page(path: Path, version: str, day: str) -> tuple[str, str]:
     title, _, rest = path.read_text(encoding="utf-8").partition("\n")
     page = page_name(path.stem)
     made = subprocess.run(["lowdown", "-Tman"], input=referring(rest), capture_output=True, text=True, check=True).stdout
-    return page, head(page, 7, version, day, "rules: " + title.lstrip("# ")) + ".SH DESCRIPTION\n" + made
+    return page, head(page, 7, version, day, "rules: " + title.lstrip("# ")) + ".ad l\n.nh\n.SH DESCRIPTION\n" + made
 
 
 def main() -> None:

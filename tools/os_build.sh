@@ -2,6 +2,7 @@
 # Read by ./os: proves and builds the program where its sources changed since, and says how far that is.
 proved=$crate/out/crates.log
 room= # the folder that the crates are laid out in
+. "$here/tools/os_try.sh"
 
 is_built() {
     [ -x "$program" ] && [ -z "$(find "$here/crates.txt" "$here/crates" \( -name out -o -name must-fail \) -prune -o -type f ! -name '*.md' -newer "$program" -print)" ]

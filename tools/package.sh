@@ -45,10 +45,11 @@ lay_out() {
     cp -R packaging/debian debian && cp packaging/os_installed.sh tools/os_build.sh || return
     mkdir program man python && cp "$program" program/os_main && cp "$proof" PROVED || return
     cp -R clients/python/gubnatris* python
+    mkdir examples/deploy && cp deploy/README.md deploy/*.cfg deploy/*.service examples/deploy || return
     rm -rf clients crates
     if [ -n "$is_unproved" ]; then
         echo 'say "nothing of this build is proved; it was made for trying"' >>tools/os_build.sh
-        sed -i 's/^Description: /&NOT PROVED, for trying: /' debian/control
+        sed -i 's/^Description: .*/& (NOT PROVED)/' debian/control
     fi
     printf 'gubnatris (%s) unstable; urgency=medium\n\n  * Of commit %s.\n\n -- Gubnatris maintainers <maintainers@users.noreply.gubnatris.example>  %s\n' \
         "$version" "$commit" "$(LC_ALL=C git -C "$top" log -1 --format=%cD)" >debian/changelog
