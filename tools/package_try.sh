@@ -126,6 +126,7 @@ try_upgrade() {
     make_later "$package" "$root/root/two.deb"
     inside dpkg -i /root/two.deb >"$room/log" 2>&1
     expect 'the upgrade' "$?" 0
+    # shellcheck disable=SC2016 # dpkg-query puts it in
     expect 'the version behind it' "$(inside dpkg-query -W -f '${Version}' gubnatris)" "$(dpkg-deb -f "$package" Version).1"
     for _ in $(seq 50); do
         called retrieve --osol /root/job.osol >"$room/before"
