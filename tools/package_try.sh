@@ -50,7 +50,7 @@ left_over() {
 make_root() {
     mkdir "$root" || return
     if [ -n "${PACKAGE_ROOT-}" ]; then
-        tar -xf "$PACKAGE_ROOT" -C "$root" --exclude=./dev/*
+        tar -xf "$PACKAGE_ROOT" -C "$root"
     else
         mmdebstrap --quiet --variant=minbase --include=systemd bookworm "$root" >/dev/null
     fi && cp /etc/resolv.conf "$root/etc/resolv.conf"

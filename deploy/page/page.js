@@ -288,6 +288,10 @@ function facts(pairs) {
   return list;
 }
 
+function counted(count, word) {
+  return `${count.toLocaleString("en")} ${word}${count === 1 ? "" : "s"}`;
+}
+
 // What a column is restricted to.
 function between(column) {
   const more = `${column.whole ? ", whole" : ""}${column.orZero ? ", or 0" : ""}`, { low, high } = column;
@@ -315,7 +319,7 @@ function goalWords(goal, variables) {
 // What a job asks.
 function askedView(instance) {
   const { variables, rows, goals } = instance, whole = variables.filter((it) => it.whole).length;
-  const counts = `${variables.length} variables${whole ? `, ${whole} of them whole` : ""}, ${rows.length} rows`;
+  const counts = `${counted(variables.length, "variable")}${whole ? `, ${whole === variables.length ? "all" : `${whole} of them`} whole` : ""}, ${counted(rows.length, "row")}`;
   const list = facts([["instance", instance.name || "without a name"], ["about", instance.about], ...goals.map((goal) => ["wanted", goalWords(goal, variables)]), ["size", counts]]);
   const more = make("details");
   more.append(make("summary", "Variables and rows"));
@@ -406,7 +410,7 @@ class TreeView {
   constructor(nodes, instance, result, level) {
     [this.nodes, this.instance, this.result, this.level, this.current] = [nodes, instance, result, level, nodes[0]];
     this.unfold(UNFOLDED);
-    const title = `Tree of cases${result.trees.length > 1 ? ` of objective ${level + 1}` : ""}: ${nodes.length.toLocaleString("en")} ${nodes.length === 1 ? "node" : "nodes"}`;
+    const title = `Tree of cases${result.trees.length > 1 ? ` of objective ${level + 1}` : ""}: ${counted(nodes.length, "node")}`;
     this.box = make("div", undefined, "scrolls");
     this.said = make("p", "", "hint");
     const more = make("button", "Unfold more"), less = make("button", "Fold all"), controls = make("p", undefined, "controls");
@@ -450,7 +454,7 @@ class TreeView {
 
   draw() {
     const leaves = this.place(), deepest = Math.max(...this.shown.map((node) => node.depth));
-    const svg = drawn("svg", { class: "tree", width: (deepest + 1) * STEP.x + 260, height: leaves * STEP.y + 12, role: "tree", "aria-label": "Tree of cases" });
+    const svg = drawn("svg", { class: "tree", width: (deepest + 1) * STEP.x + 260, height: leaves * STEP.y + 20, role: "tree", "aria-label": "Tree of cases" });
     this.places = new Map();
     for (const node of this.shown) if (node.parent) svg.append(...this.edge(node));
     for (const node of this.shown) svg.append(this.node(node));
@@ -468,7 +472,7 @@ class TreeView {
   }
 
   spot(node) {
-    return [12 + node.depth * STEP.x, 14 + node.y * STEP.y];
+    return [12 + node.depth * STEP.x, 22 + node.y * STEP.y];
   }
 
   node(node) {
@@ -781,9 +785,9 @@ async function endJob(isOver, question, yes) {
   try {
     const state = resultOf(await call("retrieve", { osol: options(job) })).state;
     if (isOver !== (state === "finished" || state === "killed")) throw new Complaint(`${job} is ${state} now, so nothing was done`);
-    const text = await call("kill", { osol: options(job) }), server = jobs.get(job)?.server;
-    if (server) take(server, text);
-    showJobs();
+    await call("kill", { osol: options(job) });
+    const server = jobs.get(job)?.server;
+    if (server) await ask(server);
     if (job !== current) return;
     await readJob();
     if (isOver) say("It was given up: the server keeps nothing of it.");
@@ -812,6 +816,7 @@ async function send(event) {
     texts.set(job, osil);
     said.textContent = `sent as ${job}`;
     byId("form").reset();
+    servers.forEach(ask);
     location.hash = encodeURIComponent(job);
   } catch (failure) {
     [said.textContent, said.className] = [failure.message, "trouble"];
