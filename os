@@ -94,7 +94,7 @@ for signal in HUP INT QUIT TERM; do
 done
 if [ "$1" = try ]; then
     shift
-    try_unproved "$@"
+    begin_try "$@"
 fi
 is_built || build
 run_program "$@"

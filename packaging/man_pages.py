@@ -1,4 +1,4 @@
-"""Writes the manual pages: gubnatris(1) of docs/commands.txt, one for each tool of its own docstring and usage, and one of section 7 for
+"""Writes the manual pages: gubnatris(1) of docs/commands.txt, one for each tool and each driver of its own docstring and usage, and one of section 7 for
 each page of docs/rules, as lowdown reads it. Goes by the files below the current folder.
 
     python3 packaging/man_pages.py VERSION DAY FOLDER
@@ -82,6 +82,12 @@ def tool_page(name: str, version: str, day: str) -> tuple[str, str]:
     return page, text + (f".SH DESCRIPTION\n{escaped(more)}\n" if more else "") + ".SH SEE ALSO\n.BR gubnatris (1)\n"
 
 
+def driver_page(path: Path, version: str, day: str) -> tuple[str, str]:
+    does, _, more = (ast.get_docstring(ast.parse(path.read_text(encoding="utf-8"))) or path.name).partition(", as it stands in this checkout")
+    more = more.lstrip("; .")
+    return path.name, head(path.name, 1, version, day, does.replace("\n", " ")) + (f".SH DESCRIPTION\n{escaped(sentence(more))}\n" if more else "") + ".SH SEE ALSO\n.BR gubnatris (1)\n"
+
+
 def rule_page(path: Path, version: str, day: str) -> tuple[str, str]:
     title, _, rest = path.read_text(encoding="utf-8").partition("\n")
     page = page_name(path.stem)
@@ -93,6 +99,7 @@ def main() -> None:
     version, day, folder = sys.argv[1:]
     rules = [rule_page(path, version, day) for path in sorted(Path("docs/rules").glob("*.md"))]
     pages = {f"{name}.7": text for name, text in rules} | {f"{name}.1": text for name, text in (tool_page(it, version, day) for it in TOOLS)}
+    pages |= {f"{name}.1": text for name, text in (driver_page(path, version, day) for path in sorted(Path("drivers").glob("*")))}
     pages["gubnatris.1"] = program_page(version, day, [name for name, _ in rules])
     for name, text in pages.items():
         Path(folder, name).write_text(text, encoding="utf-8")

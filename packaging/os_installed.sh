@@ -6,6 +6,11 @@ is_built() {
     [ -x "$program" ]
 }
 
+# What the package is, in the place of what the checkout is.
+tell_version() {
+    cat "$here/version"
+}
+
 build() {
     say "$program isn't there, or may not be run; install the package anew"
     exit 1

@@ -271,7 +271,7 @@ expect 'lines of a build in which time goes' "$(sed -n 's/^os: 0 of [0-9]* crate
 expect 'how often time is told' "$([ "$(grep -c '^os: 0 of' err)" -ge 3 ] && echo often)" often
 
 echo '// changed' >>crates/os_io/src/lib.rt
-flock crates/os_main/out/lock sleep 2 &
+flock crates/os_main/out/lock sleep 6 &
 sleep 1
 ./os generate 1 >out 2>err
 expect 'line of a second build' "$(head -n 1 err)" 'os: another ./os builds the program; waiting for it'

@@ -76,9 +76,10 @@ show_try() {
     printf '\033[K' >&2
 }
 
-# Runs the words, with the input where it is a session's, for an hour at most, and keeps what rt says of it.
+# Runs the words, with the input where it is a session's, for an hour at most, and keeps the program's status, or 1 where rt has another.
 run_tried() {
-    given=0 alone='' option=''
+    asked=$1 given=0 alone='' option=''
+    shift
     for word; do
         place "$word"
         shift
@@ -89,6 +90,7 @@ run_tried() {
         eval "set -- --data \"file$given=\$given_$given\" \"\$@\""
         given=$((given - 1))
     done
+    told=$(mktemp) || give_up "$(cant_write "${TMPDIR:-/tmp}")"
     [ "$asked" = session ] || exec </dev/null
     exec 3<&0
     (cd "$crate" && exec rt try --seconds 3600 "$@") <&3 3<&- 2>"$told" &
@@ -97,30 +99,26 @@ run_tried() {
     begun=$(date +%s)
     show_try
     await
+    tell_end
 }
 
-# How it ended: with the program's own status, or with what rt says in the place of one.
-end_try() {
-    ended_by_itself=$(sed -n '$s/^run=ended status=[0-9]* .*/yes/p' "$told")
-    [ -n "$ended_by_itself" ] || [ -n "$caught" ] || sed 's/^/os: /' "$told" >&2
-    rm -f "$told"
-    [ -z "$caught" ] || end_by "$caught"
-    if [ -z "$ended_by_itself" ]; then
+# Where the program didn't end by itself, says what rt says of it.
+tell_end() {
+    if [ -z "$caught" ] && ! sed -n '$p' "$told" | grep -q '^run=ended status=[0-9]* '; then
+        sed 's/^/os: /' "$told" >&2
         say "the run came to no end of its own: the toolchain says above why"
-        exit 1
+        status=1
     fi
-    [ "$status" -le 1 ] || explain "$status" "$asked" "$@"
-    exit "$status"
+    rm -f "$told"
 }
 
-# Runs a command's words without a proof, and ends as it did.
-try_unproved() {
+# From here on what runs is the sources, with nothing proved; says so, and how long the proof takes.
+begin_try() {
     asked=${1-} own=$(own_words try)
     [ $# -eq 0 ] || shift
     check_words "$@"
     command -v rt >/dev/null || give_up "the toolchain's command rt isn't on the PATH; README.md names the toolchain"
-    told=$(mktemp) || give_up "$(cant_write "${TMPDIR:-/tmp}")"
     say "nothing of this run is proved: the sources are compiled, in about 2 min, and run once; ./os $asked proves them, in about $(minutes_of_proof) min, and keeps the program"
-    run_tried "$@"
-    end_try "$@"
+    is_built() { :; }
+    run_program() { run_tried "$@"; }
 }

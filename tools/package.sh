@@ -37,6 +37,27 @@ version() {
     echo "${base:-1.0.0}+git$(TZ=UTC git log -1 --format=%cd --date=format-local:%Y%m%d.%H%M).${commit:0:8}${is_unproved:++unproved}"
 }
 
+# Completions for the command alone; the checkout has some for ./os too.
+add_completions() {
+    sh tools/completions.sh bash | sed 's/-F _gubnatris .*/-F _gubnatris gubnatris/' >debian/gubnatris.bash-completion
+    sh tools/completions.sh zsh | sed '1s/.*/#compdef gubnatris/' >_gubnatris
+    echo '_gubnatris usr/share/zsh/vendor-completions' >>debian/gubnatris.install
+}
+
+# The drivers of modelling systems, where there are some: scripts that run what the Python package has, and what MiniZinc reads of one.
+add_drivers() {
+    local driver
+    mkdir drivers
+    for driver in clients/*/gubnatris_*; do
+        if [ -x "$driver" ]; then cp "$driver" drivers; fi
+    done
+    [ -z "$(ls drivers)" ] || echo 'drivers/* usr/bin' >>debian/gubnatris.install
+    if [ -f clients/minizinc/gubnatris.msc ]; then
+        sed 's|"\./gubnatris_fzn"|"/usr/bin/gubnatris_fzn"|' clients/minizinc/gubnatris.msc >drivers.msc && mkdir minizinc && mv drivers.msc minizinc/gubnatris.msc
+        echo 'minizinc/gubnatris.msc usr/share/minizinc/solvers' >>debian/gubnatris.install
+    fi
+}
+
 # Puts the sources of the package into the current folder, named as they are called where it is installed.
 lay_out() {
     git -C "$top" archive "$commit" | tar -x || return
@@ -44,9 +65,10 @@ lay_out() {
     sed -i '/^command try$/,/^$/d' docs/commands.txt
     cp -R packaging/debian debian && cp packaging/os_installed.sh tools/os_build.sh || return
     mkdir program man python && cp "$program" program/os_main && cp "$proof" PROVED || return
-    cp -R clients/python/gubnatris* python
+    cp -R clients/python/gubnatris* python && add_drivers || return
     mkdir examples/deploy && cp deploy/README.md deploy/*.cfg deploy/*.service examples/deploy || return
-    rm -rf clients crates
+    rm -rf clients crates tools/os_lines.sh tools/os_try.sh
+    printf 'gubnatris %s\ncommit %s\n%s\n' "$version" "$commit" "${is_unproved:+nothing of this build is proved}" | sed '/^$/d' >version
     if [ -n "$is_unproved" ]; then
         echo 'say "nothing of this build is proved; it was made for trying"' >>tools/os_build.sh
         sed -i 's/^Description: .*/& (NOT PROVED)/' debian/control
@@ -54,7 +76,7 @@ lay_out() {
     printf 'gubnatris (%s) unstable; urgency=medium\n\n  * Of commit %s.\n\n -- Gubnatris maintainers <maintainers@users.noreply.gubnatris.example>  %s\n' \
         "$version" "$commit" "$(LC_ALL=C git -C "$top" log -1 --format=%cD)" >debian/changelog
     python3 packaging/man_pages.py "$version" "$(TZ=UTC git -C "$top" log -1 --format=%cd --date=format-local:%Y-%m-%d)" man || return
-    if [ -f tools/completions.sh ]; then bash tools/completions.sh bash gubnatris >debian/gubnatris.bash-completion; fi
+    if [ -f tools/completions.sh ]; then add_completions; fi
 }
 
 [ -z "${OS_PROGRAM-}" ] || [ -n "$is_unproved" ] || refuse "OS_PROGRAM names a program of which nothing is known to be proved; make a package for trying with --unproved, or leave it unset"

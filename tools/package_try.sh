@@ -83,11 +83,11 @@ try_install() {
 try_words() {
     expect 'a file that is not there' "$(quiet gubnatris solve nofile.osil)" \
         "gubnatris: can't read nofile.osil: there is no such file; name another file: gubnatris solve OSIL [--options OSOL] [--safe]"
-    expect 'the help names the command' "$(quiet gubnatris help generate | head -n 1)" 'gubnatris generate N'
+    expect 'the help names the command' "$(quiet gubnatris help generate | grep -x 'gubnatris generate N')" 'gubnatris generate N'
     expect 'no help names the checkout' "$(quiet gubnatris help | grep -c '\./os')" 0
     expect 'try is a word of the checkout' "$(quiet gubnatris try generate 1 | tail -n 1)" 'gubnatris: there is no command try; gubnatris help lists those that there are'
     inside sh -c 'printf "Minimize\n c: x + y\nSubject To\n r: x + 2 y >= 3\nEnd\n" >/root/a.lp; gubnatris-lp-to-osil /root/a.lp /root/a.osil; gubnatris solve /root/a.osil 2>/dev/null >/root/a.osrl'
-    expect 'an LP file' "$(quiet gubnatris-show-result /root/a.osil /root/a.osrl | sed -n 2p)" 'The least c is 1.5, exactly 3/2.'
+    expect 'an LP file' "$(quiet gubnatris-show-result /root/a.osil /root/a.osrl | sed -n 2p)" 'The least c is 1.5.'
     inside gubnatris-mps-to-osil --free /usr/share/doc/gubnatris/examples/capital_budget.mps /root/b.osil
     expect 'an MPS file' "$(quiet gubnatris solve /root/b.osil | grep -o 'os_cert.value"><item>[0-9]*')" 'os_cert.value"><item>42'
     expect 'the Python client' "$(inside python3 -c "import gubnatris; print(gubnatris.read_result(open('/root/result').read()).objective)")" 30
