@@ -1,4 +1,4 @@
-# shellcheck shell=sh disable=SC2154
+# shellcheck shell=sh disable=SC2154,SC2034,SC2317 # what it sets and says anew, ./os uses
 # Read by ./os: runs the sources of the program without a proof, by the toolchain's `rt try`, which compiles them anew each time and keeps
 # nothing of it.
 
