@@ -21,7 +21,7 @@ from linear_program import Complaint, Unread, osil, read_text, write_whole
 
 HERE = os.path.dirname(os.path.abspath(__file__))
 CORE_FOLDER = f"{HERE}/certify_core/out"
-FIRST_WORK = 3e8  # of the core before other solvers are asked, in its own measure: about a second
+FIRST_WORK = 2e7  # of the core before other solvers are asked, in its own measure: about half a second
 SHARE = 0.2  # of the seconds that are left, for each of these solvers
 LEAST_SECONDS = 1.0
 PARTS = ("point", "value", "ray", "bound", "rounds", "tree", "cause")
@@ -180,6 +180,8 @@ class Certifying:
                     parts.setdefault(name, []).append(rest)
         finally:
             self.children.end(process)
+        if claim in ("optimal", "unbounded", "bestSoFar"):
+            parts.setdefault("point", [])  # of no variables
         return claim, {name: parts[name] for name in PARTS if name in parts}
 
     def points_of_solvers(self, seconds):

@@ -8,7 +8,7 @@
 namespace {
 
 const size_t most_document = 4194304;
-const double first_work = 6e7, growth = 4;
+const double first_work = 1e7, growth = 4;
 
 // The bytes that a result has besides its rounds and trees, and some more.
 size_t bytes_besides(const Program& program, const std::optional<Point>& best) {
@@ -98,7 +98,7 @@ class Certifying {
     Shown tried(size_t level, Plan plan, double budget) {
         const size_t rows = relaxation_.rows.size();
         plan.most_work = budget;
-        if (plan.most_rounds) spent_ += add_rounds(program_, relaxation_, level, best_, plan, watch_);
+        if (plan.most_rounds) spent_ += add_rounds(program_, relaxation_, best_, plan, watch_);
         TreeSearch search_now = search(level, plan);
         Shown shown = search_now.run();
         spent_ += search_now.work();

@@ -10,6 +10,7 @@ namespace {
 const double infinite = COIN_DBL_MAX;
 const double tolerance = 1e-9, loose_tolerance = 1e-7;
 const double work_of_start = 8;  // a solve without a turn factors the basis, as some turns do
+const double work_of_any = 1000;     // of the smallest program
 
 double low_of(const Ends& ends) { return ends.low.is_finite ? ends.low.near : -infinite; }
 double high_of(const Ends& ends) { return ends.high.is_finite ? ends.high.near : infinite; }
@@ -40,7 +41,7 @@ void FloatProgram::load(const std::vector<Row>& rows, const std::vector<Ends>& e
     clp_.loadProblem(matrix, low.data(), high.data(), costs.data(), row_low.data(), row_high.data());
     clp_.setPrimalTolerance(tolerance);
     clp_.setDualTolerance(tolerance);
-    size_ = static_cast<double>(factors.size()) + columns + 2.0 * count;
+    size_ = work_of_any + static_cast<double>(factors.size()) + columns + 2.0 * count;
 }
 
 void FloatProgram::set_ends(int column, const Ends& ends) {
@@ -60,6 +61,12 @@ FloatProgram::Outcome FloatProgram::outcome(int status) {
 FloatProgram::Outcome FloatProgram::solve(int most_turns) {
     clp_.setMaximumIterations(most_turns);
     clp_.dual();
+    return outcome(clp_.status());
+}
+
+FloatProgram::Outcome FloatProgram::solve_from_point() {
+    clp_.setMaximumIterations(1000000);
+    clp_.primal();
     return outcome(clp_.status());
 }
 

@@ -20,6 +20,9 @@ class FloatProgram {
     // By the dual method, with so many turns at most, from the basis at hand.
     Outcome solve(int most_turns = 1000000);
 
+    // By the primal method, where the costs are others than before.
+    Outcome solve_from_point();
+
     // From no basis, by the primal method, with greater tolerances: floats call some feasible programs infeasible.
     Outcome solve_loosely();
 

@@ -6,5 +6,5 @@
 #include "leaves.hpp"
 #include "search.hpp"
 
-// Adds rows to the relaxation that no point of the program breaks, as many as the plan has at most. Gives the work that it took.
-double add_rounds(const Program& program, Relaxation& relaxation, size_t level, const std::optional<Point>& best, const Plan& plan, Watch& watch);
+// Adds rows to the relaxation of one goal that no point of the program breaks, as many as the plan has at most. Gives the work that it took.
+double add_rounds(const Program& program, Relaxation& relaxation, const std::optional<Point>& best, const Plan& plan, Watch& watch);

@@ -267,7 +267,8 @@ double TreeSearch::probed(const Branch& branch, int which, double value, double 
 
 // The branch both of whose cases promise the greatest rise of the bound (strong branching with pseudocosts).
 TreeSearch::Branch TreeSearch::chosen(std::vector<Branch> all, double value) {
-    const double most = best_ && !is_aiming_ ? std::max(best_->values[level_].get_d() - value, 1e-9) : 1e9;
+    if (is_aiming_) return all.front();  // no bound tells one from another
+    const double most = best_ ? std::max(best_->values[level_].get_d() - value, 1e-9) : 1e9;
     std::vector<std::pair<double, size_t>> order;
     for (size_t k = 0; k < all.size(); k++) {
         const double middle = 1 + std::min(all[k].below, all[k].above);
