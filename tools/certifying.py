@@ -17,7 +17,7 @@ import job_documents
 import lp_reader
 import mps_reader
 import result_text
-from linear_program import Complaint, Unread, osil, read_text, write_whole
+from linear_program import Complaint, Unread, osil, read_bytes, read_text, write_whole
 
 HERE = os.path.dirname(os.path.abspath(__file__))
 CORE_FOLDER = f"{HERE}/certify_core/out"
@@ -74,6 +74,7 @@ def as_osil(path, words, folder):
     """The path of an OSiL document of a model, and notes of how it was read: `.mps` and `.lp` are converted."""
     end = os.path.splitext(path)[1].lower()
     if end not in (".mps", ".lp"):
+        read_bytes(path)
         return path, []
     text = read_text(path)
     program = lp_reader.read(text, set()) if end == ".lp" else mps_program(text, words)
@@ -140,7 +141,7 @@ class Certifying:
         self.instance = None
         answer = self.checked("unsure", {"cause": ["killed"]})
         if answer != "refused NoClaim":
-            raise Complaint(f"the instance is {answer.removeprefix('refused Instance ')}" if not answer.startswith("refused Instance") else f"it is refused: {answer.removeprefix('refused Instance ')}")
+            raise Complaint(f"it is refused: {answer.removeprefix('refused Instance ')}")
         self.instance = job_documents.instance_of(self.osil)
 
     def checked(self, claim, parts):
@@ -151,7 +152,7 @@ class Certifying:
         ran = self.ran([self.program, "check", self.osil, f"{self.folder}/result.osrl"])
         lines = ran.splitlines()
         if len(lines) != 1 or not re.match("accepted |refused ", lines[0]):
-            raise Wanting(f"{self.program} is no checker: of `check` it says {lines[:1]}" if os.path.exists(self.osil) else f"{self.path}: can't be read")
+            raise Wanting(f"{self.program} is no checker: of `check` it says {lines[:1]}")
         return lines[0]
 
     def ran(self, words):
