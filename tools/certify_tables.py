@@ -359,7 +359,8 @@ def try_made_vipr(folder):
 
 def main():
     words = sys.argv[1:] or ["random", "1000", "models", "inputs", "vipr"]
-    certifying.core()
+    core = certifying.core()
+    certifying.core = lambda: core
     at = iter(words)
     for word in at:
         if word == "random":

@@ -130,7 +130,16 @@ class Certifying {
         return claim_;
     }
 
+    // Any point, without regard to the goal: the best one of the floats may have numbers that don't fit.
+    void find_any_point() {
+        relaxation_.ask(std::vector<Ratio>(program_.variables.size()), 0);
+        Plan plan;
+        plan.most_work = first_work;
+        search(0, plan).run();
+    }
+
     Claim given_up(const char* cause) {
+        if (!best_ && !watch_.is_over()) find_any_point();
         claim_.kind = best_ ? "bestSoFar" : "unsure";
         claim_.cause = cause;
         claim_.point = best_;

@@ -58,7 +58,8 @@ bool ExactSimplex::find_values() {
 }
 
 // The multipliers of rows that aren't basic whose form at each basic variable is wanted.
-static bool solve_form(const std::vector<Row>& rows, const std::vector<int>& tights, const std::vector<int>& unknown_of, std::vector<Ratio> wanted, std::vector<Pair>& found) {
+static bool solve_form(const std::vector<Row>& rows, const std::vector<int>& tights, const std::vector<int>& unknown_of,
+                       const std::vector<Ratio>& wanted, std::vector<Pair>& found) {
     std::vector<Equation> equations(wanted.size());
     for (size_t u = 0; u < wanted.size(); u++) equations[u].right = wanted[u];
     for (size_t e = 0; e < tights.size(); e++)

@@ -7,6 +7,7 @@ namespace {
 
 const double whole_tolerance = 1e-6, value_tolerance = 1e-7;
 const size_t bytes_of_item = 13;  // of the element round it
+const long nodes_of_root = 16;  // where more is tried before a branch
 const int deepest = 3000, probe_turns = 60, turns_of_exact = 300;
 const double seconds_of_exact = 5;
 
@@ -32,10 +33,11 @@ const char* cause_of(SearchEnd end) {
     }
 }
 
-TreeSearch::TreeSearch(const Program& program, const Relaxation& relaxation, size_t level, std::optional<Point>& best, const Plan& plan, Watch& watch, size_t most_bytes)
-    : program_(program), relaxation_(relaxation), level_(level), best_(best),
-      reached_(best ? std::vector<Ratio>(best->values.begin(), best->values.begin() + static_cast<long>(level)) : std::vector<Ratio>()), plan_(plan), watch_(watch),
-      most_bytes_(most_bytes), ends_(program.ends()), leaves_(relaxation_.rows, ends_), histories_(2 * program.variables.size()), divided_(program.variables.size()) {
+TreeSearch::TreeSearch(const Program& program, const Relaxation& relaxation, size_t level, std::optional<Point>& best, const Plan& plan, Watch& watch,
+                       size_t most_bytes)
+    : program_(program), relaxation_(relaxation), level_(level), best_(best), plan_(plan), watch_(watch), most_bytes_(most_bytes), ends_(program.ends()),
+      leaves_(relaxation_.rows, ends_), histories_(2 * program.variables.size()), divided_(program.variables.size()) {
+    if (best) reached_.assign(best->values.begin(), best->values.begin() + static_cast<long>(level));
     floats_.load(relaxation_.rows, ends_, relaxation_.near_costs);
 }
 
@@ -59,9 +61,11 @@ std::optional<double> TreeSearch::open_bound() const {
 // Whether the search has to end here.
 void TreeSearch::look(int depth) {
     nodes_++;
-    const auto shown = [&](double value) { return program_.goals[level_].is_maximum ? -value : value; };
-    const std::optional<double> open = open_bound();
-    watch_.tell(best_ ? std::optional<double>(shown(best_->values[level_].get_d())) : std::nullopt, open ? std::optional<double>(shown(*open)) : std::nullopt, nodes_);
+    const double sign = program_.goals[level_].is_maximum ? -1 : 1;
+    std::optional<double> best, open = open_bound();
+    if (best_) best = sign * best_->values[level_].get_d();
+    if (open) open = sign * *open;
+    watch_.tell(best, open, nodes_);
     if (is_stopped_) return;
     is_stopped_ = true;
     if (watch_.is_over())
@@ -74,6 +78,7 @@ void TreeSearch::look(int depth) {
         shown_.end = SearchEnd::stuck;
     else
         is_stopped_ = false;
+    if (is_stopped_ && shown_.end == SearchEnd::too_long) has_open_bound_ = false;
 }
 
 bool TreeSearch::close_clash() {
@@ -108,6 +113,7 @@ bool TreeSearch::close_bound(const Found& found) {
     if (!best_ || is_aiming_) return false;
     const Target target = Target::bound(relaxation_, &best_->values[level_]);
     if (close(target, leaves_.rounded(target, found.duals))) return true;
+    if (is_stopped_) return false;
     ExactSimplex exact(relaxation_.rows, ends_, relaxation_.costs, found.places);
     ExactSimplex::Outcome ended;
     return close(target, leaves_.solved(target, exact, turns_of_exact, ended));
@@ -124,6 +130,7 @@ TreeSearch::Found TreeSearch::found_now(Found::Kind kind) const {
 // The case as exact turns find it, from the basis of the floats on.
 TreeSearch::Found TreeSearch::find_exactly() {
     Found found = found_now(Found::Kind::stuck);
+    if (is_stopped_) return found;
     ExactSimplex exact(relaxation_.rows, ends_, relaxation_.costs, found.places);
     const ExactSimplex::Outcome ended = exact.run(turns_of_exact + program_.size(), seconds_of_exact);
     const bool is_bound = ended == ExactSimplex::Outcome::best && best_ && !is_aiming_;
@@ -265,33 +272,41 @@ double TreeSearch::probed(const Branch& branch, int which, double value, double 
     return std::min(rise, most);
 }
 
-// The branch both of whose cases promise the greatest rise of the bound (strong branching with pseudocosts).
-TreeSearch::Branch TreeSearch::chosen(std::vector<Branch> all, double value) {
-    if (is_aiming_) return all.front();  // no bound tells one from another
-    const double most = best_ ? std::max(best_->values[level_].get_d() - value, 1e-9) : 1e9;
-    std::vector<std::pair<double, size_t>> order;
+// The branches by what their history promises, the best first; the seed orders those that promise the same.
+std::vector<size_t> TreeSearch::ordered(const std::vector<Branch>& all) {
+    std::vector<std::pair<std::pair<double, size_t>, size_t>> order;
     for (size_t k = 0; k < all.size(); k++) {
         const double middle = 1 + std::min(all[k].below, all[k].above);
-        order.push_back({-std::max(expected(all[k], 0), 1e-6) * std::max(expected(all[k], 1), 1e-6) * middle, k});
+        const double promise = std::max(expected(all[k], 0), 1e-6) * std::max(expected(all[k], 1), 1e-6) * middle;
+        order.push_back({{-promise, plan_.seed ? (k + 1) * plan_.seed % 7919 : k}, k});
     }
     std::sort(order.begin(), order.end());
-    if (plan_.seed) std::stable_sort(order.begin(), order.end(), [&](const auto& a, const auto& b) { return a.first < b.first - 1e-9 || (std::fabs(a.first - b.first) <= 1e-9 && (a.second * plan_.seed) % 97 < (b.second * plan_.seed) % 97); });
+    std::vector<size_t> numbers;
+    for (const auto& each : order) numbers.push_back(each.second);
+    return numbers;
+}
+
+// The branch both of whose cases promise the greatest rise of the bound (strong branching with pseudocosts).
+TreeSearch::Branch TreeSearch::chosen(const std::vector<Branch>& all, double value) {
+    if (is_aiming_) return all.front();  // no bound tells one from another
+    const double most = best_ ? std::max(best_->values[level_].get_d() - value, 1e-9) : 1e9;
+    const int most_probes = nodes_ < nodes_of_root ? 3 * plan_.most_probed : plan_.most_probed;
     const FloatProgram::Basis basis = floats_.basis();
-    size_t best = order.front().second;
+    const std::vector<size_t> order = ordered(all);
+    size_t best = order.front();
     double best_score = -1;
     int probes = 0, since = 0;
-    const int most_probes = nodes_ < 16 ? 3 * plan_.most_probed : plan_.most_probed;
-    for (const auto& [score, k] : order) {
+    for (const size_t k : order) {
         const History& own = history(all[k]);
         const bool is_known = own.probes[0] >= plan_.enough_probes && own.probes[1] >= plan_.enough_probes;
         if (!is_known && (probes >= most_probes || since >= plan_.most_probed)) continue;
         double rise[2];
         for (int which = 0; which < 2; which++) rise[which] = is_known ? std::min(expected(all[k], which), most) : probed(all[k], which, value, most, basis);
         probes += !is_known;
-        const double found = std::max(rise[0], 1e-6 * most) * std::max(rise[1], 1e-6 * most);
         since++;
-        if (found <= best_score) continue;
-        best_score = found;
+        const double score = std::max(rise[0], 1e-6 * most) * std::max(rise[1], 1e-6 * most);
+        if (score <= best_score) continue;
+        best_score = score;
         best = k;
         since = 0;
         if (rise[0] >= most && rise[1] >= most) break;

@@ -35,7 +35,8 @@ struct Shown {
 class TreeSearch {
    public:
     // Of a level, over the program's rows and those after them. The best point is taken on and improved.
-    TreeSearch(const Program& program, const Relaxation& relaxation, size_t level, std::optional<Point>& best, const Plan& plan, Watch& watch, size_t most_bytes);
+    TreeSearch(const Program& program, const Relaxation& relaxation, size_t level, std::optional<Point>& best, const Plan& plan, Watch& watch,
+               size_t most_bytes);
 
     Shown run();
 
@@ -83,7 +84,8 @@ class TreeSearch {
     History& history(const Branch& branch) { return histories_[branch.column + (branch.is_zero ? program_.size() : 0)]; }
     double expected(const Branch& branch, int which);
     double probed(const Branch& branch, int which, double value, double most, const FloatProgram::Basis& basis);
-    Branch chosen(std::vector<Branch> all, double value);
+    std::vector<size_t> ordered(const std::vector<Branch>& all);
+    Branch chosen(const std::vector<Branch>& all, double value);
     void divide(const Branch& branch, double value, int depth);
     void follow(const Found& found, int depth);
     std::vector<Ratio> direction();
@@ -97,7 +99,7 @@ class TreeSearch {
     Relaxation relaxation_;
     const size_t level_;
     std::optional<Point>& best_;
-    const std::vector<Ratio> reached_;  // the values of the levels before
+    std::vector<Ratio> reached_;  // the values of the levels before
     const Plan plan_;
     Watch& watch_;
     const size_t most_bytes_;
