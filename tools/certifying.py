@@ -1,0 +1,255 @@
+"""Finds an answer of a program with solvers that work with floats, and a certificate by which the checker accepts it.
+
+The core (`tools/certify_core`) makes exact what floats find; solvers that are installed find points for it; the checker decides. Nothing
+here is trusted but the checker: where it refuses a claim a weaker one is made, and what it doesn't accept isn't told as an answer.
+"""
+
+import fractions
+import os
+import re
+import shutil
+import subprocess
+import sys
+import tempfile
+
+import float_solvers
+import job_documents
+import lp_reader
+import mps_reader
+import result_text
+from linear_program import Complaint, Unread, osil, read_bytes, read_text, write_whole
+
+HERE = os.path.dirname(os.path.abspath(__file__))
+CORE_FOLDER = f"{HERE}/certify_core/out"
+FIRST_WORK = 2e7  # of the core before other solvers are asked, in its own measure: about half a second
+SHARE = 0.2  # of the seconds that are left, for each of these solvers
+LEAST_SECONDS = 1.0
+PARTS = ("point", "value", "ray", "bound", "rounds", "tree", "cause")
+# The checker reads no bound of a claim that is best so far. Once it does, such a claim carries one, with its rounds and its tree.
+BOUND_IS_READ = False
+
+
+class Wanting(Exception):
+    """What has to be there and isn't, in one line."""
+
+
+def program_of_checker():
+    """The program whose `check` decides: that of OS_PROGRAM, else the one that `./os` has built, else an installed one."""
+    given = os.environ.get("OS_PROGRAM")
+    built = os.path.join(os.path.dirname(HERE), "crates", "os_main", "out", "os_main")
+    for path in [given] if given else [built, shutil.which("gubnatris"), shutil.which("os_main")]:
+        if path and os.path.isfile(path) and os.access(path, os.X_OK):
+            return os.path.abspath(path)
+    if given:
+        raise Wanting(f"{given} isn't a program, and its `check` has to decide")
+    raise Wanting("no program is there whose `check` decides: run ./os once, which builds it, or name one by OS_PROGRAM")
+
+
+def core():
+    """The core, built where it isn't yet or is older than its sources."""
+    path = f"{CORE_FOLDER}/certify_core"
+    sources = [f"{HERE}/certify_core/{name}" for name in os.listdir(f"{HERE}/certify_core") if name.endswith((".cpp", ".hpp", "Makefile"))]
+    if os.path.exists(path) and all(os.path.getmtime(path) >= os.path.getmtime(source) for source in sources):
+        return path
+    print("certify: its core is built, once; that takes less than a minute", file=sys.stderr)
+    ran = subprocess.run(["bash", f"{HERE}/certify_core/build.sh", CORE_FOLDER], stdin=subprocess.DEVNULL, capture_output=True, text=True, check=False)
+    if ran.returncode != 0 or not os.path.exists(path):
+        last = (ran.stderr.strip() or ran.stdout.strip() or "no reason told").splitlines()[-1]
+        raise Wanting(f"its core can't be built: {last}")
+    return path
+
+
+def mps_program(text, words):
+    """An MPS file's program; where it isn't fixed MPS, the one that it is as free MPS."""
+    try:
+        return mps_reader.read(text, words)
+    except Complaint as fixed:
+        try:
+            return mps_reader.read(text, {*words, "--free"})
+        except Complaint as free:
+            raise (free if "is it free MPS?" in str(fixed) else fixed) from free
+
+
+def as_osil(path, words, folder):
+    """The path of an OSiL document of a model, and notes of how it was read: `.mps` and `.lp` are converted."""
+    end = os.path.splitext(path)[1].lower()
+    if end not in (".mps", ".lp"):
+        read_bytes(path)
+        return path, []
+    text = read_text(path)
+    program = lp_reader.read(text, set()) if end == ".lp" else mps_program(text, words)
+    program.name = program.name or os.path.basename(path).split(".")[0]
+    out = f"{folder}/model.osil"
+    write_whole(osil(program), out)
+    return out, program.notes
+
+
+def end_text(value):
+    return "none" if value is None else str(value)
+
+
+def core_text(instance, points):
+    """A program and points as the core reads them."""
+    lines = [f"{len(instance.variables)} {len(instance.rows)} {len(instance.goals)}"]
+    lines += [f"{'CIDJ'[v.whole + 2 * v.zero]} {end_text(v.low)} {end_text(v.high)}" for v in instance.variables]
+    for goal in instance.goals:
+        costs = "".join(f" {j} {cost}" for j, cost in goal.costs.items())
+        lines.append(f"{'max' if goal.maximise else 'min'} {goal.constant} {len(goal.costs)}{costs}")
+    for row, factors in zip(instance.rows, instance.factors):
+        entries = "".join(f" {j} {factor}" for j, factor in factors.items())
+        lines.append(f"{end_text(row.low)} {end_text(row.high)} {len(factors)}{entries}")
+    lines += [str(len(points)), *(" ".join(map(repr, point)) for point in points)]
+    return "\n".join([*lines, ""])
+
+
+def named_point(path, instance):
+    """A point in a file: of a result document, or in lines of a variable's name and its value; variables that aren't named are 0."""
+    text = read_text(path)
+    if text.lstrip().startswith("<"):
+        result = job_documents.result_of(path, instance)
+        if result.point is None:
+            raise Complaint("it is a result without a point")
+        return [float(value) for value in result.point]
+    numbers = {variable.name: j for j, variable in enumerate(instance.variables)}
+    point = [0.0] * len(instance.variables)
+    for k, line in enumerate(text.splitlines(), 1):
+        words = line.split()
+        if not words or words[0].startswith("#"):
+            continue
+        if len(words) != 2 or words[0] not in numbers:
+            raise Complaint(f"line {k} isn't the name of a variable and its value")
+        try:
+            point[numbers[words[0]]] = float(job_documents.decimal(words[1], f"the value in line {k}") if "/" not in words[1] else fractions.Fraction(words[1]))
+        except (ValueError, ZeroDivisionError) as error:
+            raise Complaint(f"the value in line {k} is {words[1][:40]!r}, which is no number") from error
+    return point
+
+
+class Certifying:
+    """A run: a model's path, how many seconds it may take, and where it tells how far it is."""
+
+    def __init__(self, path, seconds, seed, words, show):
+        self.path, self.seconds, self.seed, self.words, self.show = path, seconds, seed, words, show
+        self.children, self.notes, self.spent = float_solvers.Children(), [], 0.0
+        self.program, self.core = program_of_checker(), core()
+
+    def begin(self, folder):
+        """Reads the model, as OSiL that the checker reads."""
+        self.folder = folder
+        self.osil, notes = as_osil(self.path, self.words, folder)
+        self.notes += notes
+        self.instance = None
+        answer = self.checked("unsure", {"cause": ["killed"]})
+        if answer != "refused NoClaim":
+            raise Complaint(f"it is refused: {answer.removeprefix('refused Instance ')}")
+        self.instance = job_documents.instance_of(self.osil)
+
+    def checked(self, claim, parts):
+        """What the checker answers of a claim."""
+        self.text = result_text.osrl(claim, parts)
+        with open(f"{self.folder}/result.osrl", "w", encoding="utf-8") as it:
+            it.write(self.text)
+        ran = self.ran([self.program, "check", self.osil, f"{self.folder}/result.osrl"])
+        lines = ran.splitlines()
+        if len(lines) != 1 or not re.match("accepted |refused ", lines[0]):
+            raise Wanting(f"{self.program} is no checker: of `check` it says {lines[:1]}")
+        return lines[0]
+
+    def ran(self, words):
+        process = self.children.start(words, stdin=subprocess.DEVNULL, stdout=subprocess.PIPE, stderr=subprocess.DEVNULL)
+        try:
+            return process.stdout.read().decode(errors="replace")
+        finally:
+            self.children.end(process)
+
+    def core_claim(self, points, seconds, work):
+        """The kind of claim that the core makes, and the parts of its certificate."""
+        with open(f"{self.folder}/program", "w", encoding="ascii") as it:
+            it.write(core_text(self.instance, points))
+        words = [self.core, f"{seconds:.2f}", f"{work:g}", str(self.seed), "tells" if self.show else "quiet"]
+        with open(f"{self.folder}/program", "rb") as given:
+            process = self.children.start(words, stdin=given, stdout=subprocess.PIPE, stderr=subprocess.DEVNULL)
+        claim, parts = "unsure", {}
+        try:
+            for line in process.stdout:
+                name, _, rest = line.decode().rstrip("\n").partition(" ")
+                if name == "progress":
+                    self.show(self.spent, rest)
+                elif name == "claim":
+                    claim = rest
+                elif name in PARTS:
+                    parts.setdefault(name, []).append(rest)
+        finally:
+            self.children.end(process)
+        if claim in ("optimal", "unbounded", "bestSoFar"):
+            parts.setdefault("point", [])  # of no variables
+        return claim, {name: parts[name] for name in PARTS if name in parts}
+
+    def points_of_solvers(self, seconds):
+        """Points of the solvers that are installed."""
+        names = float_solvers.installed()
+        if not names:
+            self.notes.append("no solver is installed that finds points: CBC (coinor-cbc) or GLPK (glpk-utils) helps")
+            return []
+        with open(f"{self.folder}/program.mps", "w", encoding="ascii") as it:
+            it.write(float_solvers.mps(self.instance))
+        points = []
+        for name in names:
+            point, note = float_solvers.point_by(name, f"{self.folder}/program.mps", len(self.instance.variables), seconds, self.children, self.folder)
+            self.notes += [note] if note else []
+            points += [point] if point else []
+        return points
+
+    def answer(self, points):
+        """The answer of the checker to the best claim that is found. The text of the result stays."""
+        claim, parts = self.core_claim(points, self.seconds, FIRST_WORK)
+        if claim in ("bestSoFar", "unsure") and self.has_cases():
+            found = [[float(fractions.Fraction(value)) for value in parts["point"]]] if "point" in parts else []
+            found += points + self.points_of_solvers(max(LEAST_SECONDS, SHARE * self.seconds))
+            claim, parts = self.core_claim(found, self.seconds, 1e300)
+        return self.accepted(claim, parts)
+
+    def has_cases(self):
+        return any(variable.whole or variable.zero for variable in self.instance.variables)
+
+    def accepted(self, claim, parts):
+        """What the checker accepts of a claim, or less of it."""
+        if claim == "bestSoFar" and BOUND_IS_READ and "bound" in parts:
+            answer = self.checked(claim, parts)
+            if answer.startswith("accepted"):
+                return f"{answer} within {abs(fractions.Fraction(parts['value'][0]) - fractions.Fraction(parts['bound'][0]))}"
+        if claim not in ("bestSoFar", "unsure"):
+            answer = self.checked(claim, parts)
+            if answer.startswith("accepted"):
+                return answer
+            self.notes.append(f"its claim {claim} was {answer}, so less is claimed")
+        less = {name: parts[name] for name in ("point", "value") if name in parts} | {"cause": parts.get("cause", ["wide 1 0 check"])}
+        answer = self.checked("bestSoFar", less) if "point" in parts else ""
+        return answer if answer.startswith("accepted") else self.nothing(less["cause"])
+
+    def nothing(self, cause):
+        self.checked("unsure", {"cause": cause})
+        return None
+
+
+def certify(path, seconds, seed, words, point, result, show):
+    """The answer of the checker to what was found of a model, or none, and notes; the result is written where that is asked."""
+    run = Certifying(path, seconds, seed, words, show)
+    with tempfile.TemporaryDirectory(prefix="certify-") as folder:
+        try:
+            run.begin(folder)
+            points = []
+            if point:
+                try:
+                    points = [named_point(point, run.instance)]
+                except Complaint as error:
+                    raise Wanting(f"{point}: {error}") from error
+            answer = run.answer(points)
+        finally:
+            run.children.end_all()
+        if result:
+            write_whole(run.text, result)
+    return answer, run.notes
+
+
+__all__ = ["certify", "Wanting", "Complaint", "Unread"]
