@@ -73,6 +73,7 @@ class Seat:
     def __init__(self, worker, checker, events, kinds=("bound", "search")):
         self.worker, self.checker, self.events, self.kinds = worker, checker, events, kinds
         self.given, self.task, self.failures, self.until, self.is_out = queue.SimpleQueue(), None, 0, 0.0, False
+        self.worked, self.begun = 0.0, time.monotonic()
         threading.Thread(target=self.serve, daemon=True).start()
 
     def is_free(self):
@@ -315,6 +316,7 @@ class Division:
 
     def take(self, seat, task, answer):
         seat.task = None
+        seat.worked += time.monotonic() - task.begun
         if task.kind == "bound":
             task.part.is_bounding = any(it.task and it.task.part is task.part and it.task.kind == "bound" for it in self.seats)
         if isinstance(answer, Failed):
@@ -505,6 +507,11 @@ class Division:
         told = None if bound is None else parts.turned(self.instance.goals[0], bound)
         trees = () if bound is None else (self.tree(0, lambda own: own >= bound),)
         return parts.Claim("bestSoFar" if self.best else "unsure", self.point, None, told, trees, self.cause or "killed")
+
+    def busy(self):
+        """How much of their time the seats had a part."""
+        whole = sum(time.monotonic() - seat.begun for seat in self.seats)
+        return sum(seat.worked for seat in self.seats) / whole if whole else 0.0
 
     def all_parts(self):
         stack = [self.root]

@@ -6,6 +6,7 @@ worker is a `Failed`; where its answer isn't shown of the instance that it was g
 
 import ctypes
 import os
+import shutil
 import signal
 import socket
 import subprocess
@@ -19,7 +20,7 @@ import gubnatris
 import job_documents
 import parts
 
-PROGRAM = os.path.abspath(os.environ.get("OS_PROGRAM", "crates/os_main/out/os_main"))
+BUILT = os.path.join(os.path.dirname(os.path.dirname(os.path.abspath(__file__))), "crates", "os_main", "out", "os_main")
 MOST_CASES, MOST_TURNS = 1_000_000, 100_000_000
 SHORTEST_PAUSE, LONGEST_PAUSE = 0.002, 0.5
 LONGEST_STOP = 30  # seconds that a server may take to end a job that was killed
@@ -47,17 +48,20 @@ class Outcome(NamedTuple):
     bound: Optional[Fraction] = None
 
 
-def command_output(words):
-    """What the program writes, and its status."""
-    ran = subprocess.run([PROGRAM, *words], stdin=subprocess.DEVNULL, capture_output=True, text=True, check=False)
-    return ran.stdout, ran.returncode
+def program():
+    """The program: the one that OS_PROGRAM names, else the one that `./os` builds, else one of the PATH."""
+    named = os.environ.get("OS_PROGRAM")
+    found = os.path.abspath(named) if named else BUILT if os.path.exists(BUILT) else shutil.which("gubnatris") or shutil.which("os_main")
+    if not found or not os.access(found, os.X_OK):
+        raise Failed(f"{found or 'gubnatris'} isn't a program: let OS_PROGRAM name it, or build it by ./os")
+    return found
 
 
 class Checker:
     """The program's check. It says of two texts what it says of their files."""
 
     def __init__(self, folder):
-        self.folder = folder
+        self.folder, self.program = folder, program()
 
     def line(self, osil, osrl):
         with tempfile.NamedTemporaryFile("w", dir=self.folder, suffix=".osil", encoding="utf-8") as instance:
@@ -65,7 +69,8 @@ class Checker:
                 for file, text in ((instance, osil), (result, osrl)):
                     file.write(text)
                     file.flush()
-                return command_output(["check", instance.name, result.name])[0].strip()
+                words = [self.program, "check", instance.name, result.name]
+                return subprocess.run(words, stdin=subprocess.DEVNULL, capture_output=True, text=True, check=False).stdout.strip()
 
     def outcome(self, osil, document):
         """What a document shows of an instance. Raises `Wrong` where what it claims isn't shown."""
@@ -180,7 +185,7 @@ class LocalWorker(ServerWorker):
         self.close()
         for _ in range(3):  # another program may take the port in between
             self.port, self.starts = free_port(), self.starts + 1
-            words = [PROGRAM, "serve", "127.0.0.1", str(self.port), "--workers", "1", "--servers", "8"]
+            words = [program(), "serve", "127.0.0.1", str(self.port), "--workers", "1", "--servers", "8"]
             self.process = subprocess.Popen(words, stdin=subprocess.DEVNULL, stdout=subprocess.PIPE, preexec_fn=end_with_parent)
             if self.process.stdout.readline() == b"listening\n":
                 return

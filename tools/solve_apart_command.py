@@ -14,18 +14,25 @@ sys.path.insert(1, os.path.join(os.path.dirname(os.path.abspath(__file__)), ".."
 import gubnatris
 import job_documents
 import parts
+import slurm_workers
 from apart import Book, Division, Seat
 from linear_program import MOST_DOCUMENT, Complaint, Unread, printable, read_bytes, write_whole
-from part_workers import PROGRAM, Checker, Failed, Jobs, LocalWorker, ServerWorker
+from part_workers import Checker, Failed, Jobs, LocalWorker, ServerWorker
+from slurm_workers import SlurmQueue, SlurmWorker
 
-USAGE = """usage: tools/solve_apart MODEL [--servers URL,.. | --workers N] [--seconds N] [--share N] [--folder DIR] [--output OSRL] [--quiet]
+USAGE = """usage: tools/solve_apart MODEL [--servers URL,.. | --workers N | --slurm] [--seconds N] [--share N] [--folder DIR] [--output OSRL] [--quiet]
     --workers N    solves on this machine, so many parts at once, 1 to 64; without it and --servers, one for each processor
     --servers URL  solves at these servers, each so many parts at once as --workers says, two where nothing is said
+    --slurm        solves by a cluster of Slurm, so many parts at once as --workers says, as it has processors where nothing is said
     --seconds N    ends after so many seconds with the best point, and a bound
-    --share N      a search of a part that runs so many seconds ends where others wait, 2 where nothing is said
+    --share N      a search of a part that runs so many seconds ends where others wait, 2 where nothing is said; with --slurm a task ends
+                   with what it has after so many, 60 where nothing is said
     --folder DIR   keeps there what was found of the parts; a later run goes on with it. MODEL.parts, which is removed at the end, where none is named
     --output OSRL  writes the result there, and not to the standard output
     --quiet        says nothing while it works"""
+BOUNDING = 2  # seats of this machine that bound and divide parts for a cluster
+PARTS_FOR_EACH = 3  # parts that a cluster's program is divided into, for each seat
+MOST_SEATS = 64
 NO_CLAIM = parts.result_text(None, parts.Claim("unsure", cause="killed"))
 VALUES = {"workers", "servers", "seconds", "share", "folder", "output"}
 STATUS = {"words": 2, "read": 3, "write": 4}
@@ -35,12 +42,14 @@ class Words:
     """What the command's words ask for."""
 
     def __init__(self, words):
-        self.model, self.is_quiet, given = None, False, {}
+        self.model, self.is_quiet, self.is_slurm, given = None, False, False, {}
         words = iter(words)
         for word in words:
             name, equals, value = word.removeprefix("--").partition("=")
             if word == "--quiet":
                 self.is_quiet = True
+            elif word == "--slurm":
+                self.is_slurm = True
             elif word.startswith("--"):
                 if name not in VALUES or name in given:
                     raise ValueError(word)
@@ -49,11 +58,11 @@ class Words:
                 self.model = word
             else:
                 raise ValueError(word)
-        if self.model is None:
-            raise ValueError("MODEL")
         self.servers = [url for url in given.get("servers", "").split(",") if url]
-        self.workers = number(given.get("workers"), 1, 64) or (2 if self.servers else os.cpu_count() or 1)
-        self.seconds, self.share = number(given.get("seconds"), 1, 10**7), number(given.get("share"), 1, 10**7) or 2
+        if self.model is None or self.is_slurm and self.servers or "servers" in given and not self.servers:
+            raise ValueError("MODEL")
+        self.workers = number(given.get("workers"), 1, 64) or (None if self.is_slurm else 2 if self.servers else os.cpu_count() or 1)
+        self.seconds, self.share = number(given.get("seconds"), 1, 10**7), number(given.get("share"), 1, 10**7) or (60 if self.is_slurm else 2)
         self.folder, self.output, self.is_own = given.get("folder") or f"{self.model}.parts", given.get("output"), "folder" not in given
 
 
@@ -71,6 +80,7 @@ class Solving:
 
     def __init__(self, words):
         self.words, self.begun, self.workers = words, time.monotonic(), []
+        self.bounding = []
         self.until = self.begun + words.seconds if words.seconds else float("inf")
         self.division = None
 
@@ -88,7 +98,7 @@ class Solving:
             checker = Checker(scratch)
             line = checker.line(osil.decode("utf-8", "surrogateescape"), NO_CLAIM)
             if line != "refused NoClaim":
-                raise Complaint(line.removeprefix("refused Instance ") or f"{PROGRAM} doesn't run")
+                raise Complaint(line.removeprefix("refused Instance ") or "the program's check says nothing")
             self.instance = job_documents.instance_of(self.words.model)
             os.makedirs(self.words.folder, exist_ok=True)
             for name in (signal.SIGTERM, signal.SIGINT):
@@ -96,7 +106,7 @@ class Solving:
             try:
                 return self.solve(osil, checker)
             finally:
-                for worker in self.workers:
+                for worker in [*self.workers, *self.bounding]:
                     worker.close()
 
     def start_workers(self):
@@ -104,7 +114,11 @@ class Solving:
         left = jobs.give_up_left()
         if left:
             self.say(f"{left} jobs of a run that was killed are given up")
-        if self.words.servers:
+        if self.words.is_slurm:
+            tasks = SlurmQueue(self.words.folder, self.words.share)
+            self.workers = [SlurmWorker(tasks) for _ in range(self.words.workers or min(MOST_SEATS, slurm_workers.processors()))]
+            self.bounding = [LocalWorker(k + 1) for k in range(BOUNDING)]
+        elif self.words.servers:
             self.workers = [ServerWorker(url, jobs) for _ in range(self.words.workers) for url in self.words.servers]
         else:
             for k in range(self.words.workers):
@@ -117,8 +131,11 @@ class Solving:
             self.say("no whole variable, and none that may be 0 besides: it isn't divided")
             return self.solve_whole(osil, checker)
         events = queue.SimpleQueue()
-        seats = [Seat(worker, checker, events) for worker in self.workers]
-        self.division = Division(self.instance, book, seats, events, self.say, self.words.share)
+        kinds = ("search",) if self.words.is_slurm else ("bound", "search")
+        seats = [Seat(worker, checker, events, kinds) for worker in self.workers]
+        seats += [Seat(worker, checker, events, ("bound",)) for worker in self.bounding]
+        coarse = PARTS_FOR_EACH * len(self.workers) if self.words.is_slurm else None
+        self.division = Division(self.instance, book, seats, events, self.say, self.words.share, coarse)
         self.division.run(lambda: self.until)
         book.close()
         if self.division.is_endless_later:
@@ -166,7 +183,7 @@ class Solving:
         found = self.division.counts
         values = "" if claim.point is None else " " + ", ".join(map(str, parts.values_at(self.instance, claim.point)))
         bound = "" if claim.bound is None else f", none better than {claim.bound} by the parts' bounds"
-        return f"{values}{bound}; {found['divided']} divided, {found['bound']} bounded, {found['search']} searched"
+        return f"{values}{bound}; {found['divided']} divided, {found['bound']} bounded, {found['search']} searched, seats busy {self.division.busy():.2f}"
 
     def tell(self, text, is_ended):
         """The last line. The folder goes where all is known and nobody named it."""
