@@ -21,6 +21,7 @@ from serving import envelope, free_port, options, returned
 
 CLIENTS = 6
 TIMES = 6
+IN_A_ROW = 5
 LONGEST = 10.0  # seconds in which calls have to be answered again
 MARKED = re.compile(r"^( *)#(server \S+-standby )", re.M)
 
@@ -106,17 +107,29 @@ class Record(crashes.Record):
         return answer
 
 
-def work(machines, record, seconds, then=None):
-    """Clients at work for so long; then what is done, beside their last calls, numbers and texts alone. Each ends at a call that isn't answered."""
-    last, ready = threading.Event(), threading.Semaphore(0)
-    is_over = threading.Event()
+class Ending(ProxyClient):
+    """A client that makes no call any more once it is told so."""
 
-    def client_of():
-        if is_over.is_set():
-            raise ConnectionError
-        return ProxyClient(machines)
+    def __init__(self, machines, over):
+        super().__init__(machines)
+        self.over = over
 
-    threads = [threading.Thread(target=crashes.talk_in_order, args=(who, client_of, record, last, ready), daemon=True) for who in range(CLIENTS - 1)]
+    def post(self, body):
+        if self.over.is_set():
+            raise ConnectionError("no more calls")
+        return super().post(body)
+
+
+def work(machines, record, seconds, name):
+    """Clients at work for so long; then, beside their last calls, numbers and texts alone, whoever serves is killed. For how many seconds no call
+    was answered."""
+    last, ready, over = threading.Event(), threading.Semaphore(0), threading.Event()
+
+    def talk(who):
+        crashes.talk_in_order(who, lambda: Ending(machines, over), record, last, ready)
+        ready.release()  # also where it ended sooner, as one does that the proxy tells that nobody is up, when its checks come late
+
+    threads = [threading.Thread(target=talk, args=(who,), daemon=True) for who in range(CLIENTS - 1)]
     for thread in threads:
         thread.start()
     time.sleep(seconds)
@@ -124,26 +137,31 @@ def work(machines, record, seconds, then=None):
     for _ in threads:
         ready.acquire()
     time.sleep(random.uniform(0, 0.1))
-    killed_at = then()
+    machines.kill(name)
+    spent = answered_again(machines, time.monotonic())
+    over.set()
     for thread in threads:
         thread.join()
-    return killed_at
+    return spent
 
 
 def answered_again(machines, since):
-    """For how many seconds no call was answered, from a moment on."""
-    while True:
-        client = ProxyClient(machines)
+    """For how many seconds no call was answered, from a moment on. It comes back once some calls were, one after another."""
+    found, answered = None, 0
+    while answered < IN_A_ROW:
+        client, is_answered = ProxyClient(machines), False
         try:
-            if client.post(envelope("knock", ospl=""))[0] == 200:
-                return time.monotonic() - since
+            is_answered = client.post(envelope("knock", ospl=""))[0] == 200
         except (OSError, IndexError, ValueError):
             pass
         finally:
             client.close()
+        found = found or (time.monotonic() - since if is_answered else None)
+        answered = answered + 1 if is_answered else 0
         if time.monotonic() - since > 60:
             raise SystemExit("nobody answers a minute behind a kill")
         time.sleep(0.02)
+    return found
 
 
 def take_over(times=TIMES):
@@ -152,12 +170,8 @@ def take_over(times=TIMES):
         client, record, spent, serving = ProxyClient(machines), Record(), [], "one"
         record.begin(client)
 
-        def kill():
-            machines.kill(serving)
-            return time.monotonic()
-
         for _ in range(times):
-            spent.append(answered_again(machines, work(machines, record, random.uniform(1, 3), kill)))
+            spent.append(work(machines, record, random.uniform(1, 3), serving))
             record.settle(CLIENTS, ProxyClient(machines))
             gone, serving = serving, next(iter(machines.servers))
             machines.start(gone)
