@@ -33,6 +33,7 @@ USAGE = """usage: tools/solve_apart MODEL [--servers URL,.. | --workers N | --sl
 BOUNDING = 2  # seats of this machine that bound and divide parts for a cluster
 PARTS_FOR_EACH = 3  # parts that a cluster's program is divided into, for each seat
 MOST_SEATS = 64
+MOST_RESULT = MOST_DOCUMENT
 NO_CLAIM = parts.result_text(None, parts.Claim("unsure", cause="killed"))
 VALUES = {"workers", "servers", "seconds", "share", "folder", "output"}
 STATUS = {"words": 2, "read": 3, "write": 4}
@@ -169,8 +170,8 @@ class Solving:
     def write(self, claim, osil, checker):
         """Writes the joined result, as far as one document has room for it, and says what the check makes of it."""
         text, note = parts.result_text(self.instance, claim), ""
-        if len(text.encode()) > MOST_DOCUMENT:
-            note = f"{claim.status} by its parts, but the joined result has {len(text.encode()):,} bytes, past {MOST_DOCUMENT:,}: it is written without its tree; "
+        if len(text.encode()) > MOST_RESULT:
+            note = f"{claim.status} by its parts, but the joined result has {len(text.encode()):,} bytes, past {MOST_RESULT:,}: it is written without its tree; "
             status = "bestSoFar" if claim.point is not None else "unsure"
             text = parts.result_text(self.instance, parts.Claim(status, claim.point, cause="length"))
         line = checker.line(osil.decode("utf-8", "surrogateescape"), text)
