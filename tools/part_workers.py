@@ -88,14 +88,14 @@ class Checker:
         if result.status != "unsure" and accepted != f"accepted {result.status}":
             raise Wrong(f"its answer is {result.status}, and the check says {line}")
         is_bounded = bool(bound) and "rounds" not in extra
-        tree = result.tree or (extra.get("tree") if is_bounded else None)
+        tree = result.tree or (extra.get("tree") if is_bounded or result.status == "unbounded" else None)
         trees = tuple(map(tuple, parts.levels_of(tree))) if tree else ()
         return Outcome(result.status, result.values, result.objectives, result.ray, trees, result.cause, Fraction(bound) if is_bounded else None)
 
 
 def certificate_parts(document):
     """The items of the parts of a certificate that the client's result hasn't."""
-    if "os_cert.rounds" not in document and "os_cert.bound" not in document:
+    if not any(part in document for part in ("os_cert.rounds", "os_cert.bound", 'status type="unbounded"')):
         return {}
     root = job_documents.tree_of(document.encode(), "OSrL", "osrl")
     others = root.find("optimization", "solution", "otherSolutionResults")
