@@ -20,7 +20,7 @@ import programs
 PROGRAM = os.environ["OS_PROGRAM"]
 LIMITS = "".join(f'<solverOption name="{name}" value="{limit}"/>' for name, limit in (("nodeLimit", 10**6), ("pivotLimit", 10**8)))
 OPTIONS = f"<osol><optimization><solverOptions>{LIMITS}</solverOptions></optimization></osol>"
-MOST_SECONDS = 10  # of a processor, for one `solve`
+MOST_SECONDS = 6  # of a processor, for one `solve`
 WORKERS = (1, 4)
 
 
@@ -81,7 +81,10 @@ def main():
     seconds = int(sys.argv[1]) if sys.argv[1:] else 300
     print("| program | workers | one solve s | processors s | clock s | seats busy | reckoned s | times one | parts bounded | result bytes | result |")
     print("|---|---|---|---|---|---|---|---|---|---|---|", flush=True)
-    for program in (programs.fixed_charge(14, 20), programs.general_assignment(5, 35), programs.job_shop(5, 5), programs.job_shop(6, 3), programs.general_assignment(6, 24)):
+    for program in (
+        programs.fixed_charge(10, 15), programs.general_assignment(5, 25), programs.job_shop(5, 4), programs.job_shop(5, 5), programs.general_assignment(5, 35),
+        programs.fixed_charge(14, 20), programs.job_shop(6, 3), programs.general_assignment(6, 24),
+    ):
         rows(program, seconds)
 
 

@@ -76,7 +76,7 @@ def main():
     print("| jobs | instance bytes | how many | memory bytes a job | journal bytes a job | ms of a processor a job | knock's bytes a job | ms of a knock | s to open the journal |")
     print("|---|---|---|---|---|---|---|---|---|", flush=True)
     with tempfile.TemporaryDirectory() as folder:
-        row("issued", None, 9_000, folder)
+        row("issued", None, jobs, folder)
         row("small, finished", programs.osil(programs.knapsack(5, 1)), jobs, folder)
         row("a transport of 40 variables, finished", programs.osil(programs.transport(4, 10)), jobs, folder)
         row("a transport of 600 variables, finished", programs.osil(programs.transport(20, 30)), max(1, jobs // 20), folder)

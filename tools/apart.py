@@ -283,8 +283,7 @@ class Division:
 
     def task_again(self):
         """The bounding that has taken longest, once more, where its seat may be slow."""
-        late = [it.task for it in self.seats if it.task and it.task.kind == "bound" and not it.task.is_shared]
-        late = [task for task in late if time.monotonic() - task.begun > max(self.share, 1.0)]
+        late = [task for task in self.late_tasks() if not task.is_shared]
         if not late:
             return None
         task = min(late, key=lambda it: it.begun)
@@ -293,17 +292,21 @@ class Division:
         again.is_shared = True
         return again
 
+    def late_tasks(self):
+        tasks = [seat.task for seat in self.seats if seat.task and seat.task.kind == "bound"]
+        return [task for task in tasks if time.monotonic() - task.begun > max(self.share, 1.0)]
+
     def give_work(self):
         for seat in self.seats:
             if seat.is_free():
                 task = self.next_task(seat)
                 if task:
                     seat.give(task)
-        if not any(seat.is_free() for seat in self.seats) and not self.coarse:
+        if not self.coarse and (self.late_tasks() or not any(seat.is_free() for seat in self.seats)):
             self.make_room()
 
     def make_room(self):
-        """Where parts wait and no seat is free, the search that had its share is stopped."""
+        """Where parts wait for a seat, or for a worker behind one, searches that had their share are stopped."""
         if not self.open:
             return
         now = time.monotonic()
@@ -325,6 +328,8 @@ class Division:
         seat.failures = 0
         if isinstance(answer, Outcome):
             self.counts[task.kind] += 1
+            if task.kind == "bound":
+                task.part.is_bounding = False  # also where another seat still has it: what is known goes on
             (self.take_bound if task.kind == "bound" else self.take_search)(task.part, answer)
             self.stop_shared(task)
         elif task.kind == "bound" and not task.part.is_bounding and task.part.branch is None:

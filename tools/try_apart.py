@@ -158,17 +158,17 @@ def servers(folder):
     value = ("optimal", (938,))
     with Server(1, 16) as one, Server(1, 16) as two:
         urls = [f"http://127.0.0.1:{it.port}" for it in (one, two)]
-        ran = case.solve("--servers", ",".join(urls))
+        ran = case.solve("--servers", ",".join(urls), "--workers", "1")
         is_so(f"two servers: {case.line()} {case.told()}", ran.returncode == 0 and case.line() == "accepted optimal" and case.told() == value)
         states = [gubnatris.Server(url).jobs() for url in urls]
         is_so(f"no job is left at them, of {[it.total for it in states]}", all(not it.states and it.total > 5 for it in states))
         for name, document in lies(case):
             with Lying(escaped(document)) as liar:
-                ran = case.solve("--servers", f"{liar.url},{urls[0]}")
+                ran = case.solve("--servers", f"{liar.url},{urls[0]}", "--workers", "1")
                 is_told = f"{liar.url} is left out: its answer" in ran.stderr or "is left out" in ran.stderr
                 is_so(f"{name}: {case.line()}, asked {liar.handler.asked} times", ran.returncode == 0 and case.told() == value and is_told and 0 < liar.handler.asked)
         with Lying("full") as full:
-            ran = case.solve("--servers", f"{full.url},{urls[0]}")
+            ran = case.solve("--servers", f"{full.url},{urls[0]}", "--workers", "1")
             is_so(f"a server that is full: {case.line()}", ran.returncode == 0 and case.told() == value and "Server.Full" in ran.stderr)
             ran = case.solve("--servers", full.url)
             is_so(f"nobody else: {last(ran)[:100]}", ran.returncode == 1 and "Traceback" not in ran.stderr and "nobody is left" in ran.stderr)
@@ -266,7 +266,10 @@ def refused(folder):
 def main():
     with tempfile.TemporaryDirectory() as folder:
         for tried in (refused, kinds, servers, goes_on):
-            tried(folder)
+            try:
+                tried(folder)
+            except (OSError, ValueError, AttributeError, subprocess.TimeoutExpired, gubnatris.Error) as failure:
+                is_so(f"{tried.__name__} ended: {failure!r}"[:200], False)
     is_so("no server of the tool is left", not families())
     print(f"{Found.passed} passed, {Found.failed} failed")
     return Found.failed > 0
