@@ -2,7 +2,9 @@
 
 Each server has one worker. Clients send jobs, ask until each is finished, ever less often, read it and give it up; the time is that from the first
 number to the last document. Connections of the clients stay, directly in the clear and to the proxy over TLS. The rows take turns, and
-each shows the best of its rounds, as what else the machine does comes and goes.
+each shows the best of its rounds, as what else the machine does comes and goes. The last column has the processor's milliseconds that servers
+and proxy took for a job, which other work changes less: so many servers finish so many times as many jobs where each has as much of a
+processor as it takes, and the proxy the rest.
 """
 
 import contextlib
@@ -31,14 +33,14 @@ def direct():
     with subprocess.Popen(["deploy/serve", "1", str(port)], stdout=subprocess.PIPE) as server:
         if server.stdout.readline() != b"listening\n":
             raise SystemExit(f"serve ended with {server.wait()}")
-        yield lambda: Client(port)
+        yield lambda: Client(port), lambda: [server]
         server.kill()
 
 
 @contextlib.contextmanager
 def behind(count):
     with Machines(count) as machines:
-        yield lambda: ProxyClient(machines)
+        yield lambda: ProxyClient(machines), lambda: [*machines.servers.values(), machines.proxy]
 
 
 def asked(client, name, **parts):
@@ -70,16 +72,17 @@ def send_jobs(client, count, osil, failures):
 
 
 def measured(served, osil):
-    """Jobs a second, and the milliseconds of a small call, the median."""
+    """Jobs a second, the milliseconds of a small call, the median, and those of processors that the servers and the proxy took for a job."""
     failures = []
-    with served as client_of:
+    with served as (client_of, processes):
         clients = [client_of() for _ in range(CLIENTS)]
         threads = [threading.Thread(target=send_jobs, args=(client, JOBS // CLIENTS, osil, failures)) for client in clients]
-        begun = time.monotonic()
+        begun, before = time.monotonic(), sum(map(processor_seconds, processes()))
         for thread in threads:
             thread.start()
         for thread in threads:
             thread.join()
+        spent = sum(map(processor_seconds, processes())) - before
         seconds, times = time.monotonic() - begun, []
         for _ in range(CALLS):
             begun = time.monotonic()
@@ -89,20 +92,26 @@ def measured(served, osil):
             client.close()
     if failures:
         raise SystemExit("\n".join(failures))
-    return JOBS / seconds, statistics.median(times) * 1e3
+    return JOBS / seconds, statistics.median(times) * 1e3, spent / JOBS * 1e3
+
+
+def processor_seconds(process):
+    with open(f"/proc/{process.pid}/stat", encoding="ascii") as stat:
+        fields = stat.read().rpartition(")")[2].split()
+    return (int(fields[11]) + int(fields[12])) / os.sysconf("SC_CLK_TCK")
 
 
 def main():
     program = programs.sparse(100)
     osil = programs.osil(program)
     print(f"{JOBS} jobs, {program.name}, of {CLIENTS} clients; {os.cpu_count()} processors\n")
-    print("| servers | jobs a second | to one directly | ms a small call | to one directly |\n|---|---|---|---|---|", flush=True)
+    print("| servers | jobs a second | to one directly | ms a small call | to one directly | processors ms a job |\n|---|---|---|---|---|---|", flush=True)
     rows = {"1, directly": direct} | {f"{count} behind the proxy": functools.partial(behind, count) for count in range(1, len(NAMES) + 1)}
     rounds = [{name: measured(serve(), osil) for name, serve in rows.items()} for _ in range(ROUNDS)]
-    best = {name: (max(it[name][0] for it in rounds), min(it[name][1] for it in rounds)) for name in rows}
-    one, small = best["1, directly"]
-    for name, (jobs, call) in best.items():
-        print(f"| {name} | {jobs:.1f} | {jobs / one:.2f} | {call:.2f} | {call / small:.1f} |")
+    best = {name: (max(it[name][0] for it in rounds), min(it[name][1] for it in rounds), min(it[name][2] for it in rounds)) for name in rows}
+    one, small, _ = best["1, directly"]
+    for name, (jobs, call, spent) in best.items():
+        print(f"| {name} | {jobs:.1f} | {jobs / one:.2f} | {call:.2f} | {call / small:.1f} | {spent:.0f} |")
 
 
 main()

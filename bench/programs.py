@@ -193,6 +193,24 @@ def general_assignment(agents, tasks):
     return Program(f"general assignment {agents}x{tasks}", False, [(0, 1, True)] * len(costs), rows, costs)
 
 
+def job_shop(jobs, machines):
+    """The least time in which all jobs are done, each of which goes over each machine once, in an order of its own, while no machine has
+    two jobs at once (big-M form, Manne 1960)."""
+    rng = random.Random(jobs * machines)
+    orders = [rng.sample(range(machines), machines) for _ in range(jobs)]
+    times = [[rng.randint(1, 20) for _ in range(machines)] for _ in range(jobs)]
+    longest = sum(map(sum, times))
+    end = jobs * machines  # the variable of the whole time; before it stand the starts, behind it which of two jobs comes first
+    pairs = [(i, j, m) for m in range(machines) for j in range(jobs) for i in range(j)]
+    rows = [(times[j][a], None, {j * machines + b: 1, j * machines + a: -1}) for j in range(jobs) for a, b in zip(orders[j], orders[j][1:])]
+    rows += [(times[j][orders[j][-1]], None, {end: 1, j * machines + orders[j][-1]: -1}) for j in range(jobs)]
+    for place, (i, j, m) in enumerate(pairs, end + 1):
+        rows.append((times[i][m] - longest, None, {j * machines + m: 1, i * machines + m: -1, place: -longest}))
+        rows.append((times[j][m], None, {i * machines + m: 1, j * machines + m: -1, place: longest}))
+    variables = [(0, None, False)] * (end + 1) + [(0, 1, True)] * len(pairs)
+    return Program(f"job shop {jobs}x{machines}", False, variables, rows, [0] * end + [1] + [0] * len(pairs))
+
+
 def lot_sizing(products, periods):
     """The least cost of what is made and kept, where a product is made in lots of a least and a greatest size, one a period at most, and a
     period has time for so much."""

@@ -16,6 +16,7 @@ from pathlib import Path
 
 import gubnatris
 import histories
+import takeover
 from histories import RUNNING, Call, Contradiction
 from proxied import NAMES, NUMBERS, PASSWORD, USER, Machines, ProxyClient
 from serve_clients import instance, told
@@ -437,6 +438,8 @@ def main():
     with Machines() as machines:
         good.append(kill_beside_clients(machines, calls))
         good += [tried(machines) for tried in (by_the_python_client, comes_back, drains, none_left, short_of_memory)]
+    good.append(takeover.take_over())
+    print(f"{sum(good)} passed, {len(good) - sum(good)} failed")
     return not all(good)
 
 

@@ -225,9 +225,9 @@ class Record:
                 self.take(histories.Call(asker, sent, now, name, job, mark, True))
 
 
-def talk_in_order(who, port, record, last, ready):
+def talk_in_order(who, client_of, record, last, ready):
     try:
-        client, is_last = Client(port), False
+        client, is_last = client_of(), False
         while True:
             if last.is_set() and not is_last:
                 is_last = True
@@ -249,7 +249,7 @@ def crash_in_order(journal, record):
     with Server(0, CLIENTS, journal=journal) as server:
         record.settle(CLIENTS, Client(server.port))
         last, ready = threading.Event(), threading.Semaphore(0)
-        threads = [threading.Thread(target=talk_in_order, args=(who, server.port, record, last, ready)) for who in range(CLIENTS - 1)]
+        threads = [threading.Thread(target=talk_in_order, args=(who, lambda: Client(server.port), record, last, ready)) for who in range(CLIENTS - 1)]
         for thread in threads:
             thread.start()
         time.sleep(random.uniform(0.005, LONGEST))
@@ -411,4 +411,5 @@ def main():
         print(f"one order: {placed} calls of {len(record.numbers)} jobs, at most {most} orders open at once, {os.path.getsize(ordered)} bytes")
 
 
-main()
+if __name__ == "__main__":
+    main()

@@ -1,0 +1,198 @@
+"""Tries what solves by Slurm, on a cluster of a controller and two daemons that this starts on loopback and ends.
+
+    python3 deploy/slurm/try.py [FILES]     so many small files, 400 where none are asked for; with 10,000 it measures them too
+"""
+
+import os
+import random
+import re
+import shutil
+import signal
+import subprocess
+import sys
+import tempfile
+import time
+
+import programs
+from cluster import Cluster
+from part_workers import free_port
+
+PROGRAM = os.environ["OS_PROGRAM"]
+MANY = "deploy/slurm/solve_many"
+EXAMPLES = ("diet", "knapsack", "transport", "infeasible_schedule", "capital_budget")
+LIMIT = 300
+
+
+class Trial:
+    """A cluster, a folder, and what was found right and wrong."""
+
+    def __init__(self, cluster, folder):
+        self.cluster, self.folder, self.passed, self.failed = cluster, folder, 0, 0
+        self.environment = os.environ | cluster.environment
+
+    def is_so(self, what, found):
+        self.passed, self.failed = self.passed + bool(found), self.failed + (not found)
+        print(f"{'ok' if found else 'FAILED'}: {what}", flush=True)
+
+    def run(self, *words, **more):
+        return subprocess.run(words, capture_output=True, text=True, env=self.environment, timeout=LIMIT, check=False, **more)
+
+    def start(self, *words):
+        return subprocess.Popen(words, stdout=subprocess.DEVNULL, stderr=subprocess.DEVNULL, env=self.environment)
+
+    def files(self, name, count, most=5):
+        """A folder of so many small instances, of which one is refused; half of them transports from at most so many places."""
+        where = os.path.join(self.folder, name)
+        os.mkdir(where)
+        rng = random.Random(count)
+        for k in range(count - 1):
+            if k % 2:
+                shutil.copy(f"examples/{EXAMPLES[k % len(EXAMPLES)]}.osil", f"{where}/{k:05}.osil")
+            else:
+                with open(f"{where}/{k:05}.osil", "w", encoding="utf-8") as file:
+                    file.write(programs.osil(programs.transport(rng.randint(most // 2, most), rng.randint(3, 6) * most // 5)))
+        with open(f"{where}/{count:05}.osil", "w", encoding="utf-8") as file:
+            file.write("<osil/>")
+        return where
+
+    def check(self, osil, osrl):
+        return self.run(PROGRAM, "check", osil, osrl).stdout.strip()
+
+
+def results(where):
+    return {name: os.stat(f"{where}/{name}").st_mtime_ns for name in os.listdir(where) if name.endswith(".osrl")}
+
+
+def table(where):
+    with open(f"{where}/table.tsv", encoding="utf-8") as file:
+        return [line.rstrip("\n").split("\t") for line in file][1:]
+
+
+def many_files(trial, count):
+    """All files of a folder have a result that is shown, and a line."""
+    where = trial.files("many", count)
+    ran = trial.run(MANY, where, "--check")
+    lines = table(where)
+    trial.is_so(f"{count} files: {ran.stdout.strip().partition(';')[0]}", ran.returncode == 0 and len(results(where)) == count)
+    trial.is_so(f"{len(lines)} lines of a table, one of them refused", len(lines) == count and [row[0] for row in lines if row[1].startswith("refused")] == [f"{count:05}.osil"])
+    told = [(row[1], trial.check(f"{where}/{row[0]}", f"{where}/{row[0].removesuffix('.osil')}.osrl")) for row in lines[:40]]
+    trial.is_so("the check accepts what the lines say, of 40", all(line == f"accepted {status}" for status, line in told))
+    again = trial.run(MANY, where)
+    trial.is_so("a second run has nothing to do, and the table stays", again.returncode == 0 and table(where) == lines)
+    trial.is_so("nothing else is left beside the files", not [name for name in os.listdir(where) if name.endswith((".begun", ".line"))])
+
+
+def interrupted(trial, count):
+    """A run that is killed, with its tasks: a second one goes on behind it."""
+    where = trial.files("interrupted", count, 20)
+    process, limit = trial.start(MANY, where, "--tasks", "2"), time.monotonic() + 60
+    while len(results(where)) < count // 10 and time.monotonic() < limit:
+        time.sleep(0.02)
+    process.kill()
+    process.wait()
+    trial.run("scancel", "--user=root")
+    while trial.cluster.told("squeue", "-h") and time.monotonic() < limit:
+        time.sleep(0.1)
+    before = results(where)
+    ran = trial.run(MANY, where)
+    after = results(where)
+    trial.is_so(f"killed behind {len(before)} of {count}, a second run goes on: {ran.stdout.partition(';')[0]}", 0 < len(before) < count and ran.returncode == 0 and len(after) == count)
+    trial.is_so("what had a result wasn't solved again, and each has a line", all(after[name] == then for name, then in before.items()) and len(table(where)) == count)
+
+
+def lost_node(trial, count):
+    """A daemon that dies with its tasks: Slurm gives them to the other one, or a second run does."""
+    where = trial.files("lost", count)
+    process, limit = trial.start(MANY, where), time.monotonic() + 60
+    while not results(where) and time.monotonic() < limit:
+        time.sleep(0.02)
+    trial.cluster.kill("n2")
+    trial.cluster.start_daemon("n2")
+    status = process.wait(timeout=LIMIT)
+    ran = trial.run(MANY, where)
+    trial.is_so(f"a daemon was killed and started: {ran.stdout.partition(';')[0]} (the first run ended with {status})", ran.returncode == 0 and len(results(where)) == count)
+
+
+def bad_words(trial):
+    for words, says in (
+        ((MANY, f"{trial.folder}/none"), "is no folder"),
+        ((MANY, trial.folder, "--tasks", "0"), "--tasks is 1 to 1000"),
+        (("tools/solve_apart", "examples/knapsack.osil", "--slurm", "--servers", "http://127.0.0.1:1"), "usage:"),
+    ):
+        ran = trial.run(*words)
+        trial.is_so(f"{' '.join(words[1:3])}: {(ran.stderr.strip().splitlines() or [''])[-1][:80]}", ran.returncode == 2 and says in ran.stderr and "Traceback" not in ran.stderr)
+    trial.environment["SLURM_CONF"] = f"{trial.folder}/none"
+    ran = trial.run("tools/solve_apart", "examples/knapsack.osil", "--slurm", "--folder", f"{trial.folder}/none.parts")
+    trial.environment["SLURM_CONF"] = trial.cluster.environment["SLURM_CONF"]
+    trial.is_so(f"without a cluster: {ran.stderr.strip()[-90:]}", ran.returncode == 1 and "Traceback" not in ran.stderr and len(ran.stderr.splitlines()) == 1)
+
+
+def instance(trial, name, program):
+    path = f"{trial.folder}/{name}.osil"
+    with open(path, "w", encoding="utf-8") as file:
+        file.write(programs.osil(program))
+    return path
+
+
+def parts_of_one(trial):
+    """One program by array tasks, one of which is taken away; the tool is killed once, and goes on."""
+    path, output = instance(trial, "apart", programs.fixed_charge(9, 12)), f"{trial.folder}/apart.osrl"
+    words = ("tools/solve_apart", path, "--slurm", "--share", "20", "--output", output)
+    process, limit = trial.start(*words), time.monotonic() + 60
+    while not trial.cluster.told("squeue", "-h", "-t", "R") and time.monotonic() < limit:
+        time.sleep(0.05)
+    process.kill()
+    process.wait()
+    there = bool(trial.cluster.told("squeue", "-h"))
+    process = trial.start(*words)
+    while not (tasks := trial.cluster.told("squeue", "-h", "-r", "-t", "R", "-o", "%F_%K").split()) and process.poll() is None and time.monotonic() < limit:
+        time.sleep(0.05)
+    trial.run("scancel", *tasks[:1]) if tasks else None
+    status = process.wait(timeout=LIMIT)
+    line, value = trial.check(path, output), re.search(r'"os_cert.value"><item>([^<]*)<', open(output, encoding="utf-8").read())
+    trial.is_so(f"one program, its tool killed once with its tasks ({there}), a task taken away ({len(tasks)}): {line} {value and value.group(1)}", status == 0 and line == "accepted optimal" and value.group(1) == "938")
+    trial.is_so("no task is left, and no folder", not trial.cluster.told("squeue", "-h") and not os.path.exists(f"{path}.parts"))
+
+
+def measured(trial, count):
+    """The processors' seconds that so many files take by themselves, and through Slurm with all that it takes itself."""
+    where = trial.files("measured", count)
+    with open(f"{trial.folder}/names", "w", encoding="utf-8") as file:
+        file.write("".join(f"{name}\n" for name in sorted(os.listdir(where))))
+    before = trial.cluster.spent()
+    alone = [trial.start("deploy/slurm/solve_files", where, f"{trial.folder}/names", str(task), "4") for task in range(4)]
+    for process in alone:
+        process.wait()
+    direct = trial.cluster.spent() - before
+    for name in results(where):
+        os.remove(f"{where}/{name}")
+    begun, before = time.monotonic(), Cluster.spent()
+    with Cluster([free_port() for _ in range(3)]) as cluster:
+        ran = subprocess.run([MANY, where], env=os.environ | cluster.environment, capture_output=True, text=True, check=False)
+    through, clock = Cluster.spent() - before, time.monotonic() - begun
+    print(f"{count} files: {direct:.1f} s of processors by themselves, {through:.1f} s through Slurm, {direct / through:.2f} of them; {clock:.0f} s of the clock")
+    trial.is_so(ran.stdout.partition(";")[0], ran.returncode == 0 and len(results(where)) == count)
+
+
+def main():
+    count = int(sys.argv[1]) if sys.argv[1:] else 400
+    with tempfile.TemporaryDirectory(prefix="many-") as folder:
+        os.chmod(folder, 0o755)
+        with Cluster([free_port() for _ in range(3)]) as cluster:
+            trial = Trial(cluster, folder)
+            many_files(trial, min(count, 400))
+            interrupted(trial, min(count, 400))
+            bad_words(trial)
+            parts_of_one(trial)
+            lost_node(trial, 100)
+        if count >= 10_000:
+            measured(trial, count)
+    with open(f"/proc/self/task/{os.getpid()}/children", encoding="ascii") as file:
+        trial.is_so("no process is left", not file.read().split())
+    print(f"{trial.passed} passed, {trial.failed} failed")
+    return trial.failed > 0
+
+
+if __name__ == "__main__":
+    signal.signal(signal.SIGTERM, lambda *_: sys.exit(1))
+    sys.exit(main())

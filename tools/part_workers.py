@@ -1,0 +1,240 @@
+"""Who solves parts: servers by the six calls, those of others or ones that are started here. What they say is checked before it is believed.
+
+A worker's `solve` gives the result document of an instance, or none where it was stopped before it began. Whatever goes wrong with a
+worker is a `Failed`; where its answer isn't shown of the instance that it was given, it is `Wrong`, and nothing more is asked of it.
+"""
+
+import ctypes
+import os
+import shutil
+import signal
+import socket
+import subprocess
+import tempfile
+import threading
+import time
+from fractions import Fraction
+from typing import NamedTuple, Optional
+
+import gubnatris
+import job_documents
+import parts
+
+BUILT = os.path.join(os.path.dirname(os.path.dirname(os.path.abspath(__file__))), "crates", "os_main", "out", "os_main")
+MOST_CASES, MOST_TURNS = 1_000_000, 100_000_000
+SHORTEST_PAUSE, LONGEST_PAUSE = 0.002, 0.5
+LONGEST_STOP = 30  # seconds that a server may take to end a job that was killed
+STARTS = 5  # how often a server of this tool is started anew
+DEATH_SIGNAL = 1  # PR_SET_PDEATHSIG of Linux
+
+
+class Failed(Exception):
+    """A worker gave no result, in one line."""
+
+
+class Wrong(Failed):
+    """A worker's answer isn't shown of its instance, in one line."""
+
+
+class Outcome(NamedTuple):
+    """What an answer shows of its instance. `bound`: a number that no point is better than, by the tree, where the program's check says so."""
+
+    status: str
+    point: Optional[tuple] = None
+    values: Optional[tuple] = None
+    ray: Optional[tuple] = None
+    trees: tuple = ()
+    cause: Optional[str] = None
+    bound: Optional[Fraction] = None
+
+
+def program():
+    """The program: the one that OS_PROGRAM names, else the one that `./os` builds, else one of the PATH."""
+    named = os.environ.get("OS_PROGRAM")
+    found = os.path.abspath(named) if named else BUILT if os.path.exists(BUILT) else shutil.which("gubnatris") or shutil.which("os_main")
+    if not found or not os.access(found, os.X_OK):
+        raise Failed(f"{found or 'gubnatris'} isn't a program: let OS_PROGRAM name it, or build it by ./os")
+    return found
+
+
+class Checker:
+    """The program's check. It says of two texts what it says of their files."""
+
+    def __init__(self, folder):
+        self.folder, self.program = folder, program()
+
+    def line(self, osil, osrl):
+        with tempfile.NamedTemporaryFile("w", dir=self.folder, suffix=".osil", encoding="utf-8") as instance:
+            with tempfile.NamedTemporaryFile("w", dir=self.folder, suffix=".osrl", encoding="utf-8") as result:
+                for file, text in ((instance, osil), (result, osrl)):
+                    file.write(text)
+                    file.flush()
+                words = [self.program, "check", instance.name, result.name]
+                return subprocess.run(words, stdin=subprocess.DEVNULL, capture_output=True, text=True, check=False).stdout.strip()
+
+    def outcome(self, osil, document):
+        """What a document shows of an instance. Raises `Wrong` where what it claims isn't shown."""
+        try:
+            result = gubnatris.read_result(document)
+        except gubnatris.Error as failure:
+            raise Wrong(f"its answer is no result: {failure}") from failure
+        line = self.line(osil, document)
+        if line.startswith("refused") and not (result.status == "unsure" and line == "refused NoClaim"):
+            raise Wrong(f"its answer is {line}")
+        extra = certificate_parts(document)
+        if result.status in ("optimal", "infeasible") and "rounds" in extra:
+            raise Wrong("its answer has rounds, and none were asked for")
+        accepted, _, bound = line.partition(" within ")
+        if result.status != "unsure" and accepted != f"accepted {result.status}":
+            raise Wrong(f"its answer is {result.status}, and the check says {line}")
+        is_bounded = bool(bound) and "rounds" not in extra
+        tree = result.tree or (extra.get("tree") if is_bounded or result.status == "unbounded" else None)
+        trees = tuple(map(tuple, parts.levels_of(tree))) if tree else ()
+        return Outcome(result.status, result.values, result.objectives, result.ray, trees, result.cause, Fraction(bound) if is_bounded else None)
+
+
+def certificate_parts(document):
+    """The items of the parts of a certificate that the client's result hasn't."""
+    if not any(part in document for part in ("os_cert.rounds", "os_cert.bound", 'status type="unbounded"')):
+        return {}
+    root = job_documents.tree_of(document.encode(), "OSrL", "osrl")
+    others = root.find("optimization", "solution", "otherSolutionResults")
+    found = others.all("otherSolutionResult") if others else []
+    return {it.attributes.get("name", "").removeprefix("os_cert."): [item.text for item in it.all("item")] for it in found}
+
+
+class ServerWorker:
+    """A seat at a server. `jobs`: where the names of jobs are written down while they are at the server, so that none is left there."""
+
+    def __init__(self, url, jobs=None, seconds=30.0):
+        self.name, self.server, self.jobs = url, gubnatris.Server(url, seconds=seconds), jobs
+
+    def solve(self, osil, stop):
+        try:
+            job = self.server.submit(osil, node_limit=MOST_CASES, turn_limit=MOST_TURNS)
+            if self.jobs:
+                self.jobs.begun(self.name, job)
+            try:
+                return self.wait(job, stop)
+            finally:
+                self.give_up(job)
+        except gubnatris.Refused as failure:
+            raise Wrong(f"{failure}") from failure
+        except gubnatris.Error as failure:
+            raise Failed(f"{failure}") from failure
+
+    def wait(self, job, stop):
+        """The document of a job; it is asked for ever less often, and killed where the part isn't wanted any more."""
+        begun, until = time.monotonic(), None
+        while True:
+            try:
+                return self.server.result(job).document
+            except gubnatris.NotFinished as still:
+                if still.state not in ("waiting", "running"):
+                    if until is not None and still.state in ("killed", "unknown"):
+                        return None
+                    raise
+            now = time.monotonic()
+            if until is None and stop.is_set():
+                if self.server.kill(job) != "running":
+                    return None
+                until = now + LONGEST_STOP
+            if until is not None and now > until:
+                raise Failed(f"{job} was killed, and still runs")
+            pause = min(LONGEST_PAUSE, max(SHORTEST_PAUSE, (now - begun) / 8))
+            time.sleep(pause) if until else stop.wait(pause)
+
+    def give_up(self, job):
+        """What runs stays, where a server doesn't end it: a second kill of a job that runs does nothing."""
+        try:
+            if self.server.kill(job) == "killed":
+                self.server.kill(job)
+            if self.jobs:
+                self.jobs.ended(self.name, job)
+        except gubnatris.Error:
+            pass
+
+    def mend(self):
+        pass
+
+    def close(self):
+        pass
+
+
+def free_port():
+    with socket.create_server(("127.0.0.1", 0)) as it:
+        return it.getsockname()[1]
+
+
+def end_with_parent():
+    """Has the system end this process when the one that started it ends, however that comes."""
+    ctypes.CDLL(None).prctl(DEATH_SIGNAL, signal.SIGKILL)
+    signal.signal(signal.SIGINT, signal.SIG_IGN)
+
+
+class LocalWorker(ServerWorker):
+    """A seat at a server of this tool's own, with one worker, at a free port of loopback. It is started anew where it ended."""
+
+    def __init__(self, number):
+        self.number, self.starts, self.process = number, 0, None
+        self.start()
+        super().__init__(f"http://127.0.0.1:{self.port}")
+        self.name = f"worker {number}"
+
+    def start(self):
+        self.close()
+        for _ in range(3):  # another program may take the port in between
+            self.port, self.starts = free_port(), self.starts + 1
+            words = [program(), "serve", "127.0.0.1", str(self.port), "--workers", "1", "--servers", "8"]
+            self.process = subprocess.Popen(words, stdin=subprocess.DEVNULL, stdout=subprocess.PIPE, preexec_fn=end_with_parent)
+            if self.process.stdout.readline() == b"listening\n":
+                return
+            self.close()
+        raise Failed("the program doesn't serve")
+
+    def mend(self):
+        """Starts the server anew where it ended; by the thread that lives as long as the tool, with which the server ends."""
+        if self.process.poll() is not None and self.starts <= STARTS:
+            self.start()
+            self.server = gubnatris.Server(f"http://127.0.0.1:{self.port}", seconds=self.server.seconds)
+
+    def close(self):
+        if self.process:
+            self.process.kill()
+            self.process.wait()
+            self.process.stdout.close()
+
+
+class Jobs:
+    """The jobs that are at servers, in a file, so that a tool that is started again gives up what an ended one left there."""
+
+    def __init__(self, path):
+        self.path, self.lock, self.open = path, threading.Lock(), set()
+
+    def give_up_left(self):
+        """Gives up what is left at servers; how many were asked for."""
+        left = set()
+        try:
+            with open(self.path, encoding="utf-8") as file:
+                for line in file:
+                    mark, url, job = (line.split() + ["", "", ""])[:3]
+                    (left.add if mark == "+" else left.discard)((url, job))
+        except OSError:
+            pass
+        for url, job in left:
+            worker = ServerWorker(url, seconds=5)
+            worker.give_up(job)
+            worker.give_up(job)
+        with open(self.path, "w", encoding="utf-8"):
+            pass
+        return len(left)
+
+    def write(self, mark, url, job):
+        with self.lock, open(self.path, "a", encoding="utf-8") as file:
+            file.write(f"{mark} {url} {job}\n")
+
+    def begun(self, url, job):
+        self.write("+", url, job)
+
+    def ended(self, url, job):
+        self.write("-", url, job)

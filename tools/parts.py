@@ -1,0 +1,229 @@
+"""Parts of a program with whole variables, and what shows of the whole what was found of them (`docs/rules/certificates.md`).
+
+A part is the same instance with tighter ends, by branches: a whole variable is at most k, or at least k + 1; a variable that may be 0
+besides is 0, or between its own ends. The trees of two such parts, behind a node that says the branch, are a tree of both.
+"""
+
+import fractions
+import re
+from typing import NamedTuple, Optional
+
+from job_documents import Column, Instance
+
+ZERO = fractions.Fraction(0)
+WIDEST = 2**127 - 1
+LEVEL = re.compile(r"level \d+")
+
+
+class Wide(Exception):
+    """A number passes 128 bits."""
+
+
+class Branch(NamedTuple):
+    """A variable that is divided: at a whole number, or into 0 and its own ends."""
+
+    column: int
+    value: Optional[int]
+
+    def node(self):
+        return f"zero {self.column}" if self.value is None else f"split {self.column} {self.value}"
+
+
+def fitted(number):
+    if abs(number.numerator) > WIDEST or number.denominator > WIDEST:
+        raise Wide(f"{str(number)[:40]}.. passes 128 bits")
+    return number
+
+
+def decimal_text(number):
+    """The decimal that a number is, without an exponent."""
+    places, size = 0, fitted(abs(number))
+    while (size * 10**places).denominator != 1:
+        places += 1
+    digits = str((size * 10**places).numerator).rjust(places + 1, "0")
+    text = digits if places == 0 else f"{digits[:-places]}.{digits[-places:]}"
+    return "-" + text if number < 0 else text
+
+
+def cut_text(number, most=12):
+    """A number for people: cut towards zero behind so many decimals."""
+    size, scale = abs(number), 10**most
+    whole, rest = divmod(size.numerator * scale // size.denominator, scale)
+    text = f"{whole}.{rest:0{most}}".rstrip("0").rstrip(".")
+    return "-" + text if number < 0 and text != "0" else text
+
+
+# ---- the variables of a part
+
+
+def with_branch(variables, branch, side):
+    """The variables in the first case of a branch, or in the second."""
+    it = variables[branch.column]
+    if branch.value is None:
+        new = Column("", it.low, it.high, it.whole) if side else Column("", ZERO, ZERO, it.whole)
+    elif side:
+        low = fractions.Fraction(branch.value + 1)
+        new = Column("", low if it.low is None else max(it.low, low), it.high, it.whole, it.zero)
+    else:
+        high = fractions.Fraction(branch.value)
+        new = Column("", it.low, high if it.high is None else min(it.high, high), it.whole, it.zero)
+    return [*variables[: branch.column], new, *variables[branch.column + 1 :]]
+
+
+def relaxed(variables):
+    """The variables without their wholeness, those that may be 0 besides between their relaxed ends."""
+    return [
+        Column("", it.low and min(it.low, ZERO), it.high and max(it.high, ZERO)) if it.zero else Column("", it.low, it.high) for it in variables
+    ]
+
+
+def is_own(column, value):
+    """Whether a value lies between a variable's own ends."""
+    return (column.low is None or column.low <= value) and (column.high is None or value <= column.high)
+
+
+def branch_at(variables, point):
+    """The branch that a search makes at a point: of the least variable whose value isn't as it must be; none where all are."""
+    for place, (it, value) in enumerate(zip(variables, point)):
+        if it.zero and value != 0 and not is_own(it, value):
+            return Branch(place, None)
+        if it.whole and value.denominator != 1:
+            return Branch(place, value.numerator // value.denominator)
+    return None
+
+
+def is_divisible(variables):
+    return any(it.whole or it.zero for it in variables)
+
+
+# ---- goals
+
+
+def turned(goal, value):
+    """A value as one of which less is better."""
+    return -value if goal.maximise else value
+
+
+def values_at(instance, point):
+    return tuple(goal.constant + sum((cost * point[j] for j, cost in goal.costs.items()), ZERO) for goal in instance.goals)
+
+
+def turned_values(instance, values):
+    return tuple(turned(goal, value) for goal, value in zip(instance.goals, values))
+
+
+# ---- the text of a part
+
+
+def end_text(end, infinite):
+    return infinite if end is None else decimal_text(end)
+
+
+def listed(name, numbers):
+    return f"<{name}>" + "".join(f"<el>{number}</el>" for number in numbers) + f"</{name}>"
+
+
+def variable_text(it):
+    kind = ("J" if it.zero else "I") if it.whole else ("D" if it.zero else "C")
+    return f'<var type="{kind}" lb="{end_text(it.low, "-INF")}" ub="{end_text(it.high, "INF")}"/>'
+
+
+def goal_text(goal):
+    costs = "".join(f'<coef idx="{j}">{decimal_text(cost)}</coef>' for j, cost in sorted(goal.costs.items()) if cost)
+    return f'<obj maxOrMin="{"max" if goal.maximise else "min"}" constant="{decimal_text(goal.constant)}">{costs}</obj>'
+
+
+class Writer:
+    """Writes the instances of parts. What all have in common is made once."""
+
+    def __init__(self, instance: Instance):
+        ends = [f'<con lb="{end_text(row.low, "-INF")}" ub="{end_text(row.high, "INF")}"/>' for row in instance.rows]
+        starts, columns, values = [0], [], []
+        for factors in instance.factors:
+            used = sorted(j for j, factor in factors.items() if factor)
+            columns += used
+            values += [decimal_text(factors[j]) for j in used]
+            starts.append(len(values))
+        matrix = listed("start", starts) + listed("colIdx", columns) + listed("value", values) if values else ""
+        self.rest = f"<constraints>{''.join(ends)}</constraints><linearConstraintCoefficients>{matrix}</linearConstraintCoefficients>"
+        self.goals = [goal_text(goal) for goal in instance.goals]
+
+    def text(self, variables, goals=None):
+        """The instance with these variables, and with its first so many goals where not with all."""
+        return (
+            '<osil xmlns="os.optimizationservices.org"><instanceData><variables>'
+            + "".join(map(variable_text, variables))
+            + f"</variables><objectives>{''.join(self.goals[:goals])}</objectives>{self.rest}</instanceData></osil>"
+        )
+
+
+# ---- nodes
+
+
+def levels_of(items):
+    """The nodes of each tree of a result."""
+    levels = [[]]
+    for item in items:
+        if LEVEL.fullmatch(item):
+            levels.append([])
+        else:
+            levels[-1].append(item)
+    return levels
+
+
+def ruled_out(node, column):
+    """A leaf for the program with one row more, the goal between two ends that are better than what a bound leaf shows: no point is there."""
+    kind, *pairs = node.split(" ")
+    return " ".join(["farkas", *pairs, f"{column}:-1"]) if kind == "bound" else node
+
+
+# ---- the result of the whole
+
+
+def items_text(name, items):
+    return f'<otherSolutionResult name="os_cert.{name}">' + "".join(f"<item>{item}</item>" for item in items) + "</otherSolutionResult>"
+
+
+def dual_values(instance, tree):
+    """The multipliers of rows, for people, where the tree is one leaf."""
+    if len(instance.goals) != 1 or len(tree) != 1 or not tree[0].startswith("bound "):
+        return ""
+    pairs = [pair.partition(":") for pair in tree[0].split(" ")[1:]]
+    count = len(instance.variables)
+    rows = "".join(f'<con idx="{int(c) - count}">{cut_text(fractions.Fraction(m))}</con>' for c, _, m in pairs if int(c) >= count)
+    return f"<constraints><dualValues>{rows}</dualValues></constraints>" if rows else ""
+
+
+class Claim(NamedTuple):
+    """What is claimed of the whole: its status, a point or none, a ray or none, a bound or none, a tree for each level, and a cause."""
+
+    status: str
+    point: Optional[tuple] = None
+    ray: Optional[tuple] = None
+    bound: Optional[fractions.Fraction] = None
+    trees: tuple = ()
+    cause: Optional[str] = None
+
+
+def result_text(instance, claim: Claim):
+    """The result document of a claim (`docs/rules/results.md`)."""
+    solution = f'<status type="{claim.status}"/>'
+    parts = ""
+    if claim.point is not None:
+        values = values_at(instance, claim.point)
+        solution += "<variables><values>" + "".join(f'<var idx="{j}">{cut_text(x)}</var>' for j, x in enumerate(claim.point)) + "</values></variables>"
+        solution += "<objectives><values>" + "".join(f'<obj idx="-{k}">{cut_text(v)}</obj>' for k, v in enumerate(values, 1)) + "</values></objectives>"
+        parts += items_text("point", claim.point) + items_text("value", values)
+    if claim.status == "optimal":
+        solution += dual_values(instance, claim.trees[0])
+    parts += items_text("ray", claim.ray) if claim.ray is not None else ""
+    parts += items_text("bound", [claim.bound]) if claim.bound is not None else ""
+    nodes = [item for level, tree in enumerate(claim.trees, 1) for item in ([f"level {level}"] * (level > 1) + list(tree))]
+    parts += items_text("tree", nodes) if nodes else ""
+    parts += items_text("cause", [claim.cause]) if claim.cause else ""
+    return (
+        '<?xml version="1.0" encoding="UTF-8"?><osrl xmlns="os.optimizationservices.org"><general><generalStatus type="normal"/></general>'
+        f"<job><status>finished</status></job><optimization><solution>{solution}<otherSolutionResults>{parts}</otherSolutionResults>"
+        "</solution></optimization></osrl>"
+    )
+

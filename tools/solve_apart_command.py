@@ -1,0 +1,216 @@
+"""The command `solve_apart`: its words, its folder, and what it writes."""
+
+import os
+import queue
+import shutil
+import signal
+import sys
+import tempfile
+import threading
+import time
+
+sys.path.insert(1, os.path.join(os.path.dirname(os.path.abspath(__file__)), "..", "clients", "python"))
+
+import gubnatris
+import job_documents
+import parts
+import slurm_workers
+from apart import Book, Division, Seat
+from linear_program import MOST_DOCUMENT, Complaint, Unread, printable, read_bytes, write_whole
+from part_workers import Checker, Failed, Jobs, LocalWorker, ServerWorker
+from slurm_workers import SlurmQueue, SlurmWorker
+
+USAGE = """usage: tools/solve_apart MODEL [--servers URL,.. | --workers N | --slurm] [--seconds N] [--share N] [--folder DIR] [--output OSRL] [--quiet]
+    --workers N    solves on this machine, so many parts at once, 1 to 64; without it and --servers, one for each processor
+    --servers URL  solves at these servers, each so many parts at once as --workers says, two where nothing is said
+    --slurm        solves by a cluster of Slurm, so many parts at once as --workers says, as it has processors where nothing is said
+    --seconds N    ends after so many seconds with the best point, and a bound
+    --share N      a search of a part that runs so many seconds ends where others wait, 2 where nothing is said; with --slurm a task ends
+                   with what it has after so many, 60 where nothing is said
+    --folder DIR   keeps there what was found of the parts; a later run goes on with it. MODEL.parts, which is removed at the end, where none is named
+    --output OSRL  writes the result there, and not to the standard output
+    --quiet        says nothing while it works"""
+BOUNDING = 2  # seats of this machine that bound and divide parts for a cluster
+PARTS_FOR_EACH = 3  # parts that a cluster's program is divided into, for each seat
+MOST_SEATS = 64
+MOST_RESULT = MOST_DOCUMENT
+NO_CLAIM = parts.result_text(None, parts.Claim("unsure", cause="killed"))
+VALUES = {"workers", "servers", "seconds", "share", "folder", "output"}
+STATUS = {"words": 2, "read": 3, "write": 4}
+
+
+class Words:
+    """What the command's words ask for."""
+
+    def __init__(self, words):
+        self.model, self.is_quiet, self.is_slurm, given = None, False, False, {}
+        words = iter(words)
+        for word in words:
+            name, equals, value = word.removeprefix("--").partition("=")
+            if word == "--quiet":
+                self.is_quiet = True
+            elif word == "--slurm":
+                self.is_slurm = True
+            elif word.startswith("--"):
+                if name not in VALUES or name in given:
+                    raise ValueError(word)
+                given[name] = value if equals else next(words)
+            elif self.model is None:
+                self.model = word
+            else:
+                raise ValueError(word)
+        self.servers = [url for url in given.get("servers", "").split(",") if url]
+        if self.model is None or self.is_slurm and self.servers or "servers" in given and not self.servers:
+            raise ValueError("MODEL")
+        self.workers = number(given.get("workers"), 1, 64) or (None if self.is_slurm else 2 if self.servers else os.cpu_count() or 1)
+        self.seconds, self.share = number(given.get("seconds"), 1, 10**7), number(given.get("share"), 1, 10**7) or (60 if self.is_slurm else 2)
+        self.folder, self.output, self.is_own = given.get("folder") or f"{self.model}.parts", given.get("output"), "folder" not in given
+
+
+def number(text, least, most):
+    """A whole number within its ends, or none where there is no text."""
+    if text is None:
+        return None
+    if not text.isdecimal() or len(text) > 8 or not least <= int(text) <= most:
+        raise ValueError(text)
+    return int(text)
+
+
+class Solving:
+    """One run of the command."""
+
+    def __init__(self, words):
+        self.words, self.begun, self.workers = words, time.monotonic(), []
+        self.bounding = []
+        self.until = self.begun + words.seconds if words.seconds else float("inf")
+        self.division = None
+
+    def say(self, text):
+        if not self.words.is_quiet:
+            print(printable(f"{time.monotonic() - self.begun:8.1f} s  {text}"), file=sys.stderr, flush=True)
+
+    def end_early(self, *_):
+        self.until = min(self.until, time.monotonic())
+
+    def run(self):
+        """Solves, and writes; the status."""
+        osil = read_bytes(self.words.model, MOST_DOCUMENT)
+        with tempfile.TemporaryDirectory() as scratch:
+            checker = Checker(scratch)
+            line = checker.line(osil.decode("utf-8", "surrogateescape"), NO_CLAIM)
+            if line != "refused NoClaim":
+                raise Complaint(line.removeprefix("refused Instance ") or "the program's check says nothing")
+            self.instance = job_documents.instance_of(self.words.model)
+            os.makedirs(self.words.folder, exist_ok=True)
+            for name in (signal.SIGTERM, signal.SIGINT):
+                signal.signal(name, self.end_early)
+            try:
+                return self.solve(osil, checker)
+            finally:
+                for worker in [*self.workers, *self.bounding]:
+                    worker.close()
+
+    def start_workers(self):
+        jobs = Jobs(os.path.join(self.words.folder, "jobs"))
+        left = jobs.give_up_left()
+        if left:
+            self.say(f"{left} jobs of a run that was killed are given up")
+        if self.words.is_slurm:
+            tasks = SlurmQueue(self.words.folder, self.words.share)
+            self.workers = [SlurmWorker(tasks) for _ in range(self.words.workers or min(MOST_SEATS, slurm_workers.processors()))]
+            self.bounding = [LocalWorker(k + 1) for k in range(BOUNDING)]
+        elif self.words.servers:
+            self.workers = [ServerWorker(url, jobs) for _ in range(self.words.workers) for url in self.words.servers]
+        else:
+            for k in range(self.words.workers):
+                self.workers.append(LocalWorker(k + 1))
+
+    def solve(self, osil, checker):
+        book = Book(self.words.folder, osil)
+        self.start_workers()
+        if not parts.is_divisible(self.instance.variables):
+            self.say("no whole variable, and none that may be 0 besides: it isn't divided")
+            return self.solve_whole(osil, checker)
+        events = queue.SimpleQueue()
+        kinds = ("search",) if self.words.is_slurm else ("bound", "search")
+        seats = [Seat(worker, checker, events, kinds) for worker in self.workers]
+        seats += [Seat(worker, checker, events, ("bound",)) for worker in self.bounding]
+        coarse = PARTS_FOR_EACH * len(self.workers) if self.words.is_slurm else None
+        self.division = Division(self.instance, book, seats, events, self.say, self.words.share, coarse)
+        self.division.run(lambda: self.until)
+        book.close()
+        if self.division.is_endless_later:
+            self.say("a later goal has no end: it isn't divided")
+            return self.solve_whole(osil, checker)
+        return self.write(self.division.claim(), osil, checker)
+
+    def solve_whole(self, osil, checker):
+        """Solves the instance as it is, by the first worker that answers rightly."""
+        stop, document = threading.Event(), None
+        timer = threading.Timer(max(0.0, self.until - time.monotonic()), stop.set) if self.words.seconds else None
+        if timer:
+            timer.start()
+        for worker in self.workers:
+            try:
+                document = worker.solve(osil.decode("utf-8-sig"), stop)
+                outcome = checker.outcome(osil.decode("utf-8-sig"), document) if document else None
+                break
+            except Failed as failure:
+                self.say(f"{worker.name}: {failure}")
+                document = None
+        if timer:
+            timer.cancel()
+        if document is None:
+            print("solve_apart: nobody solved it", file=sys.stderr)
+            return 6
+        write_whole(document, self.words.output)
+        self.tell(f"{outcome.status}, undivided", True)
+        return 0 if outcome.status != "unsure" else 1
+
+    def write(self, claim, osil, checker):
+        """Writes the joined result, as far as one document has room for it, and says what the check makes of it."""
+        text, note = parts.result_text(self.instance, claim), ""
+        if len(text.encode()) > MOST_RESULT:
+            note = f"{claim.status} by its parts, but the joined result has {len(text.encode()):,} bytes, past {MOST_RESULT:,}: it is written without its tree; "
+            status = "bestSoFar" if claim.point is not None else "unsure"
+            text = parts.result_text(self.instance, parts.Claim(status, claim.point, cause="length"))
+        line = checker.line(osil.decode("utf-8", "surrogateescape"), text)
+        is_right = line.startswith("accepted")
+        write_whole(text, self.words.output)
+        self.tell(f"{note}{line}{self.numbers(claim)}", is_right and claim.status in ("optimal", "infeasible", "unbounded") and not note)
+        return 0 if is_right and not note else 1
+
+    def numbers(self, claim):
+        found = self.division.counts
+        values = "" if claim.point is None else " " + ", ".join(map(str, parts.values_at(self.instance, claim.point)))
+        bound = "" if claim.bound is None else f", none better than {claim.bound} by the parts' bounds"
+        return f"{values}{bound}; {found['divided']} divided, {found['bound']} bounded, {found['search']} searched, seats busy {self.division.busy():.2f}"
+
+    def tell(self, text, is_ended):
+        """The last line. The folder goes where all is known and nobody named it."""
+        stays = not (is_ended and self.words.is_own)
+        if not stays:
+            shutil.rmtree(self.words.folder, ignore_errors=True)
+        where = f"; {self.words.folder} has the parts" if stays else ""
+        print(printable(f"solve_apart: {text}; {time.monotonic() - self.begun:.1f} s{where}"), file=sys.stderr)
+
+
+def main(words):
+    try:
+        asked = Words(words)
+        for url in asked.servers:
+            gubnatris.Server(url)
+    except (ValueError, StopIteration):
+        print(USAGE, file=sys.stderr)
+        return STATUS["words"]
+    try:
+        return Solving(asked).run()
+    except Unread as failure:
+        print(f"solve_apart: {failure}", file=sys.stderr)
+        return STATUS["read"]
+    except (Complaint, Failed) as failure:
+        print(printable(f"solve_apart: {asked.model}: {failure}"), file=sys.stderr)
+        return 1
+    except OSError as failure:
+        print(printable(f"solve_apart: {failure.strerror or failure}: {failure.filename or ''}".lower().rstrip(": ")), file=sys.stderr)
+        return STATUS["write"]
