@@ -1,9 +1,9 @@
 """Tries tools/certify, tools/vipr and tools/vipr_check, and says how many checks passed, and which didn't.
 
-    python3 tools/certify_tables.py [random N] [models] [inputs] [vipr]
+    python3 tools/certify_tables.py [random N] [models | peers] [inputs] [vipr]
 
 Without words it tries all, with 1,000 programs of each kind. *Random* compares what `check` accepts of small programs with what `solve`
-says of them. *Models* are GLPK's own, of those within the limits. *Inputs* are bad ones, and solvers that lie, write rubbish, hang or
+says of them. *Models* are GLPK's own, of those within the limits; *peers* times `solve`, `glpsol` and `cbc` beside. *Inputs* are bad ones, and solvers that lie, write rubbish, hang or
 aren't there. *Vipr* reads the files of certificates by a checker that knows nothing of this project.
 """
 
@@ -25,6 +25,7 @@ sys.path.insert(0, os.path.dirname(os.path.abspath(__file__)))
 import certify_programs
 import certifying
 import convert_peers
+import float_solvers
 import job_documents
 import programs
 import vipr_checking
@@ -101,24 +102,42 @@ def processor_seconds():
     return times.user + times.system + times.children_user + times.children_system
 
 
-def try_models():
-    """A row of the table for each of GLPK's models that is within the limits, with the processor seconds of all that was started."""
-    print("| model | answer | value | seconds | nodes | rounds | bytes |\n|---|---|---|---|---|---|---|")
-    shown = 0
-    for example in convert_peers.examples():
-        with tempfile.TemporaryDirectory() as folder:
-            files, sense = example.translate(folder)
-            end = next(iter(files), None)
-            osil = end and example.convert(end, files[end], sense, folder)
-            if not osil:
-                continue
-            before = processor_seconds()
-            answer, text, _ = certified(osil, folder, MODEL_SECONDS)
-            values, nodes = said(text)[1], len(re.findall("<item>(?:split|zero|clash|farkas|bound)", text))
-            cells = [answer or "nothing", ", ".join(values), f"{processor_seconds() - before:.2f}", nodes, text.count("<item>round"), len(text)]
-            print("| " + " | ".join([example.name, *map(str, cells)]) + " |", flush=True)
-            shown += answer in DEFINITE
-            check(answer is None or answer.startswith("accepted"), example.name, str(answer))
+def peer_seconds(osil, file, dialect, sense, folder):
+    """The processor seconds of `solve`, of `glpsol` and of `cbc`, as cells."""
+    instance = job_documents.instance_of(osil)
+    put(folder, "peer.mps", float_solvers.mps(instance))
+    runs = (
+        [certifying.program_of_checker(), "solve", osil],
+        ["glpsol", f"--{sense}", dialect, file],
+        ["cbc", f"{folder}/peer.mps", "solve"],
+    )
+    ends = [convert_peers.run(words, f"{folder}/peer.out") for words in runs]
+    return [f"{seconds:.2f}" if status >= 0 else f"> {convert_peers.LIMIT}" for status, seconds, _ in ends]
+
+
+def try_model(example, has_peers):
+    """Whether a model's answer is shown, none where it isn't within the limits; its row, with the seconds of all that was started."""
+    with tempfile.TemporaryDirectory() as folder:
+        files, sense = example.translate(folder)
+        end = next(iter(files), None)
+        osil = end and example.convert(end, files[end], sense, folder)
+        if not osil:
+            return None
+        before = processor_seconds()
+        answer, text, _ = certified(osil, folder, MODEL_SECONDS)
+        seconds, nodes = processor_seconds() - before, len(re.findall("<item>(?:split|zero|clash|farkas|bound)", text))
+        cells = [example.name, answer or "nothing", ", ".join(said(text)[1]), f"{seconds:.2f}", nodes, text.count("<item>round"), len(text)]
+        cells += peer_seconds(osil, files[end], convert_peers.DIALECTS[end][2], sense, folder) if has_peers else []
+        print("| " + " | ".join(map(str, cells)) + " |", flush=True)
+        check(answer is None or answer.startswith("accepted"), example.name, str(answer))
+        return answer in DEFINITE
+
+
+def try_models(has_peers=False):
+    """The table of GLPK's models that are within the limits, beside other solvers where that is wanted."""
+    head = ["model", "answer", "value", "seconds", "nodes", "rounds", "bytes"] + ["solve", "glpsol", "cbc"] * has_peers
+    print("| " + " | ".join(head) + " |\n" + "|---" * len(head) + "|")
+    shown = sum(try_model(example, has_peers) is True for example in convert_peers.examples())
     check(shown >= LEAST_MODELS, f"{shown} models are shown, and {LEAST_MODELS} are wanted")
 
 
@@ -366,7 +385,7 @@ def main():
         if word == "random":
             try_all_random(int(next(at)))
         else:
-            {"models": try_models, "inputs": try_inputs, "vipr": try_vipr}[word]()
+            {"models": try_models, "peers": lambda: try_models(True), "inputs": try_inputs, "vipr": try_vipr}[word]()
     for failure in failures:
         print(failure)
     print(f"{tried[0] - len(failures)} passed, {len(failures)} failed")

@@ -193,11 +193,8 @@ class Certifying:
             return []
         with open(f"{self.folder}/program.mps", "w", encoding="ascii") as it:
             it.write(float_solvers.mps(self.instance))
-        points = []
-        for name in names:
-            point, note = float_solvers.point_by(name, f"{self.folder}/program.mps", len(self.instance.variables), seconds, self.children, self.folder)
-            self.notes += [note] if note else []
-            points += [point] if point else []
+        points, notes = float_solvers.points_by(names, f"{self.folder}/program.mps", len(self.instance.variables), seconds, self.children, self.folder)
+        self.notes += notes
         return points
 
     def answer(self, points):

@@ -5,10 +5,12 @@ writes rubbish gives none, and a note says so.
 """
 
 import os
+import re
 import resource
 import shutil
 import signal
 import subprocess
+import time
 
 MOST_BYTES = 64_000_000  # of what a solver writes
 PATIENCE = 2  # seconds that a solver may take past its limit
@@ -133,6 +135,10 @@ SOLVERS = [
 ]
 
 
+# what a solver writes where it says that no point is better
+OPTIMAL = {"highs": "^Optimal$", "cbc": "^Optimal", "glpsol": r"^s (?:mip \d+ \d+ o|bas \d+ \d+ f f) "}
+
+
 def limited():
     resource.setrlimit(resource.RLIMIT_FSIZE, (MOST_BYTES, MOST_BYTES))
 
@@ -169,28 +175,63 @@ def installed():
     return [name for name, _, _ in SOLVERS if shutil.which(name)]
 
 
-def point_by(name, mps_file, count, seconds, children, folder):
-    """The point that a solver finds, or none, and a note where it gave none."""
-    words, read = next((words, read) for other, words, read in SOLVERS if other == name)
-    out = f"{folder}/{name}.solution"
+class Asked:
+    """A solver that was started, with the file that it is to write."""
+
+    def __init__(self, name, mps_file, seconds, children, folder):
+        self.name, self.out, self.children, self.note = name, f"{folder}/{name}.solution", children, None
+        words, self.read = next((words, read) for other, words, read in SOLVERS if other == name)
+        given = {"stdin": subprocess.DEVNULL, "stdout": subprocess.DEVNULL, "stderr": subprocess.DEVNULL, "preexec_fn": limited, "cwd": folder}
+        try:
+            self.process = children.start([name, *words(mps_file, self.out, seconds)], **given)
+        except OSError as error:
+            self.process, self.note = None, f"{name} can't be run: {error.strerror.lower()}"
+
+    def is_running(self):
+        return self.process is not None and self.process.poll() is None
+
+    def end(self):
+        if self.process is not None:
+            self.children.end(self.process)
+            self.process = None
+
+    def point(self, count):
+        """The point that it has written, and whether it says that none is better; or none."""
+        try:
+            with open(self.out, encoding="utf-8") as it:
+                text = it.read(MOST_BYTES)
+            point = self.read(text, count)
+        except FileNotFoundError:
+            return None, False
+        except (ValueError, IndexError, StopIteration):
+            self.note = f"{self.name} writes what is no solution"
+            return None, False
+        if point is None or not all(abs(value) < 1e30 for value in point):
+            return None, False
+        return point, any(re.search(OPTIMAL[self.name], line) for line in text.splitlines())
+
+
+def points_by(names, mps_file, count, seconds, children, folder):
+    """The points that solvers find side by side, until one says that none is better, and notes of those that gave none. What is said is
+    only what ends the race."""
+    asked = [Asked(name, mps_file, seconds, children, folder) for name in names]
+    points, end, waiting = [], time.monotonic() + seconds + PATIENCE, list(asked)
     try:
-        process = children.start([name, *words(mps_file, out, seconds)], stdin=subprocess.DEVNULL, stdout=subprocess.DEVNULL, stderr=subprocess.DEVNULL, preexec_fn=limited, cwd=folder)
-    except OSError as error:
-        return None, f"{name} can't be run: {error.strerror.lower()}"
-    try:
-        process.wait(seconds + PATIENCE)
-        note = None
-    except subprocess.TimeoutExpired:
-        note = f"{name} was ended: it took longer than {seconds + PATIENCE:g} s"
+        while waiting:
+            is_late = time.monotonic() > end
+            for each in [each for each in waiting if is_late or not each.is_running()]:
+                waiting.remove(each)
+                is_ended = not each.is_running()
+                each.end()
+                point, is_best = each.point(count)
+                if point:
+                    points.append(point)
+                else:
+                    each.note = each.note or (f"{each.name} gives no point" if is_ended else f"{each.name} was ended: it took longer than {seconds + PATIENCE:g} s")
+                if is_best:
+                    return points, []
+            time.sleep(0.01 if waiting else 0)
     finally:
-        children.end(process)
-    try:
-        with open(out, encoding="utf-8") as it:
-            point = read(it.read(MOST_BYTES), count)
-        if point is not None and all(abs(value) < 1e30 for value in point):
-            return point, note
-        return None, note or f"{name} gives no point"
-    except FileNotFoundError:
-        return None, note or f"{name} gives no point"
-    except (ValueError, IndexError, StopIteration):
-        return None, f"{name} writes what is no solution"
+        for each in asked:
+            each.end()
+    return points, [each.note for each in asked if each.note]

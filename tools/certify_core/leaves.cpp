@@ -132,7 +132,9 @@ std::vector<Pair> LeafMaker::thinned(const Target& target, const std::vector<Pai
     for (const Pair& pair : multipliers)
         for (const Term& term : rows_[pair.first].terms) left[term.column] -= pair.second.get_d() * term.near;
     std::vector<Pair> sorted = multipliers, kept;
-    const auto is_smaller = [](const Pair& a, const Pair& b) { return std::make_pair(Ratio(abs(a.second)), a.first) < std::make_pair(Ratio(abs(b.second)), b.first); };
+    const auto is_smaller = [](const Pair& a, const Pair& b) {
+        return std::make_pair(Ratio(abs(a.second)), a.first) < std::make_pair(Ratio(abs(b.second)), b.first);
+    };
     std::sort(sorted.begin(), sorted.end(), is_smaller);
     for (const Pair& pair : sorted) {
         const double factor = pair.second.get_d();
