@@ -83,11 +83,12 @@ def round_of(text, number, most):
 
 class Result:
     """What a result document says: whether it reports an error, its job, message and status, and the claim with its certificate: the rounds
-    of the first tree, and the nodes of each tree, one for each objective that is asked."""
+    of the first tree, and the nodes of each tree, one for each objective that is asked. Where a search ended early, a bound may stand there
+    for the first objective, with its tree."""
 
     def __init__(self):
         self.is_error, self.job, self.message, self.status, self.claim, self.parts = False, "", "", "", None, {}
-        self.point = self.ray = self.cause = None
+        self.point = self.ray = self.cause = self.bound = None
         self.values, self.rounds, self.trees = [], [], []
 
     value = property(lambda self: self.values[0] if self.values else None)
@@ -129,6 +130,20 @@ def read_trees(result, instance):
         find_whole_tree(nodes)
 
 
+def read_bound(result):
+    """The bound of a search that ended early, which has one number and a tree; where there is none, a tree shows nothing."""
+    if result.claim not in ("bestSoFar", "unsure"):
+        return
+    if "bound" not in result.parts:
+        result.parts.pop("tree", None)
+        result.parts.pop("rounds", None)
+        return
+    numbers = [ratio(text) for text in result.parts["bound"]]
+    if len(numbers) != 1 or not result.parts.get("tree"):
+        raise Complaint(f"its bound has {len(numbers)} numbers and {len(result.parts.get('tree', []))} nodes, and one number and a tree are a bound")
+    result.bound = numbers[0]
+
+
 def read_claim(result, solution, instance):
     status = solution.find("status")
     result.claim = printable(status.attributes.get("type", "")) if status else ""
@@ -147,7 +162,10 @@ def read_claim(result, solution, instance):
     if result.values and len(result.values) != len(instance.goals):
         raise Complaint(f"it isn't a result of this instance: it has {len(result.values)} values, and there are {len(instance.goals)} objectives")
     result.cause = printable(result.parts["cause"][0]) if result.parts.get("cause") else None
+    read_bound(result)
     read_trees(result, instance)
+    if result.bound is not None and len(result.trees) > 1:
+        raise Complaint("its bound has several trees, and a bound is of one objective")
 
 
 def result_of(path, instance):

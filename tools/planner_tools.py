@@ -379,6 +379,7 @@ def try_views(folder):
         check(all(v.name in parser.text for v in instance.variables) or name == "infeasible_schedule", f"page of {name}", "a variable is wanting")
     try_tree(folder)
     try_levels(folder)
+    try_bounds(folder)
     few = written(folder, "few.osol", '<osol><optimization><solverOptions><solverOption name="nodeLimit" value="2"/></solverOptions></optimization></osol>')
     osil = f"{TOOLS}/../examples/capital_budget.osil"
     osrl = written(folder, "osrl", ran([PROGRAM, "solve", osil, "--options", few]).stdout)
@@ -420,6 +421,34 @@ def try_levels(folder):
     made = ran([PROGRAM, "solve", osil, "--options", written(folder, "rounds.osol", few)]).stdout
     text = tool("show_result", osil, written(folder, "osrl", made)).stdout
     check("The greatest value is 2." in text and "Rows that were rounded: 1; each holds at every feasible point." in text, "a row that is rounded", text)
+
+
+def try_bounds(folder):
+    """What a search left that ended early: how good a point can be at most, and how far the best one so far is from that."""
+    best = '<obj maxOrMin="max"><coef idx="0">1</coef></obj>'
+    rows = '<constraints><con ub="5"/></constraints><linearConstraintCoefficients><start><el>0</el><el>1</el></start><colIdx><el>0</el></colIdx><value><el>2</el></value>'
+    front = f'<osil><instanceData><variables><var type="I" name="lots"/></variables><objectives>{best}</objectives>'
+    osil = written(folder, "halves.osil", f"{front}{rows}</linearConstraintCoefficients></instanceData></osil>")
+
+    def left(status, *parts):
+        held = "".join(f'<otherSolutionResult name="os_cert.{name}">{"".join(f"<item>{item}</item>" for item in items)}</otherSolutionResult>' for name, *items in parts)
+        solution = f'<solution><status type="{status}"/><otherSolutionResults>{held}</otherSolutionResults></solution>'
+        general = '<general><generalStatus type="normal"/></general><job><status>finished</status></job>'
+        return written(folder, "osrl", f"<osrl>{general}<optimization>{solution}</optimization></osrl>")
+
+    found, ended, tree = [("point", 2), ("value", 2)], ("cause", "killed"), ("tree", "split 0 2", "bound 0:-1", "bound 1:-1/2")
+    for status, parts, wanted in (
+        ("bestSoFar", [*found, ended, ("bound", "5/2"), tree], "No point's value is above 2.5; so the best one is at most 0.5 better than that of this point.\n"),
+        ("bestSoFar", [*found, ended, ("bound", 2), tree], "No point's value is above 2; so none is better than that of this point.\n"),
+        ("unsure", [ended, ("bound", "7/3"), tree], "No point's value is above 2.333333333333.., exactly 7/3.\n"),
+        ("unsure", [ended, ("bound", "5/2"), tree], "Tree of cases: 3 nodes\n"),
+    ):
+        text = tool("show_result", osil, left(status, *parts)).stdout
+        check(wanted in text, f"a bound of {status}", text)
+    text = tool("show_result", osil, left("unsure", ended, tree)).stdout
+    check("Tree" not in text and "above" not in text, "a tree without a bound", text)
+    made = tool("show_result", osil, left("unsure", ended, ("bound", "5/2")))
+    check(made.returncode != 0 and is_one_line(made.stderr, "show_result", "its bound has 1 numbers and 0 nodes"), "a bound without a tree", made.stderr)
 
 
 def try_tree(folder):

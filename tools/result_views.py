@@ -58,8 +58,9 @@ def at_end(column, value):
 
 
 def only_leaf(instance, result):
-    """The multipliers of a certificate that is one leaf, or none; they are of one objective, and of the instance's own rows."""
-    return dict(result.nodes[0].multipliers) if len(instance.goals) == 1 and len(result.nodes) == 1 and not result.rounds else None
+    """The multipliers of an optimum's certificate that is one leaf, or none; they are of one objective, and of the instance's own rows."""
+    is_leaf = len(instance.goals) == 1 and len(result.nodes) == 1 and not result.rounds
+    return dict(result.nodes[0].multipliers) if is_leaf and result.claim == "optimal" else None
 
 
 def in_own_sense(instance, multiplier):
@@ -82,6 +83,17 @@ def worth(instance, result):
         word = words.get(result.claim, f"best {name} so far")
         lines.append(f"{front} {word} is {shown(value)}" + (f", exactly {exact(value)}" if exact(value) else "") + ".")
     return lines
+
+
+def how_far(instance, result):
+    """A sentence on how good a point can be at most, and how far the point is from that."""
+    goal, name = instance.goals[0], goal_word(instance, 0)
+    also = f", exactly {exact(result.bound)}" if exact(result.bound) else ""
+    line = f"No point's {name} is {'above' if goal.maximise else 'below'} {shown(result.bound)}{also}"
+    if not result.values:
+        return f"{line}."
+    gap = goal.turned(result.values[0]) - goal.turned(result.bound)
+    return f"{line}; so {f'the best one is at most {shown(gap)} better than that of this point' if gap > 0 else 'none is better than that of this point'}."
 
 
 def headline(instance, result):
@@ -109,6 +121,8 @@ def sentences(instance, result):
     if result.claim in ("bestSoFar", "unsure"):
         word, _, rest = (result.cause or "").partition(" ")
         what, todo = CAUSES.get(word, ("the search was ended", ""))
+        if result.bound is not None:
+            lines.append(how_far(instance, result))
         lines.append(f"The search ended with the cause {word}{' ' + rest if rest else ''}: {what}{'; ' + todo if todo else ''}.")
     return lines
 

@@ -223,6 +223,9 @@ DOCUMENTS = [
     (solved("optimal", **{**POINT, "value": ""}), "no item where there is one for each objective"),
     (solved("unsure", cause="<item>killed</item><item>killed</item>"), "2 items where there is one"),
     (solved("optimal", **{**POINT, "point": "<item><a/></item>"}), "an element in item"),
+    (solved("unsure", cause="<item>killed</item>", bound="<item>1</item>"), "0 parts os_cert.tree"),
+    (solved("unsure", cause="<item>killed</item>", bound="<item>1</item><item>2</item>", tree="<item>bound</item>"), "2 items where there is one"),
+    (solved("unsure", cause="<item>killed</item>", bound="<item>2/4</item>", tree="<item>bound</item>"), "no exact number: '2/4'"),
 ]
 
 
@@ -268,6 +271,17 @@ class Peers(unittest.TestCase):
             result = server.result("os-7")
             self.assertEqual((result.objective, result.objectives), (Fraction(-3), (Fraction(-3), Fraction(1, 2))))
             self.assertEqual(result.tree, ("bound", "level 2", "bound"))
+
+    def test_a_bound_is_taken(self):
+        parts = {"cause": "<item>killed</item>", "bound": "<item>5/2</item>", "tree": "<item>bound 1:-1/2</item>"}
+        for status, more, objective in (("unsure", {}, None), ("bestSoFar", {"point": "<item>2</item>", "value": "<item>2</item>"}, 2)):
+            with self.subTest(status), Peer(response(returns("retrieve", solved(status, **more, **parts)))) as server:
+                result = server.result("os-7")
+                self.assertEqual((result.status, result.bound, result.objective, result.cause), (status, Fraction(5, 2), objective, "killed"))
+                self.assertEqual(result.tree, ("bound 1:-1/2",))
+        with Peer(response(returns("retrieve", solved("unsure", cause=parts["cause"], tree=parts["tree"])))) as server:
+            result = server.result("os-7")
+            self.assertEqual((result.bound, result.tree), (None, None))
 
     def test_a_refusal_has_its_name_and_place(self):
         for message, wanted in (

@@ -52,22 +52,10 @@ fn heard(alloc: Global, input: &mut impl Read) -> io::Result<Result<(), TreeFaul
     })
 }
 
-fn tell_at<R: Print>(rt: &R, word: &str, at: u64) -> io::Result<()> {
-    println!(rt; "refused {word} at {at}")
-}
-
-fn tell<R: Print>(rt: &R, words: &str) -> io::Result<()> {
-    println!(rt; "{words}")
-}
-
 fn tell_fault<R: Print>(rt: &R, fault: TreeFault) -> io::Result<()> {
     match fault {
-        TreeFault::Malformed { at } => tell_at(rt, "Malformed", at),
-        TreeFault::Doctype { at } => tell_at(rt, "Doctype", at),
-        TreeFault::Deep { at } => tell_at(rt, "Deep", at),
-        TreeFault::Encoding => tell(rt, "refused Encoding"),
-        TreeFault::Long => tell(rt, "refused Long"),
-        TreeFault::Memory => tell(rt, "refused for want of memory"),
+        TreeFault::Memory => println!(rt; "refused for want of memory"),
+        _ => println!(rt; "refused {fault}"),
     }
 }
 
@@ -78,7 +66,7 @@ fn main(rt: HostRuntime) -> io::Result<()> {
         heard(rt.alloc(), &mut rt.stdin())?
     };
     match answer {
-        Ok(()) => tell(&rt, "accepted"),
+        Ok(()) => println!(rt; "accepted"),
         Err(fault) => tell_fault(&rt, fault),
     }
 }

@@ -14,8 +14,8 @@ abbrev pub said : Outcome → Says.Claim
 said (Optimal x vs cs) = Says.Optimal x vs cs
 said (Infeasible c) = Says.Infeasible c
 said (Unbounded x vs cs r) = Says.Unbounded x vs cs r
-said (BestSoFar x vs c) = Says.BestSoFar x vs
-said (Unsure c) = Says.Unsure
+said (BestSoFar x vs c) = Says.BestSoFar x vs None
+said (Unsure c) = Says.Unsure None
 
 -- why the search was given up, if it was
 abbrev pub cause_of : Outcome → Option Cause
@@ -30,16 +30,16 @@ abbrev pub claimed_cause : Claim → Option Cause
 claimed_cause (Has.Optimal x vs cs) = None
 claimed_cause (Has.Infeasible cert) = None
 claimed_cause (Has.Unbounded x vs cs r) = None
-claimed_cause (Has.BestSoFar x vs c) = Some c
-claimed_cause (Has.Unsure c) = Some c
+claimed_cause (Has.BestSoFar x vs c b) = Some c
+claimed_cause (Has.Unsure c b) = Some c
 
 -- a claim has such a cause
 abbrev pub claims_for : (Cause → Bool) → Claim → Bool
 claims_for such (Has.Optimal x vs cs) = false
 claims_for such (Has.Infeasible cert) = false
 claims_for such (Has.Unbounded x vs cs r) = false
-claims_for such (Has.BestSoFar x vs c) = such c
-claims_for such (Has.Unsure c) = such c
+claims_for such (Has.BestSoFar x vs c b) = such c
+claims_for such (Has.Unsure c b) = such c
 
 -- the claim tells the outcome: what it says, and the cause
 pub record ClaimTells (claim : Claim) (o : Outcome) : Type 0 where

@@ -55,8 +55,9 @@ pub fn claim_of(ended: Ended, certs: Certs) -> Claim
                 point: found.point,
                 values: found.values,
                 cause,
+                bound: None,
             },
-            None => Claim::Unsure { cause },
+            None => Claim::Unsure { cause, bound: None },
         },
     }
 }
@@ -81,6 +82,7 @@ fn told_best(found: Found, nodes: Nodes, level: Level) -> Claim
             point: found.point,
             values: found.values,
             cause: Cause::Memory,
+            bound: None,
         },
     }
 }

@@ -368,7 +368,7 @@ pub fn search<W: Watch, L: Ledger>(
         Ok(relaxation) => relaxation,
         Err(_) => {
             return Searched {
-                claim: Claim::Unsure { cause },
+                claim: Claim::Unsure { cause, bound: None },
                 turns: 0,
             }
         }
@@ -377,7 +377,7 @@ pub fn search<W: Watch, L: Ledger>(
         Ok(walk) => walk,
         Err(_) => {
             return Searched {
-                claim: Claim::Unsure { cause },
+                claim: Claim::Unsure { cause, bound: None },
                 turns: 0,
             }
         }

@@ -37,5 +37,5 @@ module _ {L : _} {G : _} (row new : Row L G) (common : row.is_common ≡ true) (
     empty = λ c h. ap (λ (xs : List ℤ). slice_index_or xs c (pos 0)) numers ∙ is.empty c (sym (ap (λ (m : Marks). is_marked m c) marks) ∙ h);
     within = λ c. subst (λ j. unsigned_abs (slice_index_or new.numers.items c (pos 0)) ≤ j) (sym size) (subst (λ (xs : List ℤ). unsigned_abs (slice_index_or xs c (pos 0)) ≤ row.size) (sym numers) (is.within c));
     ascending = λ h. absurd (false≢true (sym h ∙ stays));
-    room = subst (λ (f : Fractions _). n ≤ room_of f) (sym fractions) is.room;
+    room = ap (λ (f : Fractions _). room_of f) fractions ∙ is.room;
   }

@@ -58,7 +58,7 @@ module _ {L : _} {G : _} (row new : Row L G) (x : Item) (apart : row.is_common �
       let right : number_in (x ∷ []) c ≡ none = sum-none _ ∙ no_item x c (λ e. d (sym e)) in
       more_is c ∙ ap (λ (v : Ratio). sum (number_in (entries_of row.fractions) c) v) right ∙ sum-none (number_in (entries_of row.fractions) c) ∙ sym (fraction_number row apart c)
 
-  pub put_row : (x.value.numer ≡ pos 0 → ⊥) → x.col + 1 < k → x.col < 2 ^ 32 → new.numers.items ≡ row.numers.items → new.size ≡ row.size → size_of new.marks ≡ size_of row.marks → is_marked new.marks x.col ≡ true → ((c : ℕ) → (c ≡ x.col → ⊥) → is_marked new.marks c ≡ is_marked row.marks c) → room_of row.fractions ≤ room_of new.fractions → IsRow k n new
+  pub put_row : (x.value.numer ≡ pos 0 → ⊥) → x.col + 1 < k → x.col < 2 ^ 32 → new.numers.items ≡ row.numers.items → new.size ≡ row.size → size_of new.marks ≡ size_of row.marks → is_marked new.marks x.col ≡ true → ((c : ℕ) → (c ≡ x.col → ⊥) → is_marked new.marks c ≡ is_marked row.marks c) → room_of new.fractions ≡ room_of row.fractions → IsRow k n new
   put_row nonzero inside narrow numers size words own others room = record {
     count = ap length numers ∙ is.count;
     columns = words ∙ is.columns;
@@ -70,7 +70,7 @@ module _ {L : _} {G : _} (row new : Row L G) (x : Item) (apart : row.is_common �
     empty = λ c h. rw numers (by_eq c x.col (λ e. absurd (false≢true (sym h ∙ ap (is_marked new.marks) e ∙ own))) (λ d. is.empty c (sym (others c d) ∙ h)));
     within = λ c. rw numers (rw size (is.within c));
     ascending = λ h. subst (λ (xs : List Item). IsSparseRow xs) (sym items) (from_high 0 (x.col + 1) (2 ^ 32) (entries_of row.fractions ++ x ∷ []) (omega arith) (from_append 0 x.col (entries_of row.fractions) x (omega arith) nonzero (from_below 0 (2 ^ 32) (entries_of row.fractions) x.col (is.ascending apart) (omega arith) below)));
-    room = let a = is.room in omega arith;
+    room = room ∙ is.room;
   }
 
 -- a row that was cleared has no marks and no numbers
@@ -85,7 +85,7 @@ module _ {L : _} {G : _} (new : Row L G) (apart : new.is_common ≡ false) (empt
   pub fresh_none : (c : ℕ) → numbers_of new c ≡ none
   fresh_none c = fraction_number new apart c ∙ ap (λ (xs : List Item). number_in xs c) empty
 
-  pub fresh_row : (k n : ℕ) → length new.numers.items ≡ k → size_of new.marks ≡ words_over k → new.size < 2 ^ 63 → ((c : ℕ) → is_marked new.marks c ≡ false) → ((c : ℕ) → slice_index_or new.numers.items c (pos 0) ≡ pos 0) → n ≤ room_of new.fractions → IsRow k n new
+  pub fresh_row : (k n : ℕ) → length new.numers.items ≡ k → size_of new.marks ≡ words_over k → new.size < 2 ^ 63 → ((c : ℕ) → is_marked new.marks c ≡ false) → ((c : ℕ) → slice_index_or new.numers.items c (pos 0) ≡ pos 0) → room_of new.fractions ≡ n → IsRow k n new
   fresh_row k n count columns small unmarked zeros room = record {
     count = count;
     columns = columns;

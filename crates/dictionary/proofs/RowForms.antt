@@ -177,7 +177,7 @@ module _ {L : _} {G : _} (row : Row L G) where
     pub empty_numbers : (c : ℕ) → numbers_of row c ≡ none
     empty_numbers c = common_number common c ∙ ap (λ (z : ℤ). lowest z (unsigned_abs row.denom)) (zeros c) ∙ lowest_none (unsigned_abs row.denom) (sized_above row.denom row.above)
 
-    pub empty_row : (k n : ℕ) → length row.numers.items ≡ k → size_of row.marks ≡ words_over k → row.size < 2 ^ 63 → ((c : ℕ) → is_marked row.marks c ≡ false) → n ≤ room_of row.fractions → IsRow k n row
+    pub empty_row : (k n : ℕ) → length row.numers.items ≡ k → size_of row.marks ≡ words_over k → row.size < 2 ^ 63 → ((c : ℕ) → is_marked row.marks c ≡ false) → room_of row.fractions ≡ n → IsRow k n row
     empty_row k n count columns small unmarked room = record {
       count = count;
       columns = columns;
@@ -266,7 +266,7 @@ pub record IsWritten {L : _} {G : _} (row new : Row L G) (col : ℕ) (number : �
   pub small : new.size < 2 ^ 63
   pub bound : unsigned_abs number ≤ new.size
   pub more : row.size ≤ new.size
-  pub room : room_of row.fractions ≤ room_of new.fractions
+  pub room : room_of new.fractions ≡ room_of row.fractions
 
 module _ {L : _} {G : _} (row new : Row L G) (col : ℕ) (number : ℤ) (w : IsWritten row new col number) where
   pub written_own : numbers_of new col ≡ lowest number (unsigned_abs row.denom)
@@ -296,12 +296,12 @@ module _ {L : _} {G : _} (row new : Row L G) (col : ℕ) (number : ℤ) (w : IsW
         (λ e. subst (λ j. unsigned_abs (slice_index_or new.numers.items j (pos 0)) ≤ new.size) (sym e) (subst (λ (z : ℤ). unsigned_abs z ≤ new.size) (sym w.own) w.bound))
         (λ d. subst (λ (z : ℤ). unsigned_abs z ≤ new.size) (sym (w.others c d)) (let a = is.within c in let b = w.more in omega arith));
     ascending = λ h. absurd (false≢true (sym h ∙ w.stays));
-    room = let a = is.room in let b = w.room in omega arith;
+    room = w.room ∙ is.room;
   }
 
 module _ {L : _} {G : _} (row new : Row L G) (k n : ℕ) (is : IsRow k n row) (col : ℕ) (number : ℤ) where
   -- what is written is one item of the list, and its size goes into the row's
-  pub is_written : col < k → unsigned_abs number < 2 ^ 63 → row.is_common ≡ true → new.is_common ≡ true → new.denom ≡ row.denom → new.numers.items ≡ set row.numers.items col number → size_of new.marks ≡ size_of row.marks → is_marked new.marks col ≡ not (nat_eq (unsigned_abs number) 0) → ((c : ℕ) → (c ≡ col → ⊥) → is_marked new.marks c ≡ is_marked row.marks c) → new.size ≡ bit_or row.size (unsigned_abs number) → room_of row.fractions ≤ room_of new.fractions → IsWritten row new col number
+  pub is_written : col < k → unsigned_abs number < 2 ^ 63 → row.is_common ≡ true → new.is_common ≡ true → new.denom ≡ row.denom → new.numers.items ≡ set row.numers.items col number → size_of new.marks ≡ size_of row.marks → is_marked new.marks col ≡ not (nat_eq (unsigned_abs number) 0) → ((c : ℕ) → (c ≡ col → ⊥) → is_marked new.marks c ≡ is_marked row.marks c) → new.size ≡ bit_or row.size (unsigned_abs number) → room_of new.fractions ≡ room_of row.fractions → IsWritten row new col number
   is_written l narrow common stays denom items size mark marks sized room = record {
     common = common;
     stays = stays;

@@ -85,7 +85,7 @@ module _ {L : _} {G : _} (row by : Row L G) (xs : List ℤ) (w own other columns
   module _ (new : Row L G) (items : new.numers.items ≡ xs) (sized : new.size ≡ most) (common : row.is_common ≡ true) (stays : new.is_common ≡ true) (denom : new.denom ≡ row.denom) (size : size_of new.marks ≡ size_of row.marks)
       (marks : (i : ℕ) → i < 64 → is_marked new.marks (64 * w + i) ≡ is_set entries i)
       (others : (c : ℕ) → c / 64 ≢ w → is_marked new.marks c ≡ is_marked row.marks c)
-      (room : room_of row.fractions ≤ room_of new.fractions) where
+      (room : room_of new.fractions ≡ room_of row.fractions) where
     numer : (c : ℕ) → numer_at new c ≡ number_at xs c
     numer c = ap (λ ys. number_at ys c) items
 
@@ -123,7 +123,7 @@ module _ {L : _} {G : _} (row by : Row L G) (xs : List ℤ) (w own other columns
           (λ i l h. subst (λ (z : ℤ). unsigned_abs z ≤ new.size) (sym (numer (64 * w + i))) (let p = a.within i l h in omega arith))
           (λ c e f. subst (λ (z : ℤ). unsigned_abs z ≤ new.size) (sym e) (let p = was.within c in let q = a.more in omega arith));
       ascending = λ h. absurd (false≢true (sym h ∙ stays));
-      room = let p = was.room in omega arith;
+      room = room ∙ was.room;
     }
 
   -- a column takes no more steps than twice the entries that both rows have there

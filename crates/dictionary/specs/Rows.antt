@@ -49,7 +49,7 @@ AreSums row by s k sums = (c : ℕ) → either_at row by c ≡ true → slice_in
 abbrev pub AreSumsLeft : {L : _} {G : _} → Row L G → Row L G → ℤ → ℤ → Row L G → Type 0
 AreSumsLeft row by s k new = (c : ℕ) → either_at new by c ≡ false → numer_at row c *ℤ s +ℤ numer_at by c *ℤ k ≡ pos 0
 
--- a row over k columns, of which the last is the goal's and has no entry, with room for n fractions: exactly the columns with an
+-- a row over k columns, of which the last is the goal's and has no entry, with room for n fractions, no more and no fewer: exactly the columns with an
 -- entry are marked, no numerator passes the size, which has 63 bits, and fractions stand by ascending columns
 pub record IsRow {L : _} {G : _} (k n : ℕ) (row : Row L G) : Type 0 where
   pub count : length row.numers.items ≡ k
@@ -60,7 +60,7 @@ pub record IsRow {L : _} {G : _} (k n : ℕ) (row : Row L G) : Type 0 where
   pub empty : (c : ℕ) → is_marked row.marks c ≡ false → slice_index_or row.numers.items c (pos 0) ≡ pos 0
   pub within : (c : ℕ) → unsigned_abs (slice_index_or row.numers.items c (pos 0)) ≤ row.size
   pub ascending : row.is_common ≡ false → IsSparseRow (entries_of row.fractions)
-  pub room : n ≤ room_of row.fractions
+  pub room : room_of row.fractions ≡ n
 
 -- a row without entries, in common form, that has no fractions either
 pub record IsCleared {L : _} {G : _} (k n : ℕ) (row : Row L G) : Type 0 where
@@ -89,7 +89,7 @@ IsRow-prop k n row p q = λ i. record {
   empty = λ c h. Coded-set coded_ℤ _ _ (p.empty c h) (q.empty c h) i;
   within = λ c. le_prop (p.within c) (q.within c) i;
   ascending = λ h. IsFrom-prop 0 (2 ^ 32) (entries_of row.fractions) (p.ascending h) (q.ascending h) i;
-  room = le_prop p.room q.room i;
+  room = Coded-set coded_ℕ _ _ p.room q.room i;
 }
 
 -- a row in common form whose numbers were divided by a pivot and turned, with what one over it is at a column

@@ -46,7 +46,7 @@ impl<L: Ledger> Fractions<L> {
     /// Leaves it without entries.
     pub fn clear(&mut self)
         ensures entries { entries_of self.new ≡ [] }
-        ensures room { room_of self.old ≤ room_of self.new }
+        ensures room { room_of self.new ≡ room_of self.old }
     {
         self.items.clear();
     }
@@ -65,7 +65,7 @@ impl<L: Ledger> Fractions<L> {
     pub fn write(&mut self, item: Item, steps: &mut Steps<L>)
         requires { length (entries_of self.old) < room_of self.old }
         ensures entries { entries_of self.new ≡ entries_of self.old ++ item ∷ [] }
-        ensures room { room_of self.old ≤ room_of self.new }
+        ensures room { room_of self.new ≡ room_of self.old }
         ensures cost { steps.new ≡ steps.old + 1 }
     {
         steps.tick();

@@ -46,6 +46,8 @@ impl<R: fs::Files<File = fs::File> + Drop> Stores for FileStores<R> {
 
     ghost back = { λ _. None };
 
+    ghost opened = { λ _. None };
+
     ghost faults = { λ s. s.faults };
 
     fn open_store(&mut self, name: &str) -> Result<FileDisk, FileFault> {

@@ -1,7 +1,6 @@
 -- The machine's state without where it lies in memory, and what completes a document from there.
 use Rattle.std.specs.Prelude.{◌≡◌, ℕ, List, [], ◌∷◌, ◌++◌, Bool, true, false, map, reverse, drop, ◌↔◌, ◌⊎◌, ◌≤◌, ◌<◌, ◌-◌, ◌≢◌, length, encode_utf8}
 use Rattle.std.specs.Char.{IsScalar}
-use Rattle.tree_grammar.specs.declared.TheConstants.{DEPTH}
 use Rattle.tree_grammar.specs.Elements.{Attribute}
 use Rattle.tree_grammar.specs.Characters.{IsSpace, Each, IsNameStart, IsQName, local_part}
 use Rattle.tree_grammar.specs.Tags.{IsAmong, IsQuote}
@@ -309,7 +308,7 @@ QuoteAt s to = ((s.place ≡ places.FieldQuote) × (to ≡ places.FieldValue) ×
 
 -- The machine goes on wherever that many elements may stand in one another.
 abbrev pub IsDepthAllowed : TreeTerms → Type 0
-IsDepthAllowed t = DEPTH ≤ t.depth
+IsDepthAllowed t = 32 ≤ t.depth
 
 -- From what completes this, the machine takes the byte: behind it all stays the same. No byte of ASCII leads into the byte order mark.
 pub record FollowsByte (before : List Mark) (K : TreeTerms → List ℕ → List Mark → Type 0) (b : ℕ) (new : MachineState) : Type 0 where
@@ -323,7 +322,7 @@ pub record Stuck (K : TreeTerms → List ℕ → List Mark → Type 0) (b : ℕ)
 
 -- An element begins in as many as may stand in one another.
 abbrev pub IsDeep : MachineState → ℕ → Type 0
-IsDeep s b = (s.place ≡ places.ContentLess) × (DEPTH ≤ length s.names) × IsNameStart b
+IsDeep s b = (s.place ≡ places.ContentLess) × (32 ≤ length s.names) × IsNameStart b
 
 -- The declaration's encoding ends here, and isn't one that is read.
 abbrev pub IsOther : MachineState → ℕ → Type 0

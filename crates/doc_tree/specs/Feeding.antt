@@ -1,6 +1,5 @@
 -- A reader that is fed bytes, and where it stands behind them.
 use Rattle.std.specs.Prelude.{◌≡◌, ℕ, Bool, List, [], ◌∷◌, ◌++◌, length, Option, MatchOption}
-use Rattle.tree_grammar.specs.declared.TheConstants.{DEPTH}
 use Rattle.doc_tree.specs.Marks.{Mark}
 use Rattle.doc_tree.specs.Rests.{TreeTerms, any}
 use Rattle.doc_tree.specs.Completions.{MachineState, Good}
@@ -13,7 +12,7 @@ use Rattle.doc_tree.specs.declared.fault.TreeFault.{TreeFault}
 
 -- A document of any encoding that isn't too deep.
 abbrev pub any_encoding : TreeTerms
-any_encoding = record { depth = DEPTH; aim = any }
+any_encoding = record { depth = 32; aim = any }
 
 -- Where a reader stands in a document, in a line's end and in a character; how many bytes it took of how many; and why it takes no more.
 pub record Feeding : Type 0 where
@@ -52,6 +51,14 @@ pub record Heard (had : List Mark → Type 0) (f : Feeding) (bytes : List ℕ) :
   pub told : List Mark
   pub has : had told
   pub taken : IsTaken (behind told f) bytes
+
+-- What was told begins what each document says that begins so: some first ones of these bytes were taken, and what they say was told or waits.
+pub record ToldBefore (had : List Mark → Type 0) (bytes : List ℕ) : Type 0 where
+  pub before : List ℕ
+  pub more : List ℕ
+  pub are : bytes ≡ before ++ more
+  pub reader : Feeding
+  pub heard : Heard had reader before
 
 -- These bytes were fed, and what they say was told or waits.
 abbrev pub WasHeard : (List Mark → Type 0) → Feeding → List ℕ → Type 0

@@ -13,3 +13,4 @@ pub mod Relieved
 pub mod Whole
 pub mod Gathered
 pub mod Walks
+pub mod Words

@@ -12,7 +12,7 @@ use Rattle.document_checker.specs.declared.documents.Kind.{Kind}
 use Rattle.document_checker.specs.declared.fault.CheckFault.{CheckFault}
 use Rattle.document_checker.specs.declared.fault.CheckFault.TheVariants as faults
 use Rattle.document_checker.specs.Documents.{ClaimRefuses, NoInstance, NoReport, CheckRefuses, IsAcceptedText, DocsRefuse}
-use Rattle.document_checker.specs.Texts.{kind_name, IsCheckFaultText, IsAnswerText}
+use Rattle.document_checker.specs.Texts.{kind_words, IsCheckFaultText, IsAnswerText}
 use Rattle.document_checker.specs.Grounds.{InstancesAreOne, ReportsAreOne, TreeFaultsAreToldOnce}
 use Rattle.document_checker.proofs.Acceptance.{one_kind}
 use Rattle.document_checker.proofs.Exclusion.{no_instance, no_report, accepted_apart}
@@ -66,7 +66,7 @@ module _ (instances : InstancesAreOne) (reports : ReportsAreOne) (told : TreeFau
   refused_once osil osrl r s t u h (inr (inr (inr k))) a b = absurd (no_text s u k b)
 
   pub answer_once : (osil osrl : List ℕ) (a b : Result Kind CheckFault) (s t : List ℕ) → Answers osil osrl a → Answers osil osrl b → IsAnswerText a s → IsAnswerText b t → s ≡ t
-  answer_once osil osrl (Ok j) (Ok k) s t h i x y = let same : j ≡ k = one_kind instances reports osil osrl j k h i in let named : kind_name j ≡ kind_name k = ap kind_name same in cc
+  answer_once osil osrl (Ok j) (Ok k) s t h i x y = let same : j ≡ k = one_kind instances reports osil osrl j k h i in let named : kind_words j ≡ kind_words k = ap kind_words same in cc
   answer_once osil osrl (Ok j) (Err r) s t h i x y = absurd (no_text r t (accepted_apart instances reports osil osrl j r h i) y)
   answer_once osil osrl (Err r) (Ok j) s t h i x y = absurd (no_text r s (accepted_apart instances reports osil osrl j r i h) x)
   answer_once osil osrl (Err r) (Err q) s t h i x y = refused_once osil osrl r q s t h i x y

@@ -4,6 +4,8 @@ use Rattle.evidence.specs.Instance as Of
 use Rattle.evidence.specs.Claim.{Accepts}
 use Rattle.instance.specs.Parts.{Parts}
 use Rattle.instance.specs.Program.{problem}
+use Rattle.fraction.specs.declared.frac.Frac.{Frac}
+use Rattle.certificate.specs.declared.claims.ProvedBound.{ProvedBound}
 use Rattle.certificate.specs.declared.claims.Claim.{Claim}
 use Rattle.certificate.specs.declared.claims.Claim.TheVariants as claims
 use Rattle.certificate.specs.Meanings as Means
@@ -17,20 +19,26 @@ use Rattle.osrl_writing.specs.declared.report.Report.{Report}
 use Rattle.osrl_grammar.specs.declared.fault.OsrlFault.{OsrlFault}
 use Rattle.osrl_grammar.specs.declared.fault.OsrlFault.TheVariants as result_faults
 use Rattle.document_checker.specs.declared.documents.Kind.{Kind}
-use Rattle.document_checker.specs.declared.documents.Kind.TheVariants.{Optimal, Infeasible, Unbounded, BestSoFar}
+use Rattle.document_checker.specs.declared.documents.Kind.TheVariants.{Optimal, Infeasible, Unbounded, BestSoFar, Unsure}
 use Rattle.document_checker.specs.declared.fault.CheckFault.{CheckFault}
 use Rattle.document_checker.specs.declared.fault.CheckFault.TheVariants as faults
 use Rattle.cert_checker.specs.declared.refused.Refused.{Refused}
 use Rattle.cert_checker.specs.declared.refused.Refused.TheVariants.{NoClaim}
 use Rattle.cert_checker.specs.Refusals.{IsRefusedFor}
 
--- what a claim says; nothing where its maker wasn't sure
+-- the number of a bound, if there is one
+abbrev pub number_of : Option ProvedBound → Option Frac
+number_of None = None
+number_of (Some b) = Some b.number
+
+-- what a claim says; nothing where its maker wasn't sure and has no bound
 abbrev pub kind : Claim → Option Kind
 kind (claims.Optimal x vs cs) = Some Optimal
 kind (claims.Infeasible c) = Some Infeasible
 kind (claims.Unbounded x vs cs r) = Some Unbounded
-kind (claims.BestSoFar x vs c) = Some BestSoFar
-kind (claims.Unsure c) = None
+kind (claims.BestSoFar x vs c b) = Some (BestSoFar (number_of b))
+kind (claims.Unsure c None) = None
+kind (claims.Unsure c (Some b)) = Some (Unsure b.number)
 
 -- the report has a claim of this kind that is accepted of the instance
 pub record ReportAccepts (p : Parts) (report : Report) (k : Kind) : Type 0 where

@@ -1,9 +1,12 @@
 -- The texts of answers.
-use Rattle.std.specs.Prelude.{◌≡◌, ℕ, Result, Ok, Err, List, [], ◌∷◌, ◌++◌, cond, nat_eq, codes, decimal}
+use Rattle.std.specs.Prelude.{◌≡◌, ℕ, Option, None, Some, Result, Ok, Err, List, [], ◌∷◌, ◌++◌, cond, nat_eq, codes, decimal}
+use Rattle.fraction.specs.Frac.{ratio}
+use Rattle.fraction.specs.declared.frac.Frac.{Frac}
+use Rattle.decimal_text.specs.Exact.{ratio_text}
 use Rattle.osil_grammar.specs.Reading as instances
 use Rattle.osrl_grammar.specs.Texts as results
 use Rattle.document_checker.specs.declared.documents.Kind.{Kind}
-use Rattle.document_checker.specs.declared.documents.Kind.TheVariants.{Optimal, Infeasible, Unbounded, BestSoFar}
+use Rattle.document_checker.specs.declared.documents.Kind.TheVariants.{Optimal, Infeasible, Unbounded, BestSoFar, Unsure}
 use Rattle.cert_checker.specs.declared.refused.Refused.{Refused}
 use Rattle.cert_checker.specs.declared.refused.Refused.TheVariants.{NotFeasible, WidePoint, Value, Round, WideRound, Levels, Level, NoClaim}
 use Rattle.cert_checker.specs.declared.refused.Unshown.{Unshown}
@@ -11,11 +14,18 @@ use Rattle.cert_checker.specs.declared.refused.Unshown.TheVariants.{Tree, Sign, 
 use Rattle.document_checker.specs.declared.fault.CheckFault.{CheckFault}
 use Rattle.document_checker.specs.declared.fault.CheckFault.TheVariants as faults
 
-abbrev pub kind_name : Kind → List ℕ
-kind_name Optimal = codes "optimal"
-kind_name Infeasible = codes "infeasible"
-kind_name Unbounded = codes "unbounded"
-kind_name BestSoFar = codes "bestSoFar"
+-- how good a point can be at most, where that is known
+abbrev pub within_words : Option Frac → List ℕ
+within_words None = []
+within_words (Some bound) = codes " within " ++ ratio_text (ratio bound)
+
+-- a kind by its word, as a solution's status has it
+abbrev pub kind_words : Kind → List ℕ
+kind_words Optimal = codes "optimal"
+kind_words Infeasible = codes "infeasible"
+kind_words Unbounded = codes "unbounded"
+kind_words (BestSoFar bound) = codes "bestSoFar" ++ within_words bound
+kind_words (Unsure bound) = codes "unsure" ++ within_words (Some bound)
 
 -- a name with a number, and with two; one space between
 abbrev pub numbered : List ℕ → ℕ → List ℕ
@@ -67,5 +77,5 @@ IsCheckFaultText (faults.Claim r) text = text ≡ refused_text r
 IsCheckFaultText faults.Memory text = ⊥
 
 abbrev pub IsAnswerText : Result Kind CheckFault → List ℕ → Type 0
-IsAnswerText (Ok k) text = text ≡ codes "accepted " ++ kind_name k
+IsAnswerText (Ok k) text = text ≡ codes "accepted " ++ kind_words k
 IsAnswerText (Err f) text = IsCheckFaultText f text

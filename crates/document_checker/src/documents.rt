@@ -10,11 +10,12 @@ ghost use Rattle.certificate.specs.declared.claims.Claim as carried;
 ghost use Rattle.osil_grammar.specs.Reading.{IsInstanceText};
 ghost use Rattle.osrl_grammar.specs.Reading.{IsReportText};
 ghost use Rattle.document_checker.specs.declared.fault.CheckFault.TheVariants.{Memory};
-ghost use Rattle.document_checker.specs.Documents.{kind, ClaimRefuses, ReportRefuses, NoInstance, NoReport, IsAcceptedText, DocsRefuse, ReportAccepts};
+ghost use Rattle.document_checker.specs.Documents.{kind, number_of, ClaimRefuses, ReportRefuses, NoInstance, NoReport, IsAcceptedText, DocsRefuse, ReportAccepts};
 
 use crate::fault::CheckFault;
 use cert_checker::{Refused, Scratch, check};
-use certificate::Claim;
+use certificate::{Claim, ProvedBound};
+use fraction::Frac;
 use instance::Instance;
 use osil_grammar::OsilFault;
 use osrl_grammar::{OsrlFault, read_claims_fit};
@@ -30,8 +31,20 @@ pub enum Kind {
     Infeasible,
     /// Points become better without end.
     Unbounded,
-    /// The point is feasible.
-    BestSoFar,
+    /// The point is feasible; where there is a bound, no feasible point's first objective is better than it.
+    BestSoFar { bound: Option<Frac> },
+    /// No feasible point's first objective is better than the bound.
+    Unsure { bound: Frac },
+}
+
+/// The number of a bound, if there is one.
+fn number_of(bound: &Option<ProvedBound>) -> Option<Frac>
+    ensures { result ≡ number_of bound.now }
+{
+    match bound {
+        Some(bound) => Some(bound.number),
+        None => None,
+    }
 }
 
 /// What is claimed, if anything is.
@@ -42,8 +55,15 @@ fn kind_of(claim: &Claim) -> Option<Kind>
         Claim::Optimal { .. } => Some(Kind::Optimal),
         Claim::Infeasible { .. } => Some(Kind::Infeasible),
         Claim::Unbounded { .. } => Some(Kind::Unbounded),
-        Claim::BestSoFar { .. } => Some(Kind::BestSoFar),
-        Claim::Unsure { .. } => None,
+        Claim::BestSoFar { bound, .. } => Some(Kind::BestSoFar {
+            bound: number_of(bound),
+        }),
+        Claim::Unsure { bound, .. } => match bound {
+            Some(bound) => Some(Kind::Unsure {
+                bound: bound.number,
+            }),
+            None => None,
+        },
     }
 }
 

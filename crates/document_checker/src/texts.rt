@@ -6,19 +6,41 @@ ghost use Rattle.document_checker.specs.Texts as spoken;
 use crate::documents::Kind;
 use crate::fault::CheckFault;
 use cert_checker::{Refused, Unshown};
+use decimal_text::write_ratio;
+use fraction::Frac;
 use itoa::Buffer;
 use os_io::{Memory, Text};
 use std::alloc::{AllocError, Global};
 
-/// The word of a kind, as a solution's status has it.
-fn kind_name(kind: Kind) -> &'static [u8]
-    ensures { result.now ≡ spoken.kind_name kind }
+/// Appends how good a point can be at most, where that is known.
+fn put_within(text: &mut Text, bound: Option<Frac>) -> Result<(), Memory>
+    ensures { OnOk result (text.new ≡ text.old ++ spoken.within_words bound) }
+{
+    match bound {
+        Some(number) => {
+            text.extend(b" within ")?;
+            write_ratio(number, text)
+        }
+        None => Ok(()),
+    }
+}
+
+/// Appends a kind by its word, as a solution's status has it, with its bound where it has one.
+fn put_kind(text: &mut Text, kind: Kind) -> Result<(), Memory>
+    ensures { OnOk result (text.new ≡ text.old ++ spoken.kind_words kind) }
 {
     match kind {
-        Kind::Optimal => b"optimal",
-        Kind::Infeasible => b"infeasible",
-        Kind::Unbounded => b"unbounded",
-        Kind::BestSoFar => b"bestSoFar",
+        Kind::Optimal => text.extend(b"optimal"),
+        Kind::Infeasible => text.extend(b"infeasible"),
+        Kind::Unbounded => text.extend(b"unbounded"),
+        Kind::BestSoFar { bound } => {
+            text.extend(b"bestSoFar")?;
+            put_within(text, bound)
+        }
+        Kind::Unsure { bound } => {
+            text.extend(b"unsure")?;
+            put_within(text, Some(bound))
+        }
     }
 }
 
@@ -128,7 +150,7 @@ fn fault_text(alloc: Global, fault: &CheckFault) -> Result<Text, Memory>
     }
 }
 
-/// The text of an answer: `accepted` and what is accepted, or `refused`, the reason's name and its numbers, or the
+/// The text of an answer: `accepted` and what is accepted, with `within` and the number where there is a bound, or `refused`, the reason's name and its numbers, or the
 /// document of the two that is refused and that document's own text; one space between. A fault for want of memory has no
 /// text.
 pub fn answer_text(alloc: Global, answer: &Result<Kind, CheckFault>) -> Result<Text, Memory>
@@ -137,7 +159,7 @@ pub fn answer_text(alloc: Global, answer: &Result<Kind, CheckFault>) -> Result<T
     match answer {
         Ok(kind) => {
             let mut text = Text::from_slice(alloc, b"accepted ")?;
-            text.extend(kind_name(*kind))?;
+            put_kind(&mut text, *kind)?;
             Ok(text)
         }
         Err(fault) => fault_text(alloc, fault),

@@ -5,15 +5,19 @@ ghost use Rattle.effects.specs.Records.{Deed, deed_of};
 ghost use Rattle.effects.specs.Stores.{Puts, fault_of};
 
 use crate::kinds::Effect;
+use thiserror::Error;
 
 /// Why an effect wasn't stored.
-#[derive(Clone, Copy, PartialEq, Eq, Debug, Drop)]
+#[derive(Clone, Copy, PartialEq, Eq, Debug, Drop, Error)]
 pub enum NotStored {
     /// A call of the disk failed. Whether the effect is on the disk shows when the file is opened again.
+    #[error("a call of the disk failed")]
     Disk,
     /// An earlier put has answered Disk.
+    #[error("an earlier call of the disk failed")]
     Broken,
     /// The record is too long, or the file would be.
+    #[error("the record is too long, or the file would be")]
     Long,
 }
 

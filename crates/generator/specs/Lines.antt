@@ -13,8 +13,8 @@ abbrev pub status_word : Claim → List ℕ
 status_word (Optimal x vs cs) = codes "optimal"
 status_word (Infeasible cert) = codes "infeasible"
 status_word (Unbounded x vs cs r) = codes "unbounded"
-status_word (BestSoFar x vs c) = codes "bestSoFar"
-status_word (Unsure c) = codes "unsure"
+status_word (BestSoFar x vs c b) = codes "bestSoFar"
+status_word (Unsure c b) = codes "unsure"
 
 -- the first value, exactly
 abbrev pub first_value : List Frac → List ℕ
@@ -26,8 +26,8 @@ abbrev pub value_word : Claim → List ℕ
 value_word (Optimal x vs cs) = first_value vs
 value_word (Infeasible cert) = codes "none"
 value_word (Unbounded x vs cs r) = first_value vs
-value_word (BestSoFar x vs c) = first_value vs
-value_word (Unsure c) = codes "none"
+value_word (BestSoFar x vs c b) = first_value vs
+value_word (Unsure c b) = codes "none"
 
 -- how many nodes the first certificate has
 abbrev pub first_count : List Cert → ℕ

@@ -12,6 +12,7 @@ use crate::feed::Feed;
 use crate::scan::OpenHead;
 use os_io::{Body, Failed, Text};
 use std::alloc::Global;
+use thiserror::Error;
 
 /// What the head of a request says, whose body went elsewhere.
 #[derive(Clone, Copy, Drop)]
@@ -36,11 +37,13 @@ pub enum Incoming {
 }
 
 /// Why nothing can be said of what comes on a source.
-#[derive(Clone, Copy, PartialEq, Eq, Drop)]
+#[derive(Clone, Copy, PartialEq, Eq, Debug, Drop, Error)]
 pub enum LinkFault {
     /// A read failed, and the source's count of faults rose.
+    #[error("a read of the link failed")]
     ReadFault,
     /// There was no memory for a head. None past it was read.
+    #[error("there was no memory")]
     Memory,
 }
 

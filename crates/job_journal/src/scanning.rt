@@ -11,17 +11,22 @@ use crate::pieces::Ahead;
 use disks::Disk;
 use effects::{Document, Effect, Replay, decode};
 use os_io::Memory;
+use thiserror::Error;
 
 /// Why a file wasn't opened.
-#[derive(Clone, Copy, PartialEq, Eq, Debug, Drop)]
+#[derive(Clone, Copy, PartialEq, Eq, Debug, Drop, Error)]
 pub enum OpenFault {
     /// The disk wasn't read.
+    #[error("the disk was not read")]
     ReadFault,
     /// The disk wasn't written, cut or brought to rest.
+    #[error("the disk was not written")]
     WriteFault,
     /// Behind the open gate at this place stands no record that is possible there.
+    #[error("damaged at {at}")]
     Damaged { at: u64 },
     /// There was no memory.
+    #[error("there was no memory")]
     Memory,
 }
 

@@ -3,7 +3,7 @@ use Rattle.std.proofs.Common.{◌≡◌, ◌⊎◌, inl, inr, ⊎_elim, ℕ, ◌
 use Rattle.std.proofs.lemmas.Bool.Decides.{nat_tests}
 use Rattle.os_io.specs.Streams.{HasRisen}
 use Rattle.effects.specs.Limits.{most_first}
-use Rattle.effects.specs.Records.{Deed, Begin}
+use Rattle.effects.specs.Records.{Deed, AllFit, Begin}
 use Rattle.effects.specs.Fold.{Ledger, nothing, begins}
 use Rattle.job_table.specs.Jobs.{Register}
 use Rattle.job_table.specs.Remade.{table_of}
@@ -14,10 +14,10 @@ use Rattle.disks.proofs.Moments.{started}
 use Rattle.job_journal.specs.Journal.{FileRests, FileStandsFor, IsBeforeOrAfter}
 use Rattle.job_journal.specs.Opening.{FoldsTo, WasMade, IsOpened, LeavesFile, DamagedIn, CountsOpening, CountsBack}
 use Rattle.job_journal.proofs.Calms.{runs_on}
-use Rattle.job_journal.proofs.SoleMeanings.{weaker}
+use Rattle.job_journal.proofs.SoleMeanings.{stand_same, weaker}
 use Rattle.job_journal.proofs.Scans.{folds_push}
 use Rattle.job_solver.specs.Sieves.{Sifts}
-use Rattle.job_solver.specs.Openings.{NumbersBeginWith, BegunWith, TableGoesOn, IsOfFile, IsOfNumber, IsTableOf}
+use Rattle.job_solver.specs.Openings.{NumbersBeginWith, BegunWith, TableGoesOn, IsOfFile, IsOfNumber, IsTableOf, MayBegin, StandsOrBegins}
 use Rattle.job_solver.proofs.StoredDocuments.{going_on}
 
 pub some_same : (l m : Ledger) → Some l ≡ Some m → l ≡ m
@@ -117,26 +117,41 @@ counted_back faults Memory disk left before mid same is counts = ap faults is �
 
 -- ---- what a crash leaves
 
-module _ {D : Type 0} (may_leave : D → List ℕ → Type 0) (moment : D → ℕ) (left_since : D → ℕ → List ℕ → Type 0) (d : Deed) where
+-- where no number was given, that they begin with this one is possible
+may_begin : (n : ℕ) (deeds : List Deed) (l : Ledger) → nat_lt 0 l.issued ≡ false → 1 ≤ n → n ≤ most_first → FoldsTo Sifts nothing deeds l → MayBegin n deeds
+may_begin n deeds l none some within folds =
+    (record l { first = n }, folds_push Sifts nothing deeds l (Begin n) (record l { first = n }) folds (tt, begins_so n l none some within))
+
+module _ {D : Type 0} (may_leave : D → List ℕ → Type 0) (moment : D → ℕ) (left_since : D → ℕ → List ℕ → Type 0) (first : ℕ) where
   -- a journal that is at rest, and of which nothing was called
   pub stays_so : (seen : D → List ℕ) (disk : D) (end : ℕ) (deeds : List Deed) → ((c : List ℕ) → left_since disk (moment disk) c → may_leave disk c) → FileRests seen may_leave disk end deeds
-      → LeavesOnly moment left_since disk disk (IsBeforeOrAfter deeds d)
+      → LeavesOnly moment left_since disk disk (StandsOrBegins first deeds)
   stays_so seen disk end deeds only rests =
-      started moment left_since disk (IsBeforeOrAfter deeds d) (λ c left. inl (inl (record { gate = rests.gate; after = []; shut = rests.shut; is = rests.durable c (only c left) ∙ rests.file })))
+      started moment left_since disk (StandsOrBegins first deeds) (λ c left. inl (inl (record { gate = rests.gate; after = []; shut = rests.shut; is = rests.durable c (only c left) ∙ rests.file })))
+
+  -- the number was put, or wasn't, where none was given
+  pub puts_so : (a b : D) (deeds : List Deed) (l : Ledger) → nat_lt 0 l.issued ≡ false → 1 ≤ first → first ≤ most_first → FoldsTo Sifts nothing deeds l → LeavesOnly moment left_since a b (IsBeforeOrAfter deeds (Begin first))
+      → LeavesOnly moment left_since a b (StandsOrBegins first deeds)
+  puts_so a b deeds l none some within folds puts =
+      weaker moment left_since a b (IsBeforeOrAfter deeds (Begin first)) (StandsOrBegins first deeds) puts
+      (λ c left. ⊎_elim {C = StandsOrBegins first deeds c} (λ before. inl before) (λ behind. inr (may_begin first deeds l none some within folds, behind)) left)
 
   module _ (deeds : List Deed) (a : D) where
     abbrev WasOrStands : List ℕ → Type 0
     WasOrStands c = may_leave a c ⊎ FileStandsFor deeds c
 
     abbrev pub WasOrBegins : List ℕ → Type 0
-    WasOrBegins c = may_leave a c ⊎ IsBeforeOrAfter deeds d c
+    WasOrBegins c = may_leave a c ⊎ StandsOrBegins first deeds c
 
     begins_or_was : (c : List ℕ) → WasOrStands c → WasOrBegins c
     begins_or_was c left = ⊎_elim {C = WasOrBegins c} (λ was. inl was) (λ stands. inr (inl stands)) left
 
     -- one that was opened, and then put one effect more
-    pub opened_on : (b e : D) → LeavesOnly moment left_since a b WasOrStands → LeavesOnly moment left_since b e (IsBeforeOrAfter deeds d) → LeavesOnly moment left_since a e WasOrBegins
-    opened_on b e opens puts = runs_on moment left_since a b e WasOrStands (IsBeforeOrAfter deeds d) WasOrBegins opens puts begins_or_was (λ c now. inr now)
+    pub opened_on : (seen : D → List ℕ) (b e : D) (end : ℕ) (l : Ledger) (file : List ℕ) → AllFit deeds → FileStandsFor deeds file → IsOpened Sifts seen may_leave file b end l → LeavesOnly moment left_since a b WasOrStands
+        → (FoldsTo Sifts nothing deeds l → LeavesOnly moment left_since b e (StandsOrBegins first deeds)) → LeavesOnly moment left_since a e WasOrBegins
+    opened_on seen b e end l file fit stands o opens puts =
+        let folds : FoldsTo Sifts nothing deeds l = subst (λ (ds : List Deed). FoldsTo Sifts nothing ds l) (sym (stand_same deeds o.deeds file fit o.fit stands o.stands)) o.folds in
+        runs_on moment left_since a b e WasOrStands (StandsOrBegins first deeds) WasOrBegins opens (puts folds) begins_or_was (λ c now. inr now)
 
     -- or wasn't opened
     pub not_opened : (b : D) → LeavesOnly moment left_since a b WasOrStands → LeavesOnly moment left_since a b WasOrBegins

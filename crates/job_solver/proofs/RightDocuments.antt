@@ -11,13 +11,14 @@ use Rattle.effects.specs.Records.{most_text}
 use Rattle.solve_run.specs.JobAnswers.{AnswersJob, Right}
 use Rattle.job_solver.specs.Sieves.{is_sure, claims_something, Sifts}
 
--- a claim of no kind is unsure
+-- a claim of no kind is unsure, without a bound
 of_no_kind : (c : Claim) → kind c ≡ None → is_sure c ≡ false
 of_no_kind (Optimal x vs cs) none = absurd (cc)
 of_no_kind (Infeasible c) none = absurd (cc)
 of_no_kind (Unbounded x vs cs r) none = absurd (cc)
-of_no_kind (BestSoFar x vs c) none = absurd (cc)
-of_no_kind (Unsure c) none = refl
+of_no_kind (BestSoFar x vs c b) none = absurd (cc)
+of_no_kind (Unsure c None) none = refl
+of_no_kind (Unsure c (Some b)) none = absurd (cc)
 
 module _ (read : (osil osol : List ℕ) (asked : Bool) (r : Report) → AnswersJob osil osol asked r → IsReportText (report_text r) r)
     (short : (osil osol : List ℕ) (asked : Bool) (r : Report) → AnswersJob osil osol asked r → length (report_text r) ≤ most_text)

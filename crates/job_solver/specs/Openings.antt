@@ -40,6 +40,14 @@ pub record OpensAs (file : List ℕ) (first : ℕ) (table : Register) : Type 0 w
   pub kept_is : (kept ≡ deeds) ⊎ (kept ≡ deeds ++ Begin first ∷ [])
   pub goes_on : TableGoesOn kept table
 
+-- that numbers begin with this one is possible behind these effects, each possible and accepted after those before
+abbrev pub MayBegin : (first : ℕ) → List Deed → Type 0
+MayBegin first deeds = (ledger : Ledger) × FoldsTo Sifts nothing (deeds ++ Begin first ∷ []) ledger
+
+-- the file stands for these; or, where that is possible behind them, for these and that numbers begin with this one
+abbrev pub StandsOrBegins : (first : ℕ) → List Deed → List ℕ → Type 0
+StandsOrBegins first deeds file = FileStandsFor deeds file ⊎ (MayBegin first deeds × FileStandsFor (deeds ++ Begin first ∷ []) file)
+
 -- so many numbers were given, the first of which is that; where none was, it is the one that was asked for, unless the file, which ends there, has no room to say so
 abbrev pub NumbersBeginWith : (asked end first issued : ℕ) → Type 0
 NumbersBeginWith asked end first issued = (1 ≤ issued) ⊎ (first ≡ asked) ⊎ (is_too_long end (length (body (Begin asked))) ≡ true)

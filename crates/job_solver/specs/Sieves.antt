@@ -7,9 +7,9 @@ use Rattle.osrl_grammar.specs.Reading.{IsReportText}
 use Rattle.document_checker.specs.declared.documents.Kind.{Kind}
 use Rattle.document_checker.specs.Documents.{IsAcceptedText}
 
--- whether a claim says something of the instance: an unsure one doesn't
+-- whether a claim says something of the instance: an unsure one without a bound doesn't
 abbrev pub is_sure : Claim → Bool
-is_sure (Unsure cause) = false
+is_sure (Unsure cause None) = false
 is_sure _ = true
 
 -- whether something is claimed
@@ -22,6 +22,6 @@ abbrev pub TellsClaim : (document : List ℕ) → Option Bool → Type 0
 TellsClaim document (Some claims) = (report : Report) × IsReportText document report × (claims_something report.claim ≡ claims)
 TellsClaim document None = (report : Report) → IsReportText document report → ⊥
 
--- the document is accepted: it is a report that claims nothing or is unsure, or what it claims is accepted by the checker
+-- the document is accepted: it is a report that claims nothing, or is unsure without a bound, or what it claims is accepted by the checker
 abbrev pub Sifts : (osil document : List ℕ) → Type 0
 Sifts osil document = TellsClaim document (Some false) ⊎ ((k : Kind) × IsAcceptedText osil document k)

@@ -1,13 +1,13 @@
 //! The table that a journal keeps.
 ghost use Rattle.std.specs.Prelude.{◌≡◌, ◌⊎◌, ◌≤◌, true, false, List, IfOk, IfErr};
 ghost use Rattle.disks.specs.Disks.{LeavesOnly};
-ghost use Rattle.effects.specs.Records as records;
+ghost use Rattle.effects.specs.Fold.{nothing};
 ghost use Rattle.effects.specs.Records.{AllFit, Deed};
 ghost use Rattle.job_table.specs.Steps.{most_first};
 ghost use Rattle.job_table.specs.Jobs.{Rises, NobodyRuns};
-ghost use Rattle.job_journal.specs.Journal.{FileRests, FileStandsFor, IsBeforeOrAfter};
-ghost use Rattle.job_journal.specs.Opening.{Calm, CountsBack, CountsOpening, DamagedIn};
-ghost use Rattle.job_solver.specs.Openings.{NumbersBeginWith, BegunWith, TableGoesOn, IsOfFile, IsOfNumber, IsTableOf};
+ghost use Rattle.job_journal.specs.Journal.{FileRests, FileStandsFor};
+ghost use Rattle.job_journal.specs.Opening.{Calm, CountsBack, CountsOpening, DamagedIn, FoldsTo};
+ghost use Rattle.job_solver.specs.Openings.{NumbersBeginWith, BegunWith, TableGoesOn, IsOfFile, IsOfNumber, IsTableOf, StandsOrBegins};
 ghost use Rattle.job_solver.specs.Sieves.{Sifts};
 
 use crate::sieve::DocumentSieve;
@@ -32,7 +32,7 @@ fn begin_with<D: Disk>(
     ensures begins { IfOk result (λ _. NumbersBeginWith first journal.new.end table.new.first table.new.issued) }
     ensures sound { IfOk result (λ _. journal.new.broken ≡ false) }
     ensures any_moment { (deeds : List Deed) → D.told journal.old.disk ≡ true → FileRests D.seen D.may_leave journal.old.disk journal.old.end deeds
-        → LeavesOnly D.moment D.left_since journal.old.disk journal.new.disk (IsBeforeOrAfter deeds (records.Begin first)) }
+        → FoldsTo Sifts nothing deeds table.old → LeavesOnly D.moment D.left_since journal.old.disk journal.new.disk (StandsOrBegins first deeds) }
     ensures err { IfErr result IsOfNumber }
     ensures cause { CountsOpening result (D.faults journal.old.disk) (D.faults journal.new.disk) }
 {
@@ -71,11 +71,12 @@ pub fn open_jobs<D: Disk>(
     // These are the effects that the file stood for.
     ensures opened { IfOk result (λ r. D.told disk ≡ true → IsTableOf D.seen D.may_leave (D.seen disk) first r.0 r.1.disk r.1.end) }
 
-    // A crash at any moment leaves what it might have left before, the effects that the file stood for, or these and the number.
+    // A crash at any moment leaves what it might have left before, the effects that the file stood for, or, where that is
+    // possible behind them, these and the number.
     ensures any_moment { IfOk result (λ r. (deeds : List Deed) → D.told disk ≡ true → AllFit deeds → FileStandsFor deeds (D.seen disk)
-        → LeavesOnly D.moment D.left_since disk r.1.disk (λ c. D.may_leave disk c ⊎ IsBeforeOrAfter deeds (records.Begin first) c)) }
+        → LeavesOnly D.moment D.left_since disk r.1.disk (λ c. D.may_leave disk c ⊎ StandsOrBegins first deeds c)) }
     ensures any_moment_err { IfErr result (λ f. (deeds : List Deed) → D.told disk ≡ true → AllFit deeds → FileStandsFor deeds (D.seen disk)
-        → LeavesOnly D.moment D.left_since disk f.1 (λ c. D.may_leave disk c ⊎ IsBeforeOrAfter deeds (records.Begin first) c)) }
+        → LeavesOnly D.moment D.left_since disk f.1 (λ c. D.may_leave disk c ⊎ StandsOrBegins first deeds c)) }
 
     // A file that wasn't read or is damaged is left as it is.
     ensures left { IfErr result (λ f. IsOfFile f.0 → Calm D.told D.seen D.may_leave D.moment D.left_since disk f.1) }

@@ -11,7 +11,7 @@ use osrl_grammar::{OsrlFault, decode, document_has_one_report, report_is_not_ref
 use osrl_writing::Report;
 use std::alloc::{AllocError, Global};
 
-/// Accepts a report that claims nothing, or is unsure, and else what the checker accepts.
+/// Accepts a report that claims nothing, or is unsure and has no bound, and else what the checker accepts.
 #[derive(Drop)]
 pub struct DocumentSieve {
     alloc: Global,
@@ -33,7 +33,8 @@ fn is_sure(claim: &Claim) -> bool
         Claim::Infeasible { .. } => true,
         Claim::Unbounded { .. } => true,
         Claim::BestSoFar { .. } => true,
-        Claim::Unsure { .. } => false,
+        Claim::Unsure { bound: None, .. } => false,
+        Claim::Unsure { .. } => true,
     }
 }
 

@@ -3,11 +3,7 @@ use Rattle.std.proofs.Common.{◌≡◌, ℕ, ◌+◌, ◌<◌, ◌≤◌, nat_e
 use Rattle.std.proofs.lemmas.Bool.Decides.{nat_tests}
 use Rattle.std.proofs.lemmas.Map.{lookup-set_value}
 use Rattle.std.proofs.lemmas.Cmp.{nat_eq_equiv}
-use Rattle.std.specs.Ordering.{nat_cmp, match_ordering, is_eq}
-use Rattle.std.specs.BTreeMap.{insert_entry, is_at}
-use Rattle.std.specs.Map.{lookup}
-use Rattle.std.specs.declared.cmp.Ordering.{Ordering}
-use Rattle.std.specs.declared.cmp.Ordering.TheVariants.{Equal, Greater}
+use Rattle.std.specs.Option.{IsSomeAnd}
 use Rattle.job_table.specs.declared.job.Phase.{Phase}
 use Rattle.job_table.specs.Jobs.{HeldJobs, phase_of, with_phase, without, Rise, Below}
 
@@ -25,12 +21,6 @@ below_apart n m h = grind (arith, nat_tests)
 
 other_from : (m n k : ℕ) → nat_eq n m ≡ false → nat_eq n k ≡ true → nat_eq m k ≡ false
 other_from m n k h e = grind (arith, nat_tests)
-
-equal_is : (n : ℕ) → nat_cmp n n ≡ Equal
-equal_is n = grind (arith, nat_tests)
-
-greater_is : (n m : ℕ) → m < n → nat_cmp n m ≡ Greater
-greater_is n m h = grind (arith, nat_tests)
 
 pub rise_le : (low : ℕ) (jobs : HeldJobs) (high : ℕ) → Rise low jobs high → low ≤ high
 rise_le low [] high rise = rise
@@ -89,7 +79,7 @@ phase_with q n w jobs held = lookup-set_value nat_eq_equiv (nat_eq n) (λ x y sa
 turned : (a b : ℕ) → nat_eq a b ≡ nat_eq b a
 turned a b = grind (arith, nat_tests)
 
-not_first : (b : Bool) (x : Phase) (rest : Option Phase) → cond b (Some x) rest ≡ None → (b ≡ false) × (rest ≡ None)
+pub not_first : (b : Bool) (x : Phase) (rest : Option Phase) → cond b (Some x) rest ≡ None → (b ≡ false) × (rest ≡ None)
 not_first true x rest h = cc
 not_first false x rest h = (refl, h)
 
@@ -188,44 +178,6 @@ without_there n x (e ∷ es) behind below =
     ap (λ b. cond b (es ++ (n, x) ∷ behind) (e ∷ without n (es ++ (n, x) ∷ behind))) (above_apart n e.0 below.0)
     ∙ ap (λ s. e ∷ s) (without_there n x es behind below.1)
 
-inserted_there : (n : ℕ) (x w : Phase) (front behind : HeldJobs) → Below n front
-    → insert_entry nat_cmp (front ++ (n, x) ∷ behind) n w ≡ front ++ (n, w) ∷ behind
-inserted_there n x w [] behind below =
-    ap (λ (o : Ordering). match_ordering o ((n, w) ∷ (n, x) ∷ behind) ((n, w) ∷ behind) ((n, x) ∷ insert_entry nat_cmp behind n w)) (equal_is n)
-inserted_there n x w (e ∷ es) behind below =
-    ap (λ (o : Ordering). match_ordering o ((n, w) ∷ e ∷ (es ++ (n, x) ∷ behind)) ((e.0, w) ∷ (es ++ (n, x) ∷ behind))
-    (e ∷ insert_entry nat_cmp (es ++ (n, x) ∷ behind) n w)) (greater_is n e.0 below.0)
-    ∙ ap (λ s. e ∷ s) (inserted_there n x w es behind below.1)
-
--- a number that is held keeps its place, and a new one goes last
-inserted_held : (n : ℕ) (x w : Phase) (low : ℕ) (jobs : HeldJobs) (high : ℕ) → Rise low jobs high → phase_of n jobs ≡ Some x
-    → insert_entry nat_cmp jobs n w ≡ with_phase n w jobs
-inserted_held n x w low jobs high rise at =
-    let s = stands n x low jobs high rise at in
-    ap (λ js. insert_entry nat_cmp js n w) s.is ∙ inserted_there n x w s.front s.behind s.below
-    ∙ sym (with_there n x w s.front s.behind s.below) ∙ sym (ap (with_phase n w) s.is)
-
-inserted_some : (n : ℕ) (w : Phase) (low : ℕ) (jobs : HeldJobs) (high : ℕ) (q : Option Phase) → Rise low jobs high → phase_of n jobs ≡ q → IsSome q
-    → insert_entry nat_cmp jobs n w ≡ with_phase n w jobs
-inserted_some n w low jobs high (Some x) rise at some = inserted_held n x w low jobs high rise at
-inserted_some n w low jobs high None rise at some = cc
-
-pub inserted_there_is : (n : ℕ) (w : Phase) (low : ℕ) (jobs : HeldJobs) (high : ℕ) → Rise low jobs high → IsSome (phase_of n jobs)
-    → insert_entry nat_cmp jobs n w ≡ with_phase n w jobs
-inserted_there_is n w low jobs high rise some = inserted_some n w low jobs high (phase_of n jobs) rise refl some
-
-pub inserted_last : (n : ℕ) (w : Phase) (jobs : HeldJobs) → Below n jobs → insert_entry nat_cmp jobs n w ≡ jobs ++ (n, w) ∷ []
-inserted_last n w [] below = refl
-inserted_last n w (e ∷ es) below =
-    ap (λ (o : Ordering). match_ordering o ((n, w) ∷ e ∷ es) ((e.0, w) ∷ es) (e ∷ insert_entry nat_cmp es n w)) (greater_is n e.0 below.0)
-    ∙ ap (λ s. e ∷ s) (inserted_last n w es below.1)
-
--- a number that is above all that are held is found nowhere
-pub none_at : (n : ℕ) (jobs : HeldJobs) → Below n jobs → lookup (is_at (nat_cmp n)) jobs ≡ None
-none_at n [] below = refl
-none_at n (e ∷ es) below =
-    ap (λ (o : Ordering). cond (is_eq o) (Some e.1) (lookup (is_at (nat_cmp n)) es)) (greater_is n e.0 below.0) ∙ none_at n es below.1
-
 pub not_held : (q : Option Phase) → q ≡ None → IsSome q → ⊥
 not_held None none held = cc
 not_held (Some x) none held = cc
@@ -255,3 +207,7 @@ put_there n v jobs held = phase_with n n v jobs held ∙ ap (λ b. cond b (Some 
 pub put_held : (n : ℕ) (v : Phase) (jobs : HeldJobs) → IsSome (phase_of n jobs) → IsSome (phase_of n (with_phase n v jobs))
 put_held n v jobs held =
     subst (λ (p : Option Phase). IsSome p) (sym (put_there n v jobs held)) (some_is v)
+
+pub held_at_rest : (P : Phase → Type 0) (q : Option Phase) → IsSomeAnd q P → IsSome q
+held_at_rest P (Some x) h = refl
+held_at_rest P None h = absurd h

@@ -1,4 +1,5 @@
 pub mod JobLists
+pub mod HeldPlaces
 pub mod WaitingJobs
 pub mod Changes
 pub mod Histories

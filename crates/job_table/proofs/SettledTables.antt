@@ -1,5 +1,5 @@
 -- The table that goes on from what effects left.
-use Rattle.std.proofs.Common.{◌≡◌, ℕ, ◌+◌, ◌≤◌, nat_eq, Bool, true, false, cond, if◌then◌else◌, List, [], ◌∷◌, map, Option, Some, None, refl, sym, ◌∙◌, ap, subst, arith}
+use Rattle.std.proofs.Common.{◌≡◌, ℕ, ◌+◌, ◌≤◌, nat_eq, Bool, true, false, cond, if◌then◌else◌, List, [], ◌∷◌, map, Option, Some, None, IfSome, IfNone, refl, sym, ◌∙◌, ap, subst, arith}
 use Rattle.std.proofs.lemmas.List.Sums.{sum_by-cons}
 use Rattle.effects.specs.Fold.{Stage, Given, Sent, Asked, Over, Stopped, Ledger}
 use Rattle.job_table.specs.declared.job.Phase.{Phase}
@@ -95,6 +95,15 @@ none_to_settle (e ∷ es) is = by (none_to_settle es) e.1 refl is
 -- where no job is left that was asked to stop, all is settled
 pub settled_is : (r : Register) → first_marked r.jobs ≡ None → settled r ≡ r
 settled_is r none = ap (λ (jobs : HeldJobs). record r { jobs = jobs }) (none_to_settle r.jobs none)
+
+-- what is found as the first one is one, and where none is found there is none to settle
+pub first_some : (low : ℕ) (jobs : HeldJobs) (high : ℕ) (q : Option ℕ) → Rise low jobs high → q ≡ first_marked jobs → IfSome q (λ n. is_marked (phase_of n jobs) ≡ true)
+first_some low jobs high (Some n) rise is = (first_is_marked low jobs high n rise (sym is)).0
+first_some low jobs high None rise is = tt
+
+pub first_none : (r : Register) (q : Option ℕ) → q ≡ first_marked r.jobs → IfNone q (settled r ≡ r)
+first_none r (Some n) is = tt
+first_none r None is = settled_is r (sym is)
 
 settle_put : (n : ℕ) (a b : List ℕ) (jobs : HeldJobs) → phase_of n jobs ≡ Some (Running a b true) → map settle (with_phase n Killed jobs) ≡ map settle jobs
 settle_put n a b [] at = refl

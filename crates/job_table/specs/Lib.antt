@@ -1,5 +1,6 @@
 pub mod Jobs
 pub mod WaitingJobs
+pub mod Places
 pub mod Steps
 pub mod History
 pub mod Laws

@@ -15,21 +15,20 @@ ghost use Rattle.job_table.specs.Remade.{first_marked, settled};
 ghost use Rattle.job_table.specs.Steps.{most_jobs, last_number, most_first, with_new, moved, forgotten, adds, added_reply, LeadsBy, claims, kills, outcome, sends, finishes, is_marked};
 
 use crate::entries::{Finishing, IssueFault, NumberedStates};
-use crate::job::{Job, Phase, State};
+use crate::job::{Job, Phase, is_running, is_waiting, state_of};
+use crate::phases::Phases;
 use crate::waiting::{make_room, renew};
 use effects::{Effect, LAST_NUMBER, MOST_JOBS, NoStore, NotStored, Store};
 use os_io::Memory;
-use std::alloc::{AllocError, Global};
-use std::collections::btree_map::Entry;
-use std::collections::{BTreeMap, VecDeque};
+use std::alloc::Global;
+use std::collections::VecDeque;
 use std::marker::Model;
 
 /// The jobs that are held. Contracts see the number with which numbers begin, the jobs in order of issue, how many numbers were
 /// given, and how many workers are enlisted.
 #[derive(Drop)]
 pub(crate) struct Jobs {
-    /// Numbers rise with the order of issue, so this is that order, also after a record was given up.
-    phases: BTreeMap<u64, Phase>,
+    phases: Phases,
     /// The numbers of those that wait, in order, with room for all that are held.
     waiting: VecDeque<u64>,
     /// How many run.
@@ -48,88 +47,9 @@ impl Model for Jobs {
 
     ghost Value = { Register };
 
-    ghost view = { λ j. record { first = j.first; jobs = j.phases.entries; issued = j.issued; workers = j.workers } };
+    ghost view = { λ j. record { first = j.first; jobs = j.phases; issued = j.issued; workers = j.workers } };
 
-    ghost invariant = { λ j. IsKeptBeside j.phases.entries j.first (j.first + j.issued) j.waiting.items (deque_capacity j.waiting) j.running };
-}
-
-/// What is told of a phase.
-pub(crate) fn state_of(phase: &Phase) -> State
-    ensures { result ≡ state_of phase.now }
-{
-    match phase {
-        Phase::Issued => State::Issued,
-        Phase::Waiting { .. } => State::Waiting,
-        Phase::Running { .. } => State::Running,
-        Phase::Finished(_) => State::Finished,
-        Phase::Killed => State::Killed,
-    }
-}
-
-fn is_waiting(phase: &Phase) -> bool
-    ensures { result ≡ is_waiting phase.now }
-{
-    matches!(phase, Phase::Waiting { .. })
-}
-
-fn is_running(phase: &Phase) -> bool
-    ensures { result ≡ is_running phase.now }
-{
-    matches!(phase, Phase::Running { .. })
-}
-
-/// Whether a job in that phase runs and was asked to stop.
-pub(crate) fn is_marked(phase: &Phase) -> bool
-    ensures { result ≡ is_marked (Some phase.now) }
-{
-    matches!(phase, Phase::Running { marked: true, .. })
-}
-
-/// Puts a job that is held into another phase, and gives the one before.
-fn replace(phases: &mut BTreeMap<u64, Phase>, number: u64, phase: Phase) -> Phase
-    requires { IsSome (phase_of number phases.old.entries) }
-    ensures phases { (low high : ℕ) → Rise low phases.old.entries high → phases.new.entries ≡ with_phase number phase phases.old.entries }
-    ensures before { phase_of number phases.old.entries ≡ Some result }
-{
-    match phases.insert(number, phase) {
-        Ok(Some(before)) => before,
-        Ok(None) => unreachable!(),
-        Err(_) => unreachable!(),
-    }
-}
-
-/// Adds a job behind all others, by a number that is above theirs, once an effect is stored. The memory for it is taken before.
-fn append<S: Store>(
-    phases: &mut BTreeMap<u64, Phase>,
-    number: u64,
-    phase: Phase,
-    effect: &Effect,
-    store: &mut S,
-) -> Result<Result<(), NotStored>, Memory>
-    requires { Below number phases.old.entries }
-    ensures ok { IfOk result (λ put. OnOk put (phases.new.entries ≡ phases.old.entries ++ (number, phase) ∷ [])) }
-    ensures refused { IfOk result (λ put. OnErr put (phases.new.entries ≡ phases.old.entries)) }
-    ensures put { IfOk result (λ put. Puts S.keeps S.passes S.too_long S.broken S.faults (deed_of effect.now) store.old (fault_of put) store.new) }
-    ensures lost { OnErr result ((phases.new.entries ≡ phases.old.entries) × (store.new ≡ store.old)) }
-{
-    match phases.entry(number) {
-        Ok(Entry::Vacant(place)) => match store.put(effect) {
-            Ok(()) => {
-                place.insert(phase);
-                Ok(Ok(()))
-            }
-            Err(fault) => Ok(Err(fault)),
-        },
-        Ok(Entry::Occupied(_)) => unreachable!(),
-        Err(_) => Err(AllocError),
-    }
-}
-
-/// Takes a job out.
-fn take_away(phases: &mut BTreeMap<u64, Phase>, number: u64)
-    ensures { phases.new.entries ≡ without number phases.old.entries }
-{
-    phases.remove(&number);
+    ghost invariant = { λ j. IsKeptBeside j.phases j.first (j.first + j.issued) j.waiting.items (deque_capacity j.waiting) j.running };
 }
 
 /// How many run, where one job ran or not, and runs or not.
@@ -153,7 +73,7 @@ impl Jobs {
         ensures { result ≡ beginning first }
     {
         Jobs {
-            phases: BTreeMap::new(alloc),
+            phases: Phases::new(alloc),
             waiting: VecDeque::new(alloc),
             running: 0,
             first,
@@ -211,7 +131,7 @@ impl Jobs {
     pub(crate) fn phase(&self, number: u64) -> Option<&Phase>
         ensures { option_copied result ≡ phase_of number self.now.jobs }
     {
-        self.phases.get(&number)
+        self.phases.get(number)
     }
 
     /// Whether a job has its number alone.
@@ -270,14 +190,7 @@ impl Jobs {
     pub(crate) fn states(&self, alloc: Global) -> Result<NumberedStates, Memory>
         ensures { IfOk result (λ all. all ≡ states self.now.jobs) }
     {
-        let mut all = NumberedStates::new(alloc);
-        for (number, phase) in &self.phases {
-            match all.push(*number, state_of(phase)) {
-                Ok(()) => {}
-                Err(lost) => return Err(lost),
-            }
-        }
-        Ok(all)
+        self.phases.states(alloc)
     }
 
     /// Whether there is room for a new job, and a number is left.
@@ -325,7 +238,7 @@ impl Jobs {
         }
         let waits = is_waiting(&phase);
         let runs = is_running(&phase);
-        match append(&mut self.phases, number, phase, effect, store) {
+        match self.phases.append(number, phase, effect, store) {
             Ok(Ok(())) => {}
             Ok(Err(fault)) => return Err(fault),
             Err(_) => return Ok(Err(IssueFault::Memory)),
@@ -344,7 +257,7 @@ impl Jobs {
     {
         let waits = is_waiting(&phase);
         let runs = is_running(&phase);
-        let before = replace(&mut self.phases, number, phase);
+        let before = self.phases.replace(number, phase);
         renew(&mut self.waiting, number, is_waiting(&before), waits);
         self.running = recount(self.running, is_running(&before), runs);
         before
@@ -355,7 +268,7 @@ impl Jobs {
         requires { IsSomeAnd (phase_of number self.old.jobs) (λ phase. (is_waiting phase ≡ false) × (is_running phase ≡ false)) }
         ensures { self.new ≡ forgotten number self.old }
     {
-        take_away(&mut self.phases, number);
+        self.phases.take_away(number);
     }
 
     /// The first job that waits, which runs from then on.
@@ -416,12 +329,7 @@ impl Jobs {
         ensures some { IfSome result (λ number. is_marked (phase_of number self.now.jobs) ≡ true) }
         ensures none { IfNone result (settled self.now ≡ self.now) }
     {
-        for (number, phase) in &self.phases {
-            if is_marked(phase) {
-                return Some(*number);
-            }
-        }
-        None
+        self.phases.first_marked()
     }
 
     /// Law: the numbers rise.

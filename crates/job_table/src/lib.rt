@@ -19,7 +19,8 @@
 //! leaves ([`plans_are_so`]). A move may be made once its effect is stored (`make_kept` of [`moves::Move`]). [`Remade`] makes such
 //! effects again, and gives the table that goes on from them.
 //!
-//! Only `knock` goes over the jobs. Room for a job's record and for its place among those that wait is taken where its number is
+//! Only `knock` goes over the jobs, and at times the giving of a number, which lets the places of jobs that were given up go once
+//! they are more than half. Room for a job's record and for its place among those that wait is taken where its number is
 //! given, and texts have two owners from the start ([`Twin`]), so that `send`, `claim`, `look`, `finish` and `kill` take no memory.
 #![tactic(auto)]
 
@@ -30,6 +31,7 @@ mod jobs;
 mod laws;
 mod mover;
 pub mod moves;
+mod phases;
 mod plans;
 mod remade;
 mod table;

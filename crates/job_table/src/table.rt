@@ -10,8 +10,8 @@ ghost use Rattle.job_table.specs.Steps.{most_first, May, Step, Follows, fits, ha
 use crate::entries::{
     Finishing, IssueFault, Killing, Reply, Retrieved, Statistics, TableMove, Verdicts,
 };
-use crate::job::{Job, Phase};
-use crate::jobs::{Jobs, is_marked, state_of};
+use crate::job::{Job, Phase, is_marked, state_of};
+use crate::jobs::Jobs;
 use crate::texts::{SharedText, Twin};
 use effects::{Effect, NoStore, NotStored, Store};
 use os_io::Memory;

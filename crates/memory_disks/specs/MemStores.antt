@@ -20,6 +20,11 @@ home_bytes None = None
 abbrev pub held_by : (own : List ℕ) → Option MemStore → (name : List ℕ) → Option (List ℕ)
 held_by own home name = cond (bytes_eq own name) (home_bytes home) None
 
+-- the name under which the disk was opened, if it was
+abbrev pub names_opened : (own : List ℕ) → Option MemStore → List (List ℕ)
+names_opened own (Some s) = []
+names_opened own None = own ∷ []
+
 -- what those kept up to this one had, in the order in which they were given back
 abbrev mutual
   pub bytes_up_to : Kept → List (List ℕ)

@@ -5,9 +5,9 @@ ghost use Rattle.std.proofs.Common.{inl};
 ghost use Rattle.std.specs.Option.{option_copied};
 ghost use Rattle.memory_disks.specs.Memory.{disk_bytes};
 ghost use Rattle.os_io.specs.Files.{CountsFiles};
-ghost use Rattle.memory_disks.specs.MemStores.{disk_of, held_by, bytes_kept, last_kept};
+ghost use Rattle.memory_disks.specs.MemStores.{disk_of, held_by, names_opened, bytes_kept, last_kept};
 ghost use Rattle.memory_disks.specs.Past.{only_bytes};
-ghost use Rattle.disks.specs.Stores.{IsHeld};
+ghost use Rattle.disks.specs.Stores.{IsHeld, NamesOpened};
 
 use crate::mem_disk::MemDisk;
 use disks::{Disk, Stores};
@@ -84,6 +84,7 @@ impl MemStores {
     pub fn new(alloc: Global, name: &str, disk: MemDisk) -> Result<MemStores, Memory>
         ensures held { IfOk result (λ s. ⟦<MemStores as Stores>⟧.held s name.now ≡ Some (disk_bytes disk)) }
         ensures back { IfOk result (λ s. ⟦<MemStores as Stores>⟧.back s ≡ Some []) }
+        ensures opened { IfOk result (λ s. ⟦<MemStores as Stores>⟧.opened s ≡ Some []) }
         ensures faults { IfOk result (λ s. ⟦<MemStores as Stores>⟧.faults s ≡ 0) }
     {
         let place = Box::new(alloc, Kept { disk, under: None })?;
@@ -98,6 +99,7 @@ impl MemStores {
     /// Lends the disk, where it has this name and wasn't opened yet.
     fn lend(&mut self, name: &str) -> Result<MemStore, FileFault>
         ensures opened { IfOk result (λ s. IsHeld (held_by self.old.name self.old.home name.now) true (disk_bytes (disk_of s))) }
+        ensures names { NamesOpened result (Some (names_opened self.old.name self.old.home)) (Some (names_opened self.new.name self.new.home)) name.now }
         ensures back { self.new.back ≡ self.old.back }
         ensures others { (other : List ℕ) → (other ≡ name.now → ⊥) → held_by self.new.name self.new.home other ≡ held_by self.old.name self.old.home other }
         ensures counted { CountsFiles result self.old.faults self.new.faults }
@@ -128,6 +130,8 @@ impl Stores for MemStores {
     ghost held = { λ s name. held_by s.name s.home name };
 
     ghost back = { λ s. Some (bytes_kept s.back) };
+
+    ghost opened = { λ s. Some (names_opened s.name s.home) };
 
     ghost faults = { λ s. s.faults };
 

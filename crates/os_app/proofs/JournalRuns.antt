@@ -1,12 +1,12 @@
 -- How a run over a journal ends.
-use Rattle.std.proofs.Common.{◌≡◌, ◌∙◌, ℕ, inl, inr, List, Option, Some, Err, arith, sym, ap, subst}
+use Rattle.std.proofs.Common.{◌≡◌, ◌∙◌, ℕ, inl, inr, List, [], ◌∷◌, Option, Some, Err, arith, sym, ap, subst}
 use Rattle.std.specs.Prelude.{option_map}
 use Rattle.std.specs.Borrow.{Bor}
 use Rattle.os_io.specs.declared.files.FileFault.{FileFault}
 use Rattle.os_io.specs.Files.{CountsFiles}
 use Rattle.os_io.specs.Streams.{Tells}
 use Rattle.disks.specs.declared.disk.Disk.{Ghosts}
-use Rattle.disks.specs.Stores.{IsBack}
+use Rattle.disks.specs.Stores.{AreOpened, IsBack}
 use Rattle.job_table.specs.Jobs.{Register}
 use Rattle.job_journal.specs.declared.journal.Journal.{Journal}
 use Rattle.job_journal.specs.declared.scanning.OpenFault.{OpenFault}
@@ -72,14 +72,14 @@ module _ {D : Type 0} (g : Ghosts D) where
 
   -- ---- the stores
 
-  module _ {K : Type 0} (held : K → List ℕ → Option (List ℕ)) (back : K → Option (List (List ℕ))) (failed : K → ℕ) (a b c : K) (left : D) (put : IsBack (back b) (back c) (g.seen left)) (still : failed c ≡ failed b) where
+  module _ {K : Type 0} (held : K → List ℕ → Option (List ℕ)) (back names : K → Option (List (List ℕ))) (failed : K → ℕ) (a b c : K) (left : D) (put : IsBack (back b) (back c) (g.seen left)) (kept : names c ≡ names b) (still : failed c ≡ failed b) where
     -- a disk that was opened and is given back
-    pub gives_back : back b ≡ back a → failed b ≡ failed a → GivesBack g (stores_run held back failed a c) left
-    gives_back same whole = record { back = subst (λ (before : Option (List (List ℕ))). IsBack before (back c) (g.seen left)) same put; all_opened = still ∙ whole }
+    pub gives_back : (name : List ℕ) → back b ≡ back a → AreOpened (names a) (names b) (name ∷ []) → failed b ≡ failed a → GivesBack g name (stores_run held back names failed a c) left
+    gives_back name same named whole = record { named = subst (λ (after : Option (List (List ℕ))). AreOpened (names a) after (name ∷ [])) (sym kept) named; back = subst (λ (before : Option (List (List ℕ))). IsBack before (back c) (g.seen left)) same put; all_opened = still ∙ whole }
 
     -- what was done over a journal that was open, and whose disk is given back
-    pub over_of : (name : List ℕ) (first : ℕ) (table : Register) (journal : Journal D g) (Does : Register → Journal D g → D → Type 0) → IsOpen g name first table journal (stores_run held back failed a b)
-        → Does table journal left → IsOverJournal g Does name first (stores_run held back failed a c)
+    pub over_of : (name : List ℕ) (first : ℕ) (table : Register) (journal : Journal D g) (Does : Register → Journal D g → D → Type 0) → IsOpen g name first table journal (stores_run held back names failed a b)
+        → Does table journal left → IsOverJournal g Does name first (stores_run held back names failed a c)
     over_of name first table journal Does opened does = record {
       disk = opened.disk;
       table = table;
@@ -87,7 +87,7 @@ module _ {D : Type 0} (g : Ghosts D) where
       opens = opened.opens;
       left = left;
       does = does;
-      given_back = gives_back opened.back opened.all_opened;
+      given_back = gives_back name opened.back opened.named opened.all_opened;
     }
 
   -- ---- a run

@@ -1,5 +1,5 @@
 -- How a run ends that solves the job of files.
-use Rattle.std.proofs.Common.{◌≡◌, ◌∙◌, ℕ, ◌⊎◌, inl, inr, Bool, true, false, Option, List, ap, subst}
+use Rattle.std.proofs.Common.{◌≡◌, ◌∙◌, ℕ, ◌⊎◌, inl, inr, Bool, true, false, Option, None, List, ap, subst}
 use Rattle.std.specs.Prelude.{option_map}
 use Rattle.std.specs.Borrow.{Bor}
 use Rattle.os_io.specs.Files.{Held, ReadsFirst}
@@ -51,7 +51,7 @@ module _ (a osil osol : List ℕ) (shows : Shows a osil) where
   })
   answers_file asked r (gave_up g) = gave_up (record { job = g.job; whose = g.whose; claim = g.claim; claims = by g.claims; is = g.is })
     where
-      by : (g.claim ≡ Unsure Memory) ⊎ IsBestOfSearch a osol g.claim → (g.claim ≡ Unsure Memory) ⊎ IsBestOfSearch osil osol g.claim
+      by : (g.claim ≡ Unsure Memory None) ⊎ IsBestOfSearch a osol g.claim → (g.claim ≡ Unsure Memory None) ⊎ IsBestOfSearch osil osol g.claim
       by (inl unsure) = inl unsure
       by (inr b) = inr (record { given = given_file b.given; moment = b.moment; comes = b.comes; tells = b.tells })
 

@@ -102,8 +102,8 @@ claim_turned : (c : Claim) → claims_turn_limit c ≡ turned (claimed_cause c)
 claim_turned (Optimal x vs cs) = refl
 claim_turned (Infeasible cert) = refl
 claim_turned (Unbounded x vs cs r) = refl
-claim_turned (BestSoFar x vs k) = refl
-claim_turned (Unsure k) = refl
+claim_turned (BestSoFar x vs k b) = refl
+claim_turned (Unsure k b) = refl
 
 told_turned : (c : Claim) (o : Outcome) → ClaimTells c o → claims_turn_limit c ≡ is_out_of_turns o
 told_turned c o tells = claim_turned c ∙ ap turned tells.cause ∙ sym (outcome_turned o)
@@ -112,8 +112,8 @@ given_up_is : (c : Claim) (k : Cause) → claims_turn_limit (given_up c k) ≡ i
 given_up_is (Optimal x vs cs) k = refl
 given_up_is (Infeasible cert) k = refl
 given_up_is (Unbounded x vs cs r) k = refl
-given_up_is (BestSoFar x vs c) k = refl
-given_up_is (Unsure c) k = refl
+given_up_is (BestSoFar x vs c b) k = refl
+given_up_is (Unsure c b) k = refl
 
 checked_is : (found : Claim) (turns : ℕ) (node : Option ℕ) → claims_turn_limit found ≡ false → claims_turn_limit (checked found turns node) ≡ false
 checked_is found turns None within = within
@@ -126,7 +126,7 @@ fitted_is job found told (inr (long, is)) within = ap claims_turn_limit is ∙ g
 closed_is : (p : Parts) (job : Option (List ℕ)) (turns : ℕ) (found told : Claim) → IsToldOf p job turns found told → claims_turn_limit found ≡ false → claims_turn_limit told ≡ false
 closed_is p job turns found told closed within = fitted_is job _ told closed.fitted (checked_is found turns closed.width within)
 
-gave_up_is : (osil osol : List ℕ) (c : Claim) → (c ≡ Unsure Memory) ⊎ IsBestOfSearch osil osol c → claims_turn_limit c ≡ false
+gave_up_is : (osil osol : List ℕ) (c : Claim) → (c ≡ Unsure Memory None) ⊎ IsBestOfSearch osil osol c → claims_turn_limit c ≡ false
 gave_up_is osil osol c (inl is) = ap claims_turn_limit is
 gave_up_is osil osol c (inr best) = told_turned c (early best.moment.best Memory) best.tells ∙ early_is is_turn_limit best.moment.best Memory
 

@@ -20,17 +20,19 @@ pub record ProgramRun : Type 0 where
   pub net : NetTells
   pub net_after : NetTells
 
--- what stores hold of names, and which disks were given back, and how often none was opened, before and after a run
+-- what stores hold of names, which disks were given back, which names were opened, and how often none was, before and after a run
 pub record StoresRun : Type 0 where
   pub held : List ℕ → Option (List ℕ)
   pub back : Option (List (List ℕ))
   pub back_after : Option (List (List ℕ))
+  pub opened : Option (List (List ℕ))
+  pub opened_after : Option (List (List ℕ))
   pub faults : ℕ
   pub faults_after : ℕ
 
 -- the same of stores that tell so
-abbrev pub stores_run : {K : Type 0} → (held : K → List ℕ → Option (List ℕ)) → (back : K → Option (List (List ℕ))) → (faults : K → ℕ) → (old new : K) → StoresRun
-stores_run held back faults old new = record { held = held old; back = back old; back_after = back new; faults = faults old; faults_after = faults new }
+abbrev pub stores_run : {K : Type 0} → (held : K → List ℕ → Option (List ℕ)) → (back opened : K → Option (List (List ℕ))) → (faults : K → ℕ) → (old new : K) → StoresRun
+stores_run held back opened faults old new = record { held = held old; back = back old; back_after = back new; opened = opened old; opened_after = opened new; faults = faults old; faults_after = faults new }
 
 -- no file failed to be read
 abbrev pub AllFilesRead : ProgramRun → Type 0

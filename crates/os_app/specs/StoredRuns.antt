@@ -1,19 +1,19 @@
 -- How a run over a journal ends.
-use Rattle.std.specs.Prelude.{◌≡◌, ◌⊎◌, false, true, ℕ, List, Option, Some, Err}
+use Rattle.std.specs.Prelude.{◌≡◌, ◌⊎◌, false, true, ℕ, List, [], ◌∷◌, Option, Some, Err}
 use Rattle.os_io.specs.Links.{NetTells}
 use Rattle.os_io.specs.Streams.{Tells, HasRisen}
-use Rattle.effects.specs.Records.{Deed, AllFit, Begin}
+use Rattle.effects.specs.Records.{Deed, AllFit}
 use Rattle.job_table.specs.Jobs.{Register, Rises, NobodyRuns}
 use Rattle.job_journal.specs.declared.journal.Journal.{Journal}
 use Rattle.job_journal.specs.declared.scanning.OpenFault.{OpenFault}
 use Rattle.job_journal.specs.declared.scanning.OpenFault.TheVariants.{ReadFault, Memory}
-use Rattle.job_journal.specs.Journal.{FileStandsFor, IsBeforeOrAfter}
+use Rattle.job_journal.specs.Journal.{FileStandsFor}
 use Rattle.job_journal.specs.Opening.{Calm, CountsOpening, DamagedIn}
 use Rattle.disks.specs.declared.disk.Disk.{Ghosts}
 use Rattle.disks.specs.Disks.{LeavesOnly}
-use Rattle.disks.specs.Stores.{IsBack, IsHeld}
+use Rattle.disks.specs.Stores.{AreOpened, IsBack, IsHeld}
 use Rattle.job_solver.specs.Sieves.{Sifts}
-use Rattle.job_solver.specs.Openings.{NumbersBeginWith, TableGoesOn, IsOfFile, IsTableOf}
+use Rattle.job_solver.specs.Openings.{NumbersBeginWith, StandsOrBegins, TableGoesOn, IsOfFile, IsTableOf}
 use Rattle.os_server.specs.Talk.{both_ends}
 use Rattle.sessions.specs.StoredSessions.{IsStoredSession}
 use Rattle.serving.specs.declared.setup.Setup.{Setup}
@@ -25,11 +25,11 @@ use Rattle.os_app.specs.ProgramRuns.{ProgramRun, StoresRun, IsUntaken, LeavesInp
 use Rattle.os_app.specs.Statuses.{session_status, serve_status}
 
 module _ {D : Type 0} (g : Ghosts D) where
-  -- a crash at any moment between the two leaves what it might have left before, or a file that stands for the same effects, or for these and that numbers begin with
-  -- this one
+  -- a crash at any moment between the two leaves what it might have left before, or a file that stands for the same effects, or, where that is possible behind them, for
+  -- these and that numbers begin with this one
   abbrev pub LeavesEffects : (first : ℕ) → (disk now : D) → Type 0
   LeavesEffects first disk now =
-      (deeds : List Deed) → g.told disk ≡ true → AllFit deeds → FileStandsFor deeds (g.seen disk) → LeavesOnly g.moment g.left_since disk now (λ c. g.may_leave disk c ⊎ IsBeforeOrAfter deeds (Begin first) c)
+      (deeds : List Deed) → g.told disk ≡ true → AllFit deeds → FileStandsFor deeds (g.seen disk) → LeavesOnly g.moment g.left_since disk now (λ c. g.may_leave disk c ⊎ StandsOrBegins first deeds c)
 
   -- a journal is open on this disk, which has what its name held. The table goes on from effects, each possible and accepted behind those before, which are those
   -- that the file stood for, where that is told; numbers begin with this one where none was given and the file has room to say so. No call of the disk failed
@@ -44,16 +44,18 @@ module _ {D : Type 0} (g : Ghosts D) where
     pub still : g.faults journal.disk ≡ g.faults disk
     pub any_moment : LeavesEffects first disk journal.disk
 
-  -- the journal of this name is open, and its disk isn't given back yet
+  -- the journal of this name is open, no other was, and its disk isn't given back yet
   pub record IsOpen (name : List ℕ) (first : ℕ) (table : Register) (journal : Journal D g) (stores : StoresRun) : Type 0 where
     pub disk : D
     pub opens : OpensJournal (stores.held name) first disk table journal
     pub back : stores.back_after ≡ stores.back
+    pub named : AreOpened stores.opened stores.opened_after (name ∷ [])
     pub all_opened : stores.faults_after ≡ stores.faults
 
-  -- a disk was opened, and the one that is left of it was given back
-  pub record GivesBack (stores : StoresRun) (left : D) : Type 0 where
+  -- the disk of this name was opened, and no other, and what is left of it was given back
+  pub record GivesBack (name : List ℕ) (stores : StoresRun) (left : D) : Type 0 where
     pub back : IsBack stores.back stores.back_after (g.seen left)
+    pub named : AreOpened stores.opened stores.opened_after (name ∷ [])
     pub all_opened : stores.faults_after ≡ stores.faults
 
   -- the journal of this name was opened, this was done over the table and the journal, and the disk that was left was given back
@@ -64,7 +66,7 @@ module _ {D : Type 0} (g : Ghosts D) where
     pub opens : OpensJournal (stores.held name) first disk table journal
     pub left : D
     pub does : Does table journal left
-    pub given_back : GivesBack stores left
+    pub given_back : GivesBack name stores left
 
   -- this is left of a disk whose journal wasn't opened: the file as it was, where it wasn't read or is damaged, and else one that keeps its effects
   pub record KeepsFile (first : ℕ) (fault : OpenFault) (disk left : D) : Type 0 where
@@ -74,10 +76,10 @@ module _ {D : Type 0} (g : Ghosts D) where
   -- why the journal of this name wasn't opened: no disk was; or what stands on it wasn't, and it was given back. A fault of reading or writing was counted, and a
   -- damaged journal is
   pub data Unopened (name : List ℕ) (first : ℕ) (stores : StoresRun) (fault : OpenFault) : Type 0 where
-    no_disk : fault ≡ ReadFault → HasRisen stores.faults stores.faults_after → stores.back_after ≡ stores.back → Unopened name first stores fault
-    no_memory : fault ≡ Memory → stores.faults_after ≡ stores.faults → stores.back_after ≡ stores.back → Unopened name first stores fault
+    no_disk : fault ≡ ReadFault → HasRisen stores.faults stores.faults_after → stores.back_after ≡ stores.back → stores.opened_after ≡ stores.opened → Unopened name first stores fault
+    no_memory : fault ≡ Memory → stores.faults_after ≡ stores.faults → stores.back_after ≡ stores.back → stores.opened_after ≡ stores.opened → Unopened name first stores fault
     no_journal : (disk left : D) → IsHeld (stores.held name) (g.told disk) (g.seen disk) → (g.told disk ≡ true → DamagedIn Sifts (g.seen disk) fault) → CountsOpening {X = Unit {0}} (Err fault) (g.faults disk) (g.faults left)
-        → KeepsFile first fault disk left → GivesBack stores left → Unopened name first stores fault
+        → KeepsFile first fault disk left → GivesBack name stores left → Unopened name first stores fault
 
   -- how a command over the journal of this name ends: it did what it does, which ended so, with that status; or the journal wasn't opened, which is said, and
   -- nothing else was touched

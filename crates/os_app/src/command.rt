@@ -141,7 +141,7 @@ where
       output_after = O.tells output.new;
       net = N.tells net.old;
       net_after = N.tells net.new;
-    }) (stores_run K.held K.back K.faults stores.old stores.new) }
+    }) (stores_run K.held K.back K.opened K.faults stores.old stores.new) }
     ensures output_of_input { SameOutput (I.tells input.old) (I.tells input.new) }
     ensures input_of_output { SameInput (O.tells output.old) (O.tells output.new) }
     ensures held { F.held files.new ≡ F.held files.old }

@@ -23,7 +23,8 @@ fn wants_memory(claim: &Claim) -> bool
             cause: Cause::Memory,
             ..
         } | Claim::Unsure {
-            cause: Cause::Memory
+            cause: Cause::Memory,
+            ..
         }
     )
 }

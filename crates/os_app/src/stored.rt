@@ -47,8 +47,8 @@ fn open_named<K: Stores>(
 ) -> Result<(Table<SolvedJobs>, Journal<K::Store>), OpenFault>
     requires some { 1 ≤ first }
     requires within { first ≤ most_first }
-    ensures opened { IfOk result (λ r. IsOpen K.Store.Disk name.now first r.0 r.1 (stores_run K.held K.back K.faults stores.old stores.new)) }
-    ensures unopened { IfErr result (λ fault. Unopened K.Store.Disk name.now first (stores_run K.held K.back K.faults stores.old stores.new) fault) }
+    ensures opened { IfOk result (λ r. IsOpen K.Store.Disk name.now first r.0 r.1 (stores_run K.held K.back K.opened K.faults stores.old stores.new)) }
+    ensures unopened { IfErr result (λ fault. Unopened K.Store.Disk name.now first (stores_run K.held K.back K.opened K.faults stores.old stores.new) fault) }
 {
     let disk = match stores.open_store(name) {
         Ok(disk) => disk,
@@ -73,7 +73,7 @@ pub(crate) fn keep_session<K: Stores, I: Source, O: Sink, R: Wait>(
     input: &mut I,
     output: &mut O,
 ) -> u8
-    ensures ends { KeepsSession K.Store.Disk name.now result (stores_run K.held K.back K.faults stores.old stores.new) (I.tells input.old) (I.tells input.new) (O.tells output.old) (O.tells output.new) }
+    ensures ends { KeepsSession K.Store.Disk name.now result (stores_run K.held K.back K.opened K.faults stores.old stores.new) (I.tells input.old) (I.tells input.new) (O.tells output.old) (O.tells output.new) }
     ensures output_of_input { SameOutput (I.tells input.old) (I.tells input.new) }
     ensures input_of_output { SameInput (O.tells output.old) (O.tells output.new) }
 {
@@ -105,7 +105,7 @@ where
     requires servers { 1 ≤ setup.limits.servers }
     requires first { 1 ≤ setup.first }
     requires fits { setup.first ≤ most_first }
-    ensures ends { KeepsServer K.Store.Disk host.now port setup name.now result (stores_run K.held K.back K.faults stores.old stores.new) (N.tells net.old) (N.tells net.new) (O.tells output.old) (O.tells output.new) }
+    ensures ends { KeepsServer K.Store.Disk host.now port setup name.now result (stores_run K.held K.back K.opened K.faults stores.old stores.new) (N.tells net.old) (N.tells net.new) (O.tells output.old) (O.tells output.new) }
     ensures input_of_output { SameInput (O.tells output.old) (O.tells output.new) }
 {
     match open_named(alloc, stores, name, setup.first) {
@@ -153,7 +153,7 @@ pub(crate) fn compact_named<K: Stores, O: Sink>(
     to: &str,
     output: &mut O,
 ) -> u8
-    ensures ends { EndsCompact K.Store.Disk from.now to.now result (stores_run K.held K.back K.faults stores.old stores.new) (O.tells output.old) (O.tells output.new) }
+    ensures ends { EndsCompact K.Store.Disk from.now to.now result (stores_run K.held K.back K.opened K.faults stores.old stores.new) (O.tells output.old) (O.tells output.new) }
     ensures input_of_output { SameInput (O.tells output.old) (O.tells output.new) }
 {
     let old = match stores.find_store(from) {

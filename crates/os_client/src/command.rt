@@ -10,6 +10,7 @@ use crate::parts::read_call;
 use crate::telling::tell;
 use command_answers::status::{NO_LINK, NO_MEMORY, READ_FAULT};
 use command_line::CallWords;
+use open_links::OpenLink;
 use os_io::{Failed, FileFault, Files, Listener, Sink, Text};
 use soap_calls::SoapCall;
 use std::alloc::Global;
@@ -24,9 +25,9 @@ fn call_over<N: Listener>(
 ) -> Result<Result<Text, CallFault>, Failed>
     ensures { CallsOver words.entry.host.now words.entry.port asked.now result (N.tells net.old) (N.tells net.new) }
 {
-    let mut link = net.connect(words.host, words.port)?;
+    let mut link = OpenLink::new(net.connect(words.host, words.port)?);
     let outcome = call(alloc, &mut link, asked);
-    net.done(link);
+    net.done(link.into_link());
     Ok(outcome)
 }
 

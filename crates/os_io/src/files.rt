@@ -4,13 +4,16 @@ ghost use Rattle.os_io.specs.Files.{CountsFiles, Held, ReadsFirst};
 
 use crate::text::Text;
 use std::alloc::Global;
+use thiserror::Error;
 
 /// Why a file wasn't read.
-#[derive(Clone, Copy, PartialEq, Eq, Debug, Drop)]
+#[derive(Clone, Copy, PartialEq, Eq, Debug, Drop, Error)]
 pub enum FileFault {
     /// The file isn't there or can't be read, and the count of faults rose, or stands at 2^64 - 1.
+    #[error("the file can't be read")]
     Failed,
     /// There was no memory for its bytes.
+    #[error("there was no memory")]
     Memory,
 }
 

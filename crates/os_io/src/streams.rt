@@ -2,8 +2,11 @@
 ghost use Rattle.std.specs.Prelude.{◌≡◌, ℕ, ◌<◌, ◌≤◌, [], length, take, IfOk, OnErr, OnOk};
 ghost use Rattle.os_io.specs.Streams.{Tells, BothTold, Takes, Appends, Grows, Counts, SameInput, SameOutput, Writes, Sends};
 
+use thiserror::Error;
+
 /// A call failed, and its object's count of faults rose, or stands at 2^64 - 1.
-#[derive(Clone, Copy, PartialEq, Eq, Debug, Drop)]
+#[derive(Clone, Copy, PartialEq, Eq, Debug, Drop, Error)]
+#[error("a call failed")]
 pub struct Failed;
 
 /// Bytes that come, or go, or both.

@@ -1,7 +1,9 @@
 //! Bytes in memory that grow.
 ghost use Rattle.std.specs.Prelude.{◌≡◌, ◌==◌, ◌++◌, [], ◌∷◌, length, take, OnOk, OnErr, IfOk};
 
+use bstr::BStr;
 use std::alloc::{AllocError, Global};
+use std::fmt;
 use std::marker::Model;
 
 /// There was no memory.
@@ -25,6 +27,24 @@ impl Model for Text {
     ghost Value = { List ℕ };
 
     ghost view = { λ t. t.bytes.items };
+}
+
+impl fmt::Display for Text {
+    ghost use Rattle.std.specs.Prelude.{Some, encode_utf8_all};
+    ghost use Rattle.bstr.specs.Utf8.{lossy_chars};
+
+    ghost output = { λ t. Some (encode_utf8_all (lossy_chars t)) };
+
+    // Bytes that are no text are written as U+FFFD.
+    fn fmt<W: fmt::Write>(&self, f: &mut fmt::Formatter<W>) -> fmt::Result {
+        fmt::Display::fmt(&BStr::new(self.as_slice()), f)
+    }
+}
+
+impl fmt::Debug for Text {
+    fn fmt<W: fmt::Write>(&self, f: &mut fmt::Formatter<W>) -> fmt::Result {
+        fmt::Debug::fmt(&BStr::new(self.as_slice()), f)
+    }
 }
 
 impl Text {

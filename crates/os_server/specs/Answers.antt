@@ -56,7 +56,7 @@ shown_text shown.Issued = report_text (state_report status.Issued None)
 shown_text shown.Waiting = report_text (state_report status.Waiting None)
 shown_text shown.Running = report_text (state_report status.Running None)
 shown_text (shown.Finished (Some document)) = document
-shown_text (shown.Finished None) = report_text (state_report status.Finished (Some (Unsure causes.Memory)))
+shown_text (shown.Finished None) = report_text (state_report status.Finished (Some (Unsure causes.Memory None)))
 shown_text shown.Killed = report_text (state_report status.Killed None)
 
 -- how far a job has come, as a process document has it

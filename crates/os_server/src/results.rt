@@ -53,6 +53,7 @@ fn report_of(alloc: Global, shown: &Retrieved) -> Result<Text, Memory>
         Retrieved::Finished(None) => {
             let claim = Claim::Unsure {
                 cause: Cause::Memory,
+                bound: None,
             };
             state_text(alloc, JobStatus::Finished, Some(claim))
         }

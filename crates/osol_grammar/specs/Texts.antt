@@ -1,5 +1,6 @@
 -- The texts of refusals, as a reply or a message tells them.
-use Rattle.std.specs.Prelude.{◌≡◌, ℕ, List, codes}
+use Rattle.std.specs.Prelude.{◌≡◌, ℕ, List, ◌++◌, codes}
+use Rattle.doc_tree.specs.Words.{tree_words}
 use Rattle.document_tags.specs.Faults.{refusal_at, IsTreeText}
 use Rattle.osol_grammar.specs.declared.fault.Refusal.{Refusal}
 use Rattle.osol_grammar.specs.declared.fault.Refusal.TheVariants.{Root, JobTwice, BadLimit, LongJob}
@@ -11,6 +12,12 @@ refusal_name Root = codes "Root"
 refusal_name JobTwice = codes "JobTwice"
 refusal_name BadLimit = codes "BadLimit"
 refusal_name LongJob = codes "LongJob"
+
+-- what a fault displays
+abbrev pub fault_words : OsolFault → List ℕ
+fault_words (Tree f) = codes "osol " ++ tree_words f
+fault_words (Refused r n) = refusal_at (codes "osol") (refusal_name r) n
+fault_words Memory = codes "there was no memory"
 
 -- the text of a fault; want of memory has none
 abbrev pub IsFaultText : OsolFault → List ℕ → Type 0

@@ -2,9 +2,11 @@
 
 use doc_tree::TreeFault;
 use std::alloc::AllocError;
+use std::fmt;
+use thiserror::Error;
 
 /// What is wrong with an options document. At one tag the first of these is told.
-#[derive(Clone, Copy, PartialEq, Eq, Drop)]
+#[derive(Clone, Copy, PartialEq, Eq, Debug, Drop, Error)]
 pub enum Refusal {
     /// The root isn't `osol`.
     Root,
@@ -17,7 +19,7 @@ pub enum Refusal {
 }
 
 /// Why bytes say no options.
-#[derive(Clone, Copy, PartialEq, Drop)]
+#[derive(Clone, Copy, PartialEq, Debug, Drop, Error)]
 pub enum OsolFault {
     /// They are no document within the limits.
     Tree(TreeFault),
@@ -25,6 +27,37 @@ pub enum OsolFault {
     Refused { refusal: Refusal, at: u64 },
     /// There was no memory.
     Memory,
+}
+
+impl fmt::Display for Refusal {
+    ghost use Rattle.std.specs.Prelude.{Some};
+    ghost use Rattle.osol_grammar.specs.Texts.{refusal_name};
+
+    ghost output = { λ r. Some (refusal_name r) };
+
+    fn fmt<W: fmt::Write>(&self, f: &mut fmt::Formatter<W>) -> fmt::Result {
+        match self {
+            Refusal::Root => write!(f, "Root"),
+            Refusal::JobTwice => write!(f, "JobTwice"),
+            Refusal::BadLimit => write!(f, "BadLimit"),
+            Refusal::LongJob => write!(f, "LongJob"),
+        }
+    }
+}
+
+impl fmt::Display for OsolFault {
+    ghost use Rattle.std.specs.Prelude.{Some};
+    ghost use Rattle.osol_grammar.specs.Texts.{fault_words};
+
+    ghost output = { λ f. Some (fault_words f) };
+
+    fn fmt<W: fmt::Write>(&self, f: &mut fmt::Formatter<W>) -> fmt::Result {
+        match self {
+            OsolFault::Tree(fault) => write!(f, "osol {fault}"),
+            OsolFault::Refused { refusal, at } => write!(f, "osol {refusal} at {at}"),
+            OsolFault::Memory => write!(f, "there was no memory"),
+        }
+    }
 }
 
 impl From<AllocError> for OsolFault {

@@ -1,10 +1,10 @@
 //! The texts of refusals.
 
-ghost use Rattle.std.specs.Prelude.{◌≡◌, IfOk};
+ghost use Rattle.std.specs.Prelude.{IfOk};
 ghost use Rattle.ospl_grammar.specs.Texts as spoken;
 
 use crate::fault::OsplFault;
-use document_tags::{refusal_at, tree_fault_text};
+use doc_tree::TreeFault;
 use os_io::{Memory, Text};
 use std::alloc::{AllocError, Global};
 
@@ -14,9 +14,8 @@ pub fn refusal_text(alloc: Global, fault: OsplFault) -> Result<Text, Memory>
     ensures { IfOk result (spoken.IsFaultText fault) }
 {
     match fault {
-        OsplFault::Tree(fault) => tree_fault_text(alloc, b"ospl", fault),
-        OsplFault::Root => refusal_at(alloc, b"ospl", b"Root", 1),
-        OsplFault::Missing => refusal_at(alloc, b"ospl", b"Missing", 1),
         OsplFault::Memory => Err(AllocError),
+        OsplFault::Tree(TreeFault::Memory) => Err(AllocError),
+        _ => Ok(Text::from_vec(format!(in alloc; "{fault}")?.into_bytes())),
     }
 }

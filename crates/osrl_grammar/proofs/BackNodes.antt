@@ -1,5 +1,5 @@
 -- The nodes of a written solution are nodes of XML.
-use Rattle.osrl_grammar.proofs.Names.{◌≡◌, ℕ, suc, ◌+◌, ◌-◌, nat_lt, Bool, true, false, cond, List, [], ◌∷◌, ◌++◌, map, length, refl, subst, codes, decimal, lit≤, All, All-nil, All-cons, All-head, All-tail, All-append, IsXmlText, Each, Attribute, Nodes, none, element, chars, Printable, list_printable, ratio, Frac, Mult, Cert, Node, Split, Zero, Clash, Farkas, Bound, Claim, Optimal, Infeasible, Unbounded, BestSoFar, Unsure, Part, Claiming, cut_text, part_name, claiming_text, text_nodes, leaf, group, typed, indexed, variable_values, row_values, values_part, values_part_unless_none, point_values, goal_values, tree_values, dual_values, node_text, round_text, level_texts, cause_text, item_nodes, certificate_part, fraction_texts, point_parts, ray_part, rounds_part, tree_parts, trees_parts, cause_part, solution, claim_nodes, printable_text, decimal_printable, none_flat}
+use Rattle.osrl_grammar.proofs.Names.{◌≡◌, ℕ, suc, ◌+◌, ◌-◌, nat_lt, Bool, true, false, cond, List, [], ◌∷◌, ◌++◌, map, length, refl, subst, codes, decimal, lit≤, All, All-nil, All-cons, All-head, All-tail, All-append, IsXmlText, Each, Attribute, Nodes, none, element, chars, Printable, list_printable, ratio, Frac, Mult, Cert, Node, Split, Zero, Clash, Farkas, Bound, ProvedBound, Option, None, Some, Claim, Optimal, Infeasible, Unbounded, BestSoFar, Unsure, Part, Claiming, cut_text, part_name, claiming_text, text_nodes, leaf, group, typed, indexed, variable_values, row_values, values_part, values_part_unless_none, point_values, goal_values, tree_values, dual_values, node_text, round_text, level_texts, cause_text, item_nodes, certificate_part, fraction_texts, point_parts, ray_part, rounds_part, tree_parts, trees_parts, bound_parts, cause_part, solution, claim_nodes, printable_text, decimal_printable, none_flat}
 use Rattle.std.proofs.Common.{lit<}
 use Rattle.tree_grammar.specs.Characters.{local_part}
 use Rattle.certificate.specs.declared.causes.Cause.{Cause}
@@ -90,9 +90,10 @@ name_printable : (p : Part) → Each Printable (part_name p)
 name_printable parts.Point = list_printable (part_name parts.Point) refl
 name_printable parts.Value = list_printable (part_name parts.Value) refl
 name_printable parts.Ray = list_printable (part_name parts.Ray) refl
+name_printable parts.Cause = list_printable (part_name parts.Cause) refl
+name_printable parts.Bound = list_printable (part_name parts.Bound) refl
 name_printable parts.Rounds = list_printable (part_name parts.Rounds) refl
 name_printable parts.Tree = list_printable (part_name parts.Tree) refl
-name_printable parts.Cause = list_printable (part_name parts.Cause) refl
 
 part_flat : (p : Part) (texts : List (List ℕ)) (more : Nodes) → All IsXmlText texts → Flat 2 more → Flat 2 (certificate_part p texts more)
 part_flat p texts more xml rest =
@@ -117,8 +118,12 @@ trees_flat : (cs : List Cert) → Flat 2 (trees_parts cs)
 trees_flat [] = none_flat 2
 trees_flat (c ∷ cs) = tree_flat c cs
 
-cause_flat : (c : Cause) → Flat 2 (cause_part c)
-cause_flat c = part_flat parts.Cause (cause_text c ∷ []) none (All-cons IsXmlText (cause_text c) [] (printable_text (cause_text c) (cause_printable c)) (All-nil IsXmlText)) (none_flat 2)
+cause_flat : (c : Cause) (more : Nodes) → Flat 2 more → Flat 2 (cause_part c more)
+cause_flat c more rest = part_flat parts.Cause (cause_text c ∷ []) more (All-cons IsXmlText (cause_text c) [] (printable_text (cause_text c) (cause_printable c)) (All-nil IsXmlText)) rest
+
+bound_flat : (b : Option ProvedBound) → Flat 2 (bound_parts b)
+bound_flat None = none_flat 2
+bound_flat (Some b) = part_flat parts.Bound (fraction_texts (b.number ∷ [])) (tree_parts b.cert []) (fractions_xml (b.number ∷ [])) (tree_flat b.cert [])
 
 claiming_printable : (c : Claiming) → Each Printable (claiming_text c)
 claiming_printable claiming.Optimal = list_printable (claiming_text claiming.Optimal) refl
@@ -136,5 +141,7 @@ pub claim_flat : (c : Claim) → Flat 3 (claim_nodes c)
 claim_flat (Optimal x vs cs) = solution_flat claiming.Optimal (point_parts x vs (trees_parts cs)) (λ more. point_values x vs (dual_values (length x) vs cs more)) (points_flat x vs (trees_parts cs) (trees_flat cs)) (λ more rest. point_flat x vs (dual_values (length x) vs cs more) (duals_flat (length x) vs cs more rest))
 claim_flat (Infeasible c) = solution_flat claiming.Infeasible (tree_parts c []) (λ more. more) (tree_flat c []) (λ more rest. rest)
 claim_flat (Unbounded x vs cs r) = solution_flat claiming.Unbounded (point_parts x vs (ray_part r (trees_parts cs))) (point_values x vs) (points_flat x vs (ray_part r (trees_parts cs)) (ray_flat r (trees_parts cs) (trees_flat cs))) (point_flat x vs)
-claim_flat (BestSoFar x v c) = solution_flat claiming.BestSoFar (point_parts x v (cause_part c)) (point_values x v) (points_flat x v (cause_part c) (cause_flat c)) (point_flat x v)
-claim_flat (Unsure c) = solution_flat claiming.Unsure (cause_part c) (λ more. more) (cause_flat c) (λ more rest. rest)
+claim_flat (BestSoFar x v c b) =
+    let behind = cause_part c (bound_parts b) in
+    solution_flat claiming.BestSoFar (point_parts x v behind) (point_values x v) (points_flat x v behind (cause_flat c (bound_parts b) (bound_flat b))) (point_flat x v)
+claim_flat (Unsure c b) = solution_flat claiming.Unsure (cause_part c (bound_parts b)) (λ more. more) (cause_flat c (bound_parts b) (bound_flat b)) (λ more rest. rest)

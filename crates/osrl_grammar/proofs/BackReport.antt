@@ -1,5 +1,5 @@
 -- The document that a report is written as reports it.
-use Rattle.osrl_grammar.proofs.Names.{◌≡◌, ◌∙◌, ℕ, ◌+◌, Bool, true, false, ◌||◌, cond, Option, None, Some, List, [], ◌∷◌, ◌++◌, map, refl, ap, sym, subst, append-nil, append_assoc, codes, bytes_eq, is_some, length, AllZip, false≢true, Nodes, none, element, chars, Close, Start, Finish, trimmed, unless_empty, leaf, group, typed, TakesMark, Frac, Node, Mult, Cert, Claim, Optimal, Infeasible, Unbounded, BestSoFar, Unsure, JobStatus, Report, Held, To, Part, Claiming, part_name, claiming_text, status_text, IsFraction, IsRound, IsCause, IsOutOfOrder, BadItem, next_level, cert, inl, inr, ◌⊎◌, ◌≤◌, ◌<◌, ◌^◌, ap₂, arith, Ok, All, HaveColumns, MayHaveTrees, TreesComeBack, State, nothing_held, start, has, items, status_of, report_with, nonempty, report_of, MayHoldItems, with_part, AddsItem, osrl, IsReport, IsReportText, row_values, values_part_unless_none, variable_values, values_part, point_values, goal_values, tree_values, dual_values, node_text, round_text, level_texts, cause_text, item_nodes, certificate_part, fraction_texts, point_parts, ray_part, rounds_part, tree_parts, trees_parts, cause_part, solution, claim_nodes, leaf_of, optimization, general_type, general_nodes, status_nodes, report_element, report_text, IsBareOrNone, CauseComesBack, ClaimComesBack, ComesBack, keeps}
+use Rattle.osrl_grammar.proofs.Names.{◌≡◌, ◌∙◌, ℕ, ◌+◌, Bool, true, false, ◌||◌, cond, Option, None, Some, List, [], ◌∷◌, ◌++◌, map, refl, ap, sym, subst, append-nil, append_assoc, codes, bytes_eq, is_some, length, AllZip, false≢true, Nodes, none, element, chars, Close, Start, Finish, trimmed, unless_empty, leaf, group, typed, TakesMark, Frac, Node, Mult, Cert, ProvedBound, Claim, Optimal, Infeasible, Unbounded, BestSoFar, Unsure, JobStatus, Report, Held, To, Part, Claiming, part_name, claiming_text, status_text, IsFraction, IsRound, IsCause, IsOutOfOrder, BadItem, next_level, cert, inl, inr, ◌⊎◌, ◌≤◌, ◌<◌, ◌^◌, ap₂, arith, lit≤, Ok, All, HaveColumns, MayHaveTrees, TreesComeBack, State, nothing_held, start, has, items, status_of, report_with, nonempty, report_of, MayHoldItems, with_part, AddsItem, osrl, IsReport, IsReportText, row_values, values_part_unless_none, variable_values, values_part, point_values, goal_values, tree_values, dual_values, node_text, round_text, level_texts, cause_text, item_nodes, certificate_part, fraction_texts, point_parts, ray_part, rounds_part, tree_parts, trees_parts, bound_parts, cause_part, solution, claim_nodes, leaf_of, optimization, general_type, general_nodes, status_nodes, report_element, report_text, IsBareOrNone, BoundComesBack, CauseComesBack, ClaimComesBack, ComesBack, keeps}
 use Rattle.document_tags.specs.Writing.{only}
 use Rattle.certificate.specs.declared.nodes.Node.TheVariants as nodes
 use Rattle.certificate.specs.declared.causes.Cause as why
@@ -11,7 +11,7 @@ use Rattle.std.specs.Prelude.{IsSome}
 use Rattle.std.proofs.lemmas.List.{length-append}
 use Rattle.certificate.specs.Nodes.{certs_of}
 use Rattle.osrl_grammar.specs.Adding.{first_level}
-use Rattle.osrl_grammar.specs.Saying.{says_infeasible, claim_of}
+use Rattle.osrl_grammar.specs.Saying.{has_one_level, claim_of}
 use Rattle.osrl_grammar.specs.Table.{part_led}
 use Rattle.osrl_grammar.proofs.WordValues.{each_status}
 use Rattle.osrl_grammar.proofs.SoundStates.{may_have, certs_in}
@@ -51,9 +51,10 @@ part_leads : (p : Part) → part_led (part_name p) ≡ To (places.Result p)
 part_leads parts.Point = refl
 part_leads parts.Value = refl
 part_leads parts.Ray = refl
+part_leads parts.Cause = refl
+part_leads parts.Bound = refl
 part_leads parts.Rounds = refl
 part_leads parts.Tree = refl
-part_leads parts.Cause = refl
 
 part_adds : (p : Part) (texts : List (List ℕ)) (s : State) (type : Option (List ℕ)) (h k : Held) (more : Nodes) (z : State) → has h p ≡ false → Adds type p texts (with_part p h) k → Goes more (solving s places.Results type k) z → Goes (certificate_part p texts more) (solving s places.Results type h) z
 part_adds p texts s type h k more z first adds behind =
@@ -88,12 +89,19 @@ with_trees (c ∷ cs) h = with_tree c cs h
 abbrev with_ray : List Frac → Held → Held
 with_ray r h = record h { has_ray = true; ray = r }
 
+abbrev with_cause : why.Cause → Held → Held
+with_cause c h = record h { has_cause = true; causes = c ∷ [] }
+
+abbrev with_bound : Option ProvedBound → Held → Held
+with_bound None h = h
+with_bound (Some b) h = with_tree b.cert [] (record h { has_bound = true; bounds = b.number ∷ [] })
+
 abbrev held_of : Claim → Held
 held_of (Optimal x vs cs) = with_trees cs (held_point x vs)
 held_of (Infeasible c) = with_tree c [] nothing_held
 held_of (Unbounded x vs cs r) = with_trees cs (with_ray r (held_point x vs))
-held_of (BestSoFar x vs c) = record (held_point x vs) { has_cause = true; causes = c ∷ [] }
-held_of (Unsure c) = record nothing_held { has_cause = true; causes = c ∷ [] }
+held_of (BestSoFar x vs c b) = with_bound b (with_cause c (held_point x vs))
+held_of (Unsure c b) = with_bound b (with_cause c nothing_held)
 
 module _ (s : State) (type : Option (List ℕ)) where
   fractions_go : (p : Part) (put : List Frac → Held) → ((text : List ℕ) (h : Held) → IsOutOfOrder (next_level h) p text → ⊥) → ((t : Option (List ℕ)) (text : List ℕ) → IsSilent t p text) → ((before : List Frac) (text : List ℕ) (x : Frac) → IsFraction text x → AddsItem p text (put before) (put (before ++ x ∷ []))) → (xs : List Frac) (h : Held) (more : Nodes) (z : State) → has h p ≡ false → with_part p h ≡ put [] → Goes more (solving s places.Results type (put xs)) z → Goes (certificate_part p (fraction_texts xs) more) (solving s places.Results type h) z
@@ -103,18 +111,18 @@ module _ (s : State) (type : Option (List ℕ)) where
   points_go x vs more z behind =
       let points : List Frac → Held = λ l. record nothing_held { has_point = true; point = l } in
       let values : List Frac → Held = λ l. record (points x) { has_value = true; values = l } in
-      fractions_go parts.Point points (λ text h bad. bad) (λ t text. never_noted (says_infeasible true t)) (λ before t y is. (y, is, refl)) x nothing_held (certificate_part parts.Value (fraction_texts vs) more) z refl refl
-      (fractions_go parts.Value values (λ text h bad. bad) (λ t text. never_noted (says_infeasible true t)) (λ before t y is. (y, is, refl)) vs (points x) more z refl refl behind)
+      fractions_go parts.Point points (λ text h bad. bad) (λ t text. never_noted (has_one_level true true t)) (λ before t y is. (y, is, refl)) x nothing_held (certificate_part parts.Value (fraction_texts vs) more) z refl refl
+      (fractions_go parts.Value values (λ text h bad. bad) (λ t text. never_noted (has_one_level true true t)) (λ before t y is. (y, is, refl)) vs (points x) more z refl refl behind)
 
   ray_goes : (x vs r : List Frac) (more : Nodes) (z : State) → Goes more (solving s places.Results type (with_ray r (held_point x vs))) z → Goes (ray_part r more) (solving s places.Results type (held_point x vs)) z
-  ray_goes x vs r more z behind = fractions_go parts.Ray (λ l. with_ray l (held_point x vs)) (λ text h bad. bad) (λ t text. never_noted (says_infeasible true t)) (λ before t y is. (y, is, refl)) r (held_point x vs) more z refl refl behind
+  ray_goes x vs r more z behind = fractions_go parts.Ray (λ l. with_ray l (held_point x vs)) (λ text h bad. bad) (λ t text. never_noted (has_one_level true true t)) (λ before t y is. (y, is, refl)) r (held_point x vs) more z refl refl behind
 
   rounds_go : (rs : List (List Mult)) (h : Held) (more : Nodes) (z : State) → All HaveColumns rs → h.has_rounds ≡ false → h.rounds ≡ [] → Goes more (solving s places.Results type (record h { has_rounds = are_some rs; rounds = rs })) z → Goes (rounds_part rs more) (solving s places.Results type h) z
   rounds_go [] h more z back first empty behind = subst (λ (g : Held). Goes more (solving s places.Results type g) z) (ap₂ (λ (b : Bool) (rs : List (List Mult)). let g : Held = record h { has_rounds = b; rounds = rs } in g) (sym first) (sym empty)) behind
   rounds_go (r ∷ rs) h more z back first empty behind =
-      part_goes parts.Rounds (λ l. record h { has_rounds = true; rounds = l }) IsRound (λ text g bad. bad) (λ t text. never_noted (says_infeasible true t)) (λ before t y is. (y, is, refl)) (map round_text (r ∷ rs)) (r ∷ rs) (rounds_back (r ∷ rs) back) s type h more z first (ap (λ (l : List (List Mult)). let g : Held = record h { has_rounds = true; rounds = l } in g) empty) behind
+      part_goes parts.Rounds (λ l. record h { has_rounds = true; rounds = l }) IsRound (λ text g bad. bad) (λ t text. never_noted (has_one_level true true t)) (λ before t y is. (y, is, refl)) (map round_text (r ∷ rs)) (r ∷ rs) (rounds_back (r ∷ rs) back) s type h more z first (ap (λ (l : List (List Mult)). let g : Held = record h { has_rounds = true; rounds = l } in g) empty) behind
 
-  tree_goes : (h : Held) (c : Cert) (cs : List Cert) → h.has_rounds ≡ false → h.rounds ≡ [] → h.has_tree ≡ false → h.levels ≡ [] → h.tree ≡ [] → (says_infeasible true type ≡ false) ⊎ (cs ≡ []) → 2 + length cs ≤ 2 ^ 32 → TreesComeBack c cs → Goes (tree_parts c cs) (solving s places.Results type h) (solving s places.Results type (with_tree c cs h))
+  tree_goes : (h : Held) (c : Cert) (cs : List Cert) → h.has_rounds ≡ false → h.rounds ≡ [] → h.has_tree ≡ false → h.levels ≡ [] → h.tree ≡ [] → (has_one_level true true type ≡ false) ⊎ (cs ≡ []) → 2 + length cs ≤ 2 ^ 32 → TreesComeBack c cs → Goes (tree_parts c cs) (solving s places.Results type h) (solving s places.Results type (with_tree c cs h))
   tree_goes h c cs first empty begun before latest quiet few back =
       let own : Held = record h { has_rounds = are_some c.rounds; rounds = c.rounds } in
       let last : State = solving s places.Results type (with_tree c cs h) in
@@ -123,14 +131,21 @@ module _ (s : State) (type : Option (List ℕ)) where
       let as_begun = subst (λ (g : Held). Adds type parts.Tree texts g (with_tree c cs h)) (ap₂ (λ (ls : List Cert) (ns : List Node). holding own ls ns) (sym before) (sym latest)) adds in
       rounds_go c.rounds h (certificate_part parts.Tree texts none) last back.rounds first empty (part_adds parts.Tree texts s type own (with_tree c cs h) none last begun as_begun (goes_none last))
 
-  trees_go : (h : Held) (cs : List Cert) → h.has_rounds ≡ false → h.rounds ≡ [] → h.has_tree ≡ false → h.levels ≡ [] → h.tree ≡ [] → says_infeasible true type ≡ false → 2 + length cs ≤ 2 ^ 32 → MayHaveTrees cs → Goes (trees_parts cs) (solving s places.Results type h) (solving s places.Results type (with_trees cs h))
+  trees_go : (h : Held) (cs : List Cert) → h.has_rounds ≡ false → h.rounds ≡ [] → h.has_tree ≡ false → h.levels ≡ [] → h.tree ≡ [] → has_one_level true true type ≡ false → 2 + length cs ≤ 2 ^ 32 → MayHaveTrees cs → Goes (trees_parts cs) (solving s places.Results type h) (solving s places.Results type (with_trees cs h))
   trees_go h [] first empty begun before latest quiet few back = goes_none (solving s places.Results type h)
   trees_go h (c ∷ cs) first empty begun before latest quiet few back = tree_goes h c cs first empty begun before latest (inl quiet) (omega (arith, few)) back
 
-  cause_goes : (h : Held) (c : why.Cause) → CauseComesBack c → Goes (cause_part c) (solving s places.Results type (record h { has_cause = false; causes = [] })) (solving s places.Results type (record h { has_cause = true; causes = c ∷ [] }))
-  cause_goes h c back =
+  cause_goes : (h : Held) (c : why.Cause) (more : Nodes) (z : State) → h.has_cause ≡ false → h.causes ≡ [] → CauseComesBack c → Goes more (solving s places.Results type (with_cause c h)) z → Goes (cause_part c more) (solving s places.Results type h) z
+  cause_goes h c more z first empty back behind =
       let put : List why.Cause → Held = λ l. record h { has_cause = true; causes = l } in
-      part_goes parts.Cause put IsCause (λ text g bad. bad) (λ t text. never_noted (says_infeasible true t)) (λ before t y is. (y, is, refl)) (cause_text c ∷ []) (c ∷ []) (cause_back c back, tt) s type (record h { has_cause = false; causes = [] }) none (solving s places.Results type (put (c ∷ []))) refl refl (goes_none (solving s places.Results type (put (c ∷ []))))
+      part_goes parts.Cause put IsCause (λ text g bad. bad) (λ t text. never_noted (has_one_level true true t)) (λ before t y is. (y, is, refl)) (cause_text c ∷ []) (c ∷ []) (cause_back c back, tt) s type h more z first (ap put empty) behind
+
+  bound_goes : (h : Held) (b : Option ProvedBound) → h.has_bound ≡ false → h.bounds ≡ [] → h.has_rounds ≡ false → h.rounds ≡ [] → h.has_tree ≡ false → h.levels ≡ [] → h.tree ≡ [] → BoundComesBack b → Goes (bound_parts b) (solving s places.Results type h) (solving s places.Results type (with_bound b h))
+  bound_goes h None first empty unrounded no_round begun before latest back = goes_none (solving s places.Results type h)
+  bound_goes h (Some b) first empty unrounded no_round begun before latest back =
+      let put : List Frac → Held = λ l. record h { has_bound = true; bounds = l } in
+      fractions_go parts.Bound put (λ text g bad. bad) (λ t text. never_noted (has_one_level true true t)) (λ before t y is. (y, is, refl)) (b.number ∷ []) h (tree_parts b.cert []) (solving s places.Results type (with_bound (Some b) h)) first (ap put empty)
+      (tree_goes (put (b.number ∷ [])) b.cert [] unrounded no_round begun before latest (inr refl) (lit≤ tt) back)
 
   -- numbers for people are passed over
   abbrev Passes : (Nodes → Nodes) → Type 0
@@ -179,8 +194,8 @@ abbrev claimed_as : Claim → Claiming
 claimed_as (Optimal x vs cs) = claiming.Optimal
 claimed_as (Infeasible c) = claiming.Infeasible
 claimed_as (Unbounded x vs cs r) = claiming.Unbounded
-claimed_as (BestSoFar x vs c) = claiming.BestSoFar
-claimed_as (Unsure c) = claiming.Unsure
+claimed_as (BestSoFar x vs c b) = claiming.BestSoFar
+claimed_as (Unsure c b) = claiming.Unsure
 
 claim_goes : (s : State) (c : Claim) → ClaimComesBack (Some c) → 2 + length (certs_of c) ≤ 2 ^ 32 → Goes (claim_nodes c) (solving s places.Solution None nothing_held) (solving s places.Solution (Some (claiming_text (claimed_as c))) (held_of c))
 claim_goes s (Optimal x vs cs) back few =
@@ -194,11 +209,17 @@ claim_goes s (Unbounded x vs cs r) back few =
     let last : Held = held_of (Unbounded x vs cs r) in
     solution_goes s claiming.Unbounded (point_parts x vs (ray_part r (trees_parts cs))) (point_values x vs) last (point_passes s type x vs)
     (points_go s type x vs (ray_part r (trees_parts cs)) (solving s places.Results type last) (ray_goes s type x vs r (trees_parts cs) (solving s places.Results type last) (trees_go s type (with_ray r (held_point x vs)) cs refl refl refl refl refl refl few back.1)))
-claim_goes s (BestSoFar x vs c) back few =
+claim_goes s (BestSoFar x vs c b) back few =
     let type : Option (List ℕ) = Some (claiming_text claiming.BestSoFar) in
-    let last : Held = held_of (BestSoFar x vs c) in
-    solution_goes s claiming.BestSoFar (point_parts x vs (cause_part c)) (point_values x vs) last (point_passes s type x vs) (points_go s type x vs (cause_part c) (solving s places.Results type last) (cause_goes s type (held_point x vs) c back.1))
-claim_goes s (Unsure c) back few = solution_goes s claiming.Unsure (cause_part c) (λ more. more) (held_of (Unsure c)) (λ more z behind. behind) (cause_goes s (Some (claiming_text claiming.Unsure)) nothing_held c back)
+    let last : Held = held_of (BestSoFar x vs c b) in
+    let rest = cause_part c (bound_parts b) in
+    let bounds = bound_goes s type (with_cause c (held_point x vs)) b refl refl refl refl refl refl refl back.2 in
+    solution_goes s claiming.BestSoFar (point_parts x vs rest) (point_values x vs) last (point_passes s type x vs) (points_go s type x vs rest (solving s places.Results type last) (cause_goes s type (held_point x vs) c (bound_parts b) (solving s places.Results type last) refl refl back.1 bounds))
+claim_goes s (Unsure c b) back few =
+    let type : Option (List ℕ) = Some (claiming_text claiming.Unsure) in
+    let last : Held = held_of (Unsure c b) in
+    let bounds = bound_goes s type (with_cause c nothing_held) b refl refl refl refl refl refl refl back.1 in
+    solution_goes s claiming.Unsure (cause_part c (bound_parts b)) (λ more. more) last (λ more z behind. behind) (cause_goes s type nothing_held c (bound_parts b) (solving s places.Results type last) refl refl back.0 bounds)
 
 -- the claim, if there is one
 abbrev type_in : Option Claim → Option (List ℕ)
@@ -261,9 +282,11 @@ value_counted (Some (Optimal x vs [])) back m = back.1
 value_counted (Some (Optimal x vs (c ∷ cs))) back m = m.1 back.0
 value_counted (Some (Unbounded x vs [] r)) back m = m.1 back.0
 value_counted (Some (Unbounded x vs (c ∷ cs) r)) back m = m.1 back.0
-value_counted (Some (BestSoFar x vs c)) back m = m.1 back.0
+value_counted (Some (BestSoFar x vs c None)) back m = m.1 back.0
+value_counted (Some (BestSoFar x vs c (Some b))) back m = m.1 back.0
 value_counted (Some (Infeasible c)) back m = false≢true m.0
-value_counted (Some (Unsure c)) back m = false≢true m.0
+value_counted (Some (Unsure c None)) back m = false≢true m.0
+value_counted (Some (Unsure c (Some b))) back m = false≢true m.0
 value_counted None back m = false≢true m.0
 
 -- a level before the last, or a node of the last
@@ -281,19 +304,35 @@ tree_counted (Some (Optimal x vs (c ∷ cs))) back m = m.1 (tree_some c cs back.
 tree_counted (Some (Infeasible c)) back m = m.1 (tree_some c [] back)
 tree_counted (Some (Unbounded x vs [] r)) back m = false≢true m.0
 tree_counted (Some (Unbounded x vs (c ∷ cs) r)) back m = m.1 (tree_some c cs back.1)
-tree_counted (Some (BestSoFar x vs c)) back m = false≢true m.0
-tree_counted (Some (Unsure c)) back m = false≢true m.0
+tree_counted (Some (BestSoFar x vs c None)) back m = false≢true m.0
+tree_counted (Some (BestSoFar x vs c (Some b))) back m = m.1 (tree_some b.cert [] back.2)
+tree_counted (Some (Unsure c None)) back m = false≢true m.0
+tree_counted (Some (Unsure c (Some b))) back m = m.1 (tree_some b.cert [] back.1)
 tree_counted None back m = false≢true m.0
 
 cause_counted : (o : Option Claim) → Miscounted (held_in o) parts.Cause → ⊥
-cause_counted (Some (BestSoFar x vs c)) m = m.1 refl
-cause_counted (Some (Unsure c)) m = m.1 refl
+cause_counted (Some (BestSoFar x vs c None)) m = m.1 refl
+cause_counted (Some (BestSoFar x vs c (Some b))) m = m.1 refl
+cause_counted (Some (Unsure c None)) m = m.1 refl
+cause_counted (Some (Unsure c (Some b))) m = m.1 refl
 cause_counted (Some (Optimal x vs [])) m = false≢true m.0
 cause_counted (Some (Optimal x vs (c ∷ cs))) m = false≢true m.0
 cause_counted (Some (Infeasible c)) m = false≢true m.0
 cause_counted (Some (Unbounded x vs [] r)) m = false≢true m.0
 cause_counted (Some (Unbounded x vs (c ∷ cs) r)) m = false≢true m.0
 cause_counted None m = false≢true m.0
+
+bound_counted : (o : Option Claim) → Miscounted (held_in o) parts.Bound → ⊥
+bound_counted (Some (BestSoFar x vs c (Some b))) m = m.1 refl
+bound_counted (Some (Unsure c (Some b))) m = m.1 refl
+bound_counted (Some (BestSoFar x vs c None)) m = false≢true m.0
+bound_counted (Some (Unsure c None)) m = false≢true m.0
+bound_counted (Some (Optimal x vs [])) m = false≢true m.0
+bound_counted (Some (Optimal x vs (c ∷ cs))) m = false≢true m.0
+bound_counted (Some (Infeasible c)) m = false≢true m.0
+bound_counted (Some (Unbounded x vs [] r)) m = false≢true m.0
+bound_counted (Some (Unbounded x vs (c ∷ cs) r)) m = false≢true m.0
+bound_counted None m = false≢true m.0
 
 error_said : (b : Bool) → bytes_eq (general_type b) (codes "error") ≡ b
 error_said true = refl
@@ -314,8 +353,10 @@ claim_said s (Some (Optimal x vs (c ∷ cs))) back = ap (λ (l : List Cert). let
 claim_said s (Some (Infeasible c)) back = refl
 claim_said s (Some (Unbounded x vs [] r)) back = refl
 claim_said s (Some (Unbounded x vs (c ∷ cs) r)) back = ap (λ (l : List Cert). let o : Option (Option Claim) = Some (Some (Unbounded x vs l r)) in o) (trees_are c cs back.1.levels)
-claim_said s (Some (BestSoFar x vs c)) back = refl
-claim_said s (Some (Unsure c)) back = refl
+claim_said s (Some (BestSoFar x vs c None)) back = refl
+claim_said s (Some (BestSoFar x vs c (Some b))) back = refl
+claim_said s (Some (Unsure c None)) back = refl
+claim_said s (Some (Unsure c (Some b))) back = refl
 
 all_said : (type : List ℕ) (e : Bool) (j k m l : Option (List ℕ)) (t : Option JobStatus) (s : JobStatus) (c : Option (Option Claim)) (o : Option Claim) → bytes_eq type (codes "error") ≡ e → j ≡ k → m ≡ l → t ≡ Some s → c ≡ Some o → report_with (Some type) j m t c ≡ Some (record { error = e; job = k; message = l; status = s; claim = o })
 all_said type e j k m l t s c o error job message status claim = rw (status, claim, error, job, message) refl
@@ -333,7 +374,7 @@ none_bad false some = false≢true some
 root_ends : (r : Report) → ComesBack r → (n : ℕ) (t : List ℕ) → TakesMark osrl (at (reported r) n t) (Finish (codes "osrl")) (record start { report = r })
 root_ends r back n t =
     let says : report_of (at (reported r) n t) ≡ Some r = report_said r back in
-    ((none_bad (says_infeasible false (type_in r.claim)), (false≢true, (value_counted r.claim back.claim, (tree_counted r.claim back.claim, (cause_counted r.claim, ((λ none. let clash : Some r ≡ None = sym says ∙ none in absurd (cc)), tt)))))), (r, says, refl))
+    ((none_bad (has_one_level false (held_in r.claim).has_bound (type_in r.claim)), (false≢true, (value_counted r.claim back.claim, (tree_counted r.claim back.claim, (cause_counted r.claim, (bound_counted r.claim, ((λ none. let clash : Some r ≡ None = sym says ∙ none in absurd (cc)), tt))))))), (r, says, refl))
 
 root_reports : (r : Report) → ComesBack r → IsReport (root_of r) r
 root_reports r back =

@@ -1,8 +1,8 @@
 -- What the code makes of an end tag is the state that it leaves, or its refusal.
-use Rattle.osrl_grammar.proofs.Names.{◌≡◌, ◌∙◌, inl, ℕ, false, List, refl, ap, sym, subst, Option, None, Some, Result, Ok, Err, OnOk, false≢true, is_some, on_ok_weaker, trimmed, AllPass, FirstFails, OsrlFault, Report, Held, Part, Value, Misread, BadItem, IsItemRead, AfterItem, noted, with_read, State, start, bad_item, report_of, ends, around, tests, told, refusal_of, Fails, first, Ends, EndsAt, Refused}
+use Rattle.osrl_grammar.proofs.Names.{◌≡◌, ◌∙◌, inl, ℕ, Bool, false, List, refl, ap, sym, subst, Option, None, Some, Result, Ok, Err, OnOk, false≢true, is_some, on_ok_weaker, trimmed, AllPass, FirstFails, OsrlFault, Report, Held, Part, Value, Misread, BadItem, IsItemRead, AfterItem, noted, with_read, nothing_held, State, start, bad_item, report_of, ends, around, tests, told, refusal_of, Fails, first, Ends, EndsAt, Refused}
 use Rattle.osrl_grammar.specs.declared.elements.Place.{Place}
 use Rattle.osrl_grammar.specs.declared.elements.Place.TheVariants as places
-use Rattle.osrl_writing.specs.declared.parts.Part.TheVariants.{Tree, Cause}
+use Rattle.osrl_writing.specs.declared.parts.Part.TheVariants.{Tree, Cause, Bound}
 use Rattle.osrl_grammar.specs.Table.{unread, twice, miscounted}
 use Rattle.osrl_grammar.specs.Stepping.{as_held, IsCounted, AreCounted}
 use Rattle.std.specs.Prelude.{IsSome}
@@ -13,14 +13,15 @@ pub after_read : (s : State) (p : Part) (r : Result Held Misread) → s.bad ≡ 
 after_read s p r none is = subst (λ (o : Option BadItem). AfterItem o s p (with_read (noted s p) r)) (sym none) (r, is, refl)
 
 -- what the reader keeps of an item that it reads is what such an item leaves
-kept_of : {X : Type 0} (n u : State) (k : Held) (r : Result X Misread) → u ≡ record n { held = k } → with_read u (as_held u.held r) ≡ with_read n (as_held k r)
-kept_of n u k (Ok x) is = is
-kept_of n u k (Err m) is = ap (λ (v : State). with_read v (Err m)) is
+kept_of : {X : Type 0} (n u : State) (k : Held) (r : Result X Misread) → k.has_bound ≡ n.held.has_bound → u ≡ record n { held = k } → with_read u (as_held u.held r) ≡ with_read n (as_held k r)
+kept_of n u k (Ok x) bound is = is
+kept_of n u k (Err m) bound is =
+    ap (λ (v : State). with_read v (Err m)) is ∙ ap (λ (b : Bool). let h : Held = record nothing_held { has_bound = b } in let v : State = record n { bad = Some (record { misread = m; number = n.count }); held = h } in v) bound
 
-pub after_kept : {X : Type 0} (s n u z : State) (p : Part) (k : Held) (r : Result X Misread) (said : List ℕ) → s.bad ≡ None → n ≡ noted s p → u ≡ record n { held = k } → said ≡ n.text → IsItemRead p said n.held (as_held k r) → z ≡ with_read u (as_held u.held r) → AfterItem s.bad s p z
-after_kept s n u z p k r said none is held text reads kept =
+pub after_kept : {X : Type 0} (s n u z : State) (p : Part) (k : Held) (r : Result X Misread) (said : List ℕ) → s.bad ≡ None → n ≡ noted s p → u ≡ record n { held = k } → said ≡ n.text → IsItemRead p said n.held (as_held k r) → k.has_bound ≡ n.held.has_bound → z ≡ with_read u (as_held u.held r) → AfterItem s.bad s p z
+after_kept s n u z p k r said none is held text reads bound kept =
     let own = subst (λ (t : List ℕ). IsItemRead p t n.held (as_held k r)) text reads in
-    subst (AfterItem s.bad s p) (sym (kept ∙ kept_of n u k r held ∙ ap (λ (v : State). with_read v (as_held k r)) is))
+    subst (AfterItem s.bad s p) (sym (kept ∙ kept_of n u k r bound held ∙ ap (λ (v : State). with_read v (as_held k r)) is))
     (after_read s p (as_held k r) none (subst (λ (v : State). IsItemRead p v.text v.held (as_held k r)) is own))
 
 pub none_bad : (s now : State) → s ≡ now → false ≡ is_some s.bad → now.bad ≡ None
@@ -47,7 +48,7 @@ module _ (s : State) where
   unread_first b is = inl (subst IsSome (sym is) refl, ap refusal_of (sym is))
 
   root_passes : bad_item s ≡ None → (r : Report) → AreCounted s → report_of s ≡ Some r → AllPass (Fails s) (tests (ends places.Osrl))
-  root_passes read r h some = (not_unread read, (not_twice h.0, (not_miscounted Value h.1, (not_miscounted Tree h.2, (not_miscounted Cause h.3, ((λ none. let clash : Some r ≡ None = sym some ∙ none in cc), tt))))))
+  root_passes read r h some = (not_unread read, (not_twice h.0, (not_miscounted Value h.1, (not_miscounted Tree h.2, (not_miscounted Cause h.3, (not_miscounted Bound h.4, ((λ none. let clash : Some r ≡ None = sym some ∙ none in cc), tt)))))))
 
 pub root_unread : (s z : State) (b : BadItem) (f : OsrlFault) → Some b ≡ bad_item s → f ≡ refusal_of (Some b) → EndsAt {X = Unit {0}} s places.Osrl z (Err (Refused f))
 root_unread s z b f is told_so = subst (λ (g : OsrlFault). EndsAt {X = Unit {0}} s places.Osrl z (Err (Refused g))) (sym told_so) (unread_first s b (sym is))

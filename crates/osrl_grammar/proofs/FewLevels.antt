@@ -64,8 +64,10 @@ claim_long (Optimal x vs cs) =
     omega (arith, long, behind)
 claim_long (Infeasible c) = omega arith
 claim_long (Unbounded x vs cs r) = let long = trees_long cs in omega (arith, long)
-claim_long (BestSoFar x vs c) = omega arith
-claim_long (Unsure c) = omega arith
+claim_long (BestSoFar x vs c None) = omega arith
+claim_long (BestSoFar x vs c (Some b)) = omega arith
+claim_long (Unsure c None) = omega arith
+claim_long (Unsure c (Some b)) = omega arith
 
 claims_long : (o : Option Claim) → length (certs_in o) ≤ 1 + elements_in (optimization o)
 claims_long None = omega arith

@@ -6,7 +6,7 @@ use Rattle.tag_tests.proofs.Tests.{order_tested}
 use Rattle.osrl_grammar.specs.declared.elements.Place.{Place}
 use Rattle.osrl_grammar.specs.declared.elements.Place.TheVariants.{Osrl}
 use Rattle.osrl_grammar.specs.Table.{Test, twice, miscounted, incomplete}
-use Rattle.osrl_writing.specs.declared.parts.Part.TheVariants.{Tree, Cause}
+use Rattle.osrl_writing.specs.declared.parts.Part.TheVariants.{Tree, Cause, Bound}
 
 -- an item's refusal comes before those of the whole document
 item_low : (u : Misread) (n : ℕ) → number (item_refusal u n) ≤ 5
@@ -23,7 +23,7 @@ module _ (s : State) where
   at t = number (told s t)
 
   root_in_order : InOrder at (tests (ends Osrl))
-  root_in_order = let low = unread_low (bad_item s) in ((low, (low, (low, (low, (omega (arith, low), tt))))), order_tested at (twice ∷ miscounted Value ∷ miscounted Tree ∷ miscounted Cause ∷ incomplete ∷ []) refl)
+  root_in_order = let low = unread_low (bad_item s) in ((low, (low, (low, (low, (low, (omega (arith, low), tt)))))), order_tested at (twice ∷ miscounted Value ∷ miscounted Tree ∷ miscounted Cause ∷ miscounted Bound ∷ incomplete ∷ []) refl)
 
   kind_in_order : (k : Kind Place) → InOrder at (tests k)
   kind_in_order (begins OtherRoot as') = order_tested at (tests (begins OtherRoot as')) refl

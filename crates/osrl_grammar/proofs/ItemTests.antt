@@ -5,7 +5,7 @@ use Rattle.osrl_grammar.specs.declared.parts.TreeItem.TheVariants as trees
 use Rattle.certificate.specs.declared.causes.Place.{Place}
 use Rattle.certificate.specs.declared.causes.Cause as why
 use Rattle.certificate.specs.declared.causes.Cause.TheVariants as causes
-use Rattle.osrl_writing.specs.declared.parts.Part.TheVariants.{Rounds, Tree, Cause}
+use Rattle.osrl_writing.specs.declared.parts.Part.TheVariants.{Cause, Bound, Rounds, Tree}
 use Rattle.osrl_grammar.proofs.WordValues.{each_step, each_node_word, each_cause_word}
 use Rattle.osrl_grammar.specs.Stepping.{ReadsNumber, as_held, ReadsItem}
 use Rattle.osrl_grammar.proofs.Fields.{Pass, number_pass, both_pass, reads_made, still_unread}
@@ -78,6 +78,7 @@ pub added_readable : (p : Part) (said : List ℕ) (h k : Held) → AddsItem p sa
 added_readable Point said h k a = number_pass Exact said (ratio a.0) a.1
 added_readable Value said h k a = number_pass Exact said (ratio a.0) a.1
 added_readable Ray said h k a = number_pass Exact said (ratio a.0) a.1
+added_readable Bound said h k a = number_pass Exact said (ratio a.0) a.1
 added_readable Rounds said h k a = round_pass (pieces said) a.0 a.1
 added_readable Tree said h k a = begun_pass node_word all_node_words node_behind tree_head SaysTree each_node_word tree_pass (pieces said) a.0 a.1
 added_readable Cause said h k a = begun_pass cause_word all_cause_words cause_behind cause_head SaysCause each_cause_word cause_pass (pieces said) a.0 a.1
@@ -123,3 +124,6 @@ value_added r p said h new at = number_added r p Value said h.values new h (reco
 
 pub ray_added : {X E : Type 0} (r : Result (Result X Misread) E) (p : Part) (said : List ℕ) (h : Held) (new : List Frac) → p ≡ Ray → ReadsNumber said h.ray new r → ReadsItem p said h (record h { ray = new }) r
 ray_added r p said h new at = number_added r p Ray said h.ray new h (record h { ray = new }) at (λ none. none) refl (λ y n is. (y, n, ap (λ (l : List Frac). let z : Held = record h { ray = l } in z) is))
+
+pub bound_added : {X E : Type 0} (r : Result (Result X Misread) E) (p : Part) (said : List ℕ) (h : Held) (new : List Frac) → p ≡ Bound → ReadsNumber said h.bounds new r → ReadsItem p said h (record h { bounds = new }) r
+bound_added r p said h new at = number_added r p Bound said h.bounds new h (record h { bounds = new }) at (λ none. none) refl (λ y n is. (y, n, ap (λ (l : List Frac). let z : Held = record h { bounds = l } in z) is))

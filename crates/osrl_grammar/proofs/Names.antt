@@ -13,6 +13,7 @@ pub use Rattle.std.specs.Prelude.{MatchOption, flat_map, unsigned_abs}
 pub use Rattle.std.specs.Str.Parse.{AllDigits, digits_value, digits_value_after}
 pub use Rattle.certificate.specs.Nodes.{nodes_of}
 pub use Rattle.certificate.specs.declared.causes.Step.{Step}
+pub use Rattle.certificate.specs.declared.claims.ProvedBound.{ProvedBound}
 pub use Rattle.certificate.specs.declared.claims.Claim.{Claim}
 pub use Rattle.certificate.specs.declared.claims.Claim.TheVariants.{BestSoFar, Infeasible, Optimal, Unbounded, Unsure}
 pub use Rattle.certificate.specs.declared.lists.Mult.{Mult}
@@ -33,7 +34,7 @@ pub use Rattle.document_tags.specs.Writing.{group, leaf, text_nodes, typed}
 pub use Rattle.tree_grammar.proofs.XmlTexts.{Printable, list_printable}
 pub use Rattle.fraction.specs.Frac.{ratio}
 pub use Rattle.fraction.specs.declared.frac.Frac.{Frac}
-pub use Rattle.osrl_grammar.specs.Back.{CauseComesBack, ClaimComesBack, ComesBack, HasTrees, HaveColumns, IsBareOrNone, LevelComesBack, MayHaveTrees, NodeComesBack, TreesComeBack}
+pub use Rattle.osrl_grammar.specs.Back.{BoundComesBack, CauseComesBack, ClaimComesBack, ComesBack, HasTrees, HaveColumns, IsBareOrNone, LevelComesBack, MayHaveTrees, NodeComesBack, TreesComeBack}
 pub use Rattle.osrl_writing.specs.Cuts.{cut_size, cut_text, decimals, has_sign, without_zeros}
 pub use Rattle.osrl_grammar.specs.Failing.{Fails, MayHoldItems}
 pub use Rattle.osrl_grammar.specs.Grounds.{TextsAreOfCharacters}
@@ -47,13 +48,13 @@ pub use Rattle.osrl_grammar.specs.Order.{number}
 pub use Rattle.osrl_grammar.specs.Pieces.{Pair, more, parted, pieces}
 pub use Rattle.osrl_grammar.specs.Reading.{DecodeFails, IsReportText}
 pub use Rattle.osrl_grammar.specs.Saying.{bad_item, cert, certs, claim_as, has, items, next_level, nonempty, report_of, report_with, status_of}
-pub use Rattle.osrl_grammar.specs.Standing.{State, nothing_held, start}
+pub use Rattle.osrl_grammar.specs.Standing.{State, emptied, nothing_held, start}
 pub use Rattle.osrl_grammar.specs.Stepping.{EndsAt}
 pub use Rattle.osrl_grammar.specs.Table.{around, item_refusal, kind, leads, refusal_of, tests, told}
 pub use Rattle.osrl_grammar.specs.Values.{BeginsWithWord, IsCause, IsFraction, IsMult, IsMultOf, IsOne, IsOutOfOrder, IsPlace, IsRound, IsRoundOf, IsTreeItem, SaysCause, SaysNode, SaysTree, cause_head, node_head, tree_head}
 pub use Rattle.osrl_grammar.specs.Words.{worded}
 pub use Rattle.osrl_writing.specs.Words.{claiming_text, part_name, status_text}
-pub use Rattle.osrl_writing.specs.Writing.{cause_part, cause_text, certificate_part, claim_nodes, dual_values, fraction_texts, general_nodes, general_type, indexed, item_nodes, leaf_of, mult_text, node_text, optimization, point_parts, point_values, goal_values, level_text, level_texts, ray_part, report_element, report_text, round_text, rounds_part, row_values, solution, status_nodes, tree_parts, tree_values, trees_parts, values_part, values_part_unless_none, variable_values}
+pub use Rattle.osrl_writing.specs.Writing.{bound_parts, cause_part, cause_text, certificate_part, claim_nodes, dual_values, fraction_texts, general_nodes, general_type, indexed, item_nodes, leaf_of, mult_text, node_text, optimization, point_parts, point_values, goal_values, level_text, level_texts, ray_part, report_element, report_text, round_text, rounds_part, row_values, solution, status_nodes, tree_parts, tree_values, trees_parts, values_part, values_part_unless_none, variable_values}
 pub use Rattle.tag_tests.specs.declared.places.Led.{Led}
 pub use Rattle.tag_tests.specs.declared.places.Led.TheVariants.{OtherRoot, Over, To}
 pub use Rattle.osrl_grammar.specs.declared.fault.OsrlFault.{OsrlFault}

@@ -19,6 +19,7 @@ added_once : (p : Part) (said : List ℕ) (h a b : Held) → AddsItem p said h a
 added_once parts.Point said h a b k l = k.2 ∙ ap (λ (x : Frac). let g : Held = record h { point = h.point ++ x ∷ [] } in g) (fraction_once said k.0 l.0 k.1 l.1) ∙ sym l.2
 added_once parts.Value said h a b k l = k.2 ∙ ap (λ (x : Frac). let g : Held = record h { values = h.values ++ x ∷ [] } in g) (fraction_once said k.0 l.0 k.1 l.1) ∙ sym l.2
 added_once parts.Ray said h a b k l = k.2 ∙ ap (λ (x : Frac). let g : Held = record h { ray = h.ray ++ x ∷ [] } in g) (fraction_once said k.0 l.0 k.1 l.1) ∙ sym l.2
+added_once parts.Bound said h a b k l = k.2 ∙ ap (λ (x : Frac). let g : Held = record h { bounds = h.bounds ++ x ∷ [] } in g) (fraction_once said k.0 l.0 k.1 l.1) ∙ sym l.2
 added_once parts.Rounds said h a b k l = k.2 ∙ ap (λ (x : List Mult). let g : Held = record h { rounds = h.rounds ++ x ∷ [] } in g) (round_said_once said k.0 l.0 k.1 l.1) ∙ sym l.2
 added_once parts.Tree said h a b k l = k.2 ∙ ap (λ (x : TreeItem). with_tree_item x h) (tree_said_once said k.0 l.0 k.1 l.1) ∙ sym l.2
 added_once parts.Cause said h a b k l = k.2 ∙ ap (λ (x : why.Cause). let g : Held = record h { causes = h.causes ++ x ∷ [] } in g) (cause_said_once said k.0 l.0 k.1 l.1) ∙ sym l.2

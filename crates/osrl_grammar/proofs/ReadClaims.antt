@@ -1,5 +1,5 @@
 -- The claim of a report that was read has fewer nodes than its document has bytes, each certificate fewer rounds, and each split is at a number that a fraction has.
-use Rattle.osrl_grammar.proofs.Names.{◌≡◌, ℕ, zero, suc, ◌<◌, ◌≤◌, ℤ, pos, negsuc, Some, List, [], length, subst, arith, neg_ℤ, unsigned_abs, All, All-nil, All-append, All-head, All-tail, flat_map, ◌∷◌, most, elements_in, nodes_of, Cert, Node, Split, Zero, Clash, Farkas, Bound, Claim, Optimal, Infeasible, Unbounded, BestSoFar, Unsure, Report, TextsAreOfCharacters, IsReportText, NodeComesBack, LevelComesBack, MayHaveTrees, ClaimComesBack}
+use Rattle.osrl_grammar.proofs.Names.{◌≡◌, ℕ, zero, suc, ◌<◌, ◌≤◌, ℤ, pos, negsuc, None, Some, List, [], length, subst, arith, neg_ℤ, unsigned_abs, All, All-nil, All-append, All-head, All-tail, flat_map, ◌∷◌, most, elements_in, nodes_of, Cert, Node, Split, Zero, Clash, Farkas, Bound, Claim, Optimal, Infeasible, Unbounded, BestSoFar, Unsure, Report, TextsAreOfCharacters, IsReportText, NodeComesBack, LevelComesBack, MayHaveTrees, ClaimComesBack}
 use Rattle.std.specs.Prelude.{◌≤ℤ◌}
 use Rattle.std.proofs.lemmas.Int.{ints}
 use Rattle.std.proofs.lemmas.List.Elements.{All-weaker}
@@ -36,8 +36,10 @@ claim_range : (c : Claim) → ClaimComesBack (Some c) → All IsInRange (nodes_o
 claim_range (Optimal x vs cs) back = trees_range cs (may_have cs back.1)
 claim_range (Infeasible c) back = trees_range (c ∷ []) back
 claim_range (Unbounded x vs cs r) back = trees_range cs back.1
-claim_range (BestSoFar x v c) back = All-nil IsInRange
-claim_range (Unsure c) back = All-nil IsInRange
+claim_range (BestSoFar x v c None) back = All-nil IsInRange
+claim_range (BestSoFar x v c (Some b)) back = trees_range (b.cert ∷ []) back.2
+claim_range (Unsure c None) back = All-nil IsInRange
+claim_range (Unsure c (Some b)) back = trees_range (b.cert ∷ []) back.1
 
 module _ (ground : TextsAreOfCharacters) where
   pub text_fits : (bytes : List ℕ) (r : Report) (text : IsReportText bytes r) → ReportFits (elements_in text.root.children) r

@@ -1,11 +1,11 @@
 -- What the marks of a document leave comes back from what is written of it: its texts are of characters of XML, its nodes and causes hold numbers of their types, and there are at most as many nodes as elements.
-use Rattle.osrl_grammar.proofs.Names.{◌≡◌, ◌∙◌, ℕ, zero, suc, ◌+◌, ◌-◌, ◌^◌, ◌<◌, ◌≤◌, inl, inr, Bool, true, false, cond, Option, None, Some, List, [], ◌∷◌, ◌++◌, map, length, refl, ap, sym, subst, arith, option_map, flat_map, append-nil, false≢true, true≢false, ◌&&◌, worded, claiming_text, Result, Ok, Err, Misread, NoShape, Field, bytes_eq, codes, All, AllZip, All-nil, All-cons, All-head, All-tail, All-append, IsXmlText, Attribute, Event, Close, Element, Nodes, none, element, chars, nodes_events, Char, spread, elements_in, trimmed, AllPass, AreTaken, Frac, nodes_of, Mult, Cert, Node, Split, Zero, Clash, Farkas, Bound, Claim, Infeasible, Unsure, JobStatus, Report, Held, Led, Part, Claiming, pieces, Pair, parted, node_word, cause_word, IsMultOf, IsMult, IsOne, SaysNode, TreeItem, tree_head, SaysTree, cause_head, SaysCause, BeginsWithWord, IsTreeItem, IsRoundOf, IsRound, IsCause, item_fields, ReadsTexts, IsItemRead, AfterItem, BadItem, noted, with_read, with_tree_item, bad_item, cert, certs, State, start, nothing_held, claim_as, report_with, report_of, nonempty, status_of, begins, ends, around, tests, leads, Fails, with_part, begun, first, AddsItem, Ends, Leaves, osrl, IsReport, TextsAreOfCharacters, HaveColumns, NodeComesBack, CauseComesBack, LevelComesBack, HasTrees, MayHaveTrees, ClaimComesBack, IsBareOrNone, end_kind, led_from, keeps}
+use Rattle.osrl_grammar.proofs.Names.{◌≡◌, ◌∙◌, ℕ, zero, suc, ◌+◌, ◌-◌, ◌^◌, ◌<◌, ◌≤◌, inl, inr, Bool, true, false, cond, Option, None, Some, List, [], ◌∷◌, ◌++◌, map, length, refl, ap, sym, subst, arith, option_map, flat_map, append-nil, false≢true, true≢false, ◌&&◌, worded, claiming_text, Result, Ok, Err, Misread, NoShape, Field, bytes_eq, codes, All, AllZip, All-nil, All-cons, All-head, All-tail, All-append, IsXmlText, Attribute, Event, Close, Element, Nodes, none, element, chars, nodes_events, Char, spread, elements_in, trimmed, AllPass, AreTaken, Frac, nodes_of, Mult, Cert, Node, Split, Zero, Clash, Farkas, Bound, ProvedBound, Claim, Infeasible, JobStatus, Report, Held, Led, Part, Claiming, pieces, Pair, parted, node_word, cause_word, IsMultOf, IsMult, IsOne, SaysNode, TreeItem, tree_head, SaysTree, cause_head, SaysCause, BeginsWithWord, IsTreeItem, IsRoundOf, IsRound, IsCause, item_fields, ReadsTexts, IsItemRead, AfterItem, BadItem, noted, with_read, with_tree_item, bad_item, cert, certs, State, start, emptied, nothing_held, claim_as, report_with, report_of, nonempty, status_of, begins, ends, around, tests, leads, Fails, with_part, begun, first, AddsItem, Ends, Leaves, osrl, IsReport, TextsAreOfCharacters, HaveColumns, NodeComesBack, CauseComesBack, LevelComesBack, HasTrees, MayHaveTrees, TreesComeBack, BoundComesBack, ClaimComesBack, IsBareOrNone, end_kind, led_from, keeps}
 use Rattle.std.specs.Prelude.{option_and_then, IsSome}
 use Rattle.std.proofs.lemmas.List.{length-append}
 use Rattle.std.proofs.lemmas.List.Elements.{All-weaker}
 use Rattle.std.proofs.lemmas.Grind.{flat_map-append}
 use Rattle.std.proofs.lemmas.Slice.Eq.{bytes_eq-Decides}
-use Rattle.certificate.specs.Nodes.{certs_of}
+use Rattle.certificate.specs.Nodes.{cert_of, certs_of}
 use Rattle.tree_grammar.proofs.XmlTexts.{text_append}
 use Rattle.doc_tree.proofs.Utf8.{no_text}
 use Rattle.document_tags.specs.Characters.{NodesOfCharacters, IsOfCharacters}
@@ -19,7 +19,7 @@ use Rattle.osrl_writing.specs.declared.parts.Claiming.TheVariants as claiming
 use Rattle.osrl_grammar.specs.declared.parts.TreeItem.TheVariants as trees
 use Rattle.osrl_grammar.specs.Items.{begins_level, is_level}
 use Rattle.osrl_grammar.specs.Adding.{first_level}
-use Rattle.osrl_grammar.specs.Saying.{when, only, with_rounds, optimal, unbounded, best_so_far, says_infeasible, level_or, type_of, claiming_of}
+use Rattle.osrl_grammar.specs.Saying.{when, only, with_rounds, optimal, unbounded, bounded, bound_of, best_so_far, unsure, is_of_one_level, has_one_level, level_or, type_of, claiming_of}
 use Rattle.osrl_grammar.specs.Words.{all_claimings}
 use Rattle.osrl_grammar.proofs.WordValues.{worded_is}
 use Rattle.osrl_grammar.proofs.BareTexts.{bare_of}
@@ -136,6 +136,7 @@ added_fits parts.Cause said n h k a f =
 added_fits parts.Point said n h k a f = subst (HeldFits (suc n)) (sym a.2) (same_fits n h _ refl refl refl refl f)
 added_fits parts.Value said n h k a f = subst (HeldFits (suc n)) (sym a.2) (same_fits n h _ refl refl refl refl f)
 added_fits parts.Ray said n h k a f = subst (HeldFits (suc n)) (sym a.2) (same_fits n h _ refl refl refl refl f)
+added_fits parts.Bound said n h k a f = subst (HeldFits (suc n)) (sym a.2) (same_fits n h _ refl refl refl refl f)
 
 part_fits : (p : Part) (n : ℕ) (h : Held) → HeldFits n h → HeldFits n (with_part p h)
 part_fits parts.Point n h f = record { few = f.few; rounds = f.rounds; levels = f.levels; tree = f.tree; columns = f.columns; causes = f.causes }
@@ -156,6 +157,11 @@ HasFew n c = length c.rounds ≤ n
 
 abbrev pub ClaimFits : ℕ → Option Claim → Type 0
 ClaimFits n o = (length (nodes_in o) ≤ n) × All (HasFew n) (certs_in o) × ClaimComesBack o
+
+-- and so has that of a bound
+abbrev BoundFits : ℕ → Option (Option ProvedBound) → Type 0
+BoundFits n None = Unit {0}
+BoundFits n (Some b) = (length (level_nodes (cert_of b)) ≤ n) × All (HasFew n) (cert_of b) × BoundComesBack b
 
 none_fits : (n : ℕ) → ClaimFits n None
 none_fits n = (omega arith, All-nil (HasFew n), tt)
@@ -214,36 +220,47 @@ module _ (n : ℕ) (h : Held) (f : HeldFits n h) (some : h.has_tree ≡ true →
   optimal_fits (Some x) false b value is = none_fits n
   optimal_fits None a b value is = none_fits n
 
-  infeasible_fits : (b : Bool) → h.has_tree ≡ b → h.levels ≡ [] → ClaimFits n (option_map Infeasible (when b (cert h.rounds h.tree)))
-  infeasible_fits true is flat =
+  -- the only tree, where there is one level
+  one_fits : h.has_tree ≡ true → h.levels ≡ [] → (length (h.tree ++ []) ≤ n) × All (HasFew n) (cert h.rounds h.tree ∷ []) × TreesComeBack (cert h.rounds h.tree) []
+  one_fits is flat =
       let few = f.few in let up = some is in let here = ap length flat in let own = ap length (append-nil h.tree) in
       (omega (arith, few, own), All-cons (HasFew n) (cert h.rounds h.tree) [] f.rounds (All-nil (HasFew n)), record { some = omega (arith, up, here); rounds = f.columns; first = f.tree; levels = All-nil LevelComesBack })
+
+  infeasible_fits : (b : Bool) → h.has_tree ≡ b → h.levels ≡ [] → ClaimFits n (option_map Infeasible (when b (cert h.rounds h.tree)))
+  infeasible_fits true is flat = one_fits is flat
   infeasible_fits false is flat = none_fits n
+
+  bound_fits : (a b : Bool) (v : Option Frac) → h.has_tree ≡ b → (a ≡ true → h.levels ≡ []) → BoundFits n (cond a (bounded v (when b (cert h.rounds h.tree))) (Some None))
+  bound_fits true true (Some v) is flat = one_fits is (flat refl)
+  bound_fits true true None is flat = tt
+  bound_fits true false (Some v) is flat = tt
+  bound_fits true false None is flat = tt
+  bound_fits false b v is flat = (omega arith, All-nil (HasFew n), tt)
 
   unbounded_fits : (x : Option (List Frac)) (a b : Bool) (r : Option (List Frac)) → h.has_value ≡ a → h.has_tree ≡ b → ClaimFits n (unbounded x (when a h.values) (cond b (all_of h) []) r)
   unbounded_fits (Some x) true true (Some r) value is = (all_few, all_rounds, (values value, may_have (all_of h) (all_back is)))
   unbounded_fits (Some x) true false (Some r) value is = (omega arith, All-nil (HasFew n), (values value, tt))
   unbounded_fits x a b r value is = none_fits n
 
-  best_fits : (x : Option (List Frac)) (a : Bool) (c : Option why.Cause) → h.has_value ≡ a → only h.causes ≡ c → ClaimFits n (best_so_far x (when a h.values) c)
-  best_fits (Some x) true (Some c) value is = (omega arith, All-nil (HasFew n), (values value, only_back h.causes c is f.causes))
-  best_fits x a c value is = none_fits n
+  best_fits : (x : Option (List Frac)) (a : Bool) (c : Option why.Cause) (b : Option (Option ProvedBound)) → h.has_value ≡ a → only h.causes ≡ c → BoundFits n b → ClaimFits n (best_so_far x (when a h.values) c b)
+  best_fits (Some x) true (Some c) (Some b) value is fits = (fits.0, fits.1, (values value, only_back h.causes c is f.causes, fits.2))
+  best_fits x a c b value is fits = none_fits n
 
-  unsure_fits : (c : Option why.Cause) → only h.causes ≡ c → ClaimFits n (option_map Unsure c)
-  unsure_fits (Some c) is = (omega arith, All-nil (HasFew n), only_back h.causes c is f.causes)
-  unsure_fits None is = none_fits n
+  unsure_fits : (c : Option why.Cause) (b : Option (Option ProvedBound)) → only h.causes ≡ c → BoundFits n b → ClaimFits n (unsure c b)
+  unsure_fits (Some c) (Some b) is fits = (fits.0, fits.1, (only_back h.causes c is f.causes, fits.2))
+  unsure_fits c b is fits = none_fits n
 
-  -- where a claim that no point is feasible has one level
-  claim_fits : (k : Claiming) → (k ≡ claiming.Infeasible → h.levels ≡ []) → ClaimFits n (claim_as h k)
+  -- where a claim that speaks of one level has one
+  claim_fits : (k : Claiming) → (is_of_one_level h.has_bound (Some k) ≡ true → h.levels ≡ []) → ClaimFits n (claim_as h k)
   claim_fits claiming.Optimal flat = optimal_fits (when h.has_point h.point) h.has_value h.has_tree refl refl
   claim_fits claiming.Infeasible flat = infeasible_fits h.has_tree refl (flat refl)
   claim_fits claiming.Unbounded flat = unbounded_fits (when h.has_point h.point) h.has_value h.has_tree (when h.has_ray h.ray) refl refl
-  claim_fits claiming.BestSoFar flat = best_fits (when h.has_point h.point) h.has_value (only h.causes) refl refl
-  claim_fits claiming.Unsure flat = unsure_fits (only h.causes) refl
+  claim_fits claiming.BestSoFar flat = best_fits (when h.has_point h.point) h.has_value (only h.causes) (bound_of h) refl refl (bound_fits h.has_bound h.has_tree (only h.bounds) refl flat)
+  claim_fits claiming.Unsure flat = unsure_fits (only h.causes) (bound_of h) refl (bound_fits h.has_bound h.has_tree (only h.bounds) refl flat)
 
-  claimed_fits : (k : Option Claiming) → (k ≡ Some claiming.Infeasible → h.levels ≡ []) → ClaimFits n (option_and_then (claim_as h) k)
+  claimed_fits : (k : Option Claiming) → (is_of_one_level h.has_bound k ≡ true → h.levels ≡ []) → ClaimFits n (option_and_then (claim_as h) k)
   claimed_fits None flat = none_fits n
-  claimed_fits (Some k) flat = claim_fits k (λ is. flat (ap (λ (c : Claiming). let o : Option Claiming = Some c in o) is))
+  claimed_fits (Some k) flat = claim_fits k flat
 
 -- THE REPORT, and all that the marks leave
 pub record ReportFits (n : ℕ) (r : Report) : Type 0 where
@@ -251,9 +268,9 @@ pub record ReportFits (n : ℕ) (r : Report) : Type 0 where
   pub message : IsBareOrNone r.message
   pub claim : ClaimFits n r.claim
 
--- where the solution may claim that no point is feasible, and no item begins with the word of a level, there is one level
+-- where the solution may speak of one level, and no item begins with the word of a level, there is one
 abbrev pub IsNoted : State → Type 0
-IsNoted s = says_infeasible true s.claiming ≡ true → s.level ≡ None → s.held.levels ≡ []
+IsNoted s = has_one_level true true s.claiming ≡ true → s.level ≡ None → s.held.levels ≡ []
 
 abbrev pub Sound : ℕ → State → Type 0
 Sound n s = IsXmlText s.text × IsBareOrNone (nonempty s.job) × IsBareOrNone (nonempty s.message) × HeldFits n s.held × ReportFits n s.report × IsNoted s
@@ -272,10 +289,15 @@ reported_fits n (Some type) job message (Some status) None r is bare plain fits 
 reported_fits n (Some type) job message None claim r is bare plain fits = absurd (cc)
 reported_fits n None job message status claim r is bare plain fits = absurd (cc)
 
--- where all items are read, a claim that no point is feasible has one level
-said_infeasible : (unknown : Bool) (type : Option (List ℕ)) → option_and_then (worded claiming_text all_claimings) type ≡ Some claiming.Infeasible → says_infeasible unknown type ≡ true
-said_infeasible unknown None is = absurd (cc)
-said_infeasible unknown (Some type) is = (bytes_eq-Decides type (claiming_text claiming.Infeasible)).1 (worded_is claiming_text all_claimings type claiming.Infeasible is)
+-- where all items are read, a claim that speaks of one level has one
+said_one : (unknown b : Bool) (type : Option (List ℕ)) → is_of_one_level b (option_and_then (worded claiming_text all_claimings) type) ≡ true → has_one_level unknown b type ≡ true
+said_one unknown b None is = absurd (false≢true is)
+said_one unknown b (Some type) is = is
+
+may_be_one : (b : Bool) (k : Option Claiming) → is_of_one_level b k ≡ true → is_of_one_level true k ≡ true
+may_be_one b (Some claiming.BestSoFar) is = refl
+may_be_one b (Some claiming.Unsure) is = refl
+may_be_one b k is = is
 
 none_noted : (b : Bool) (level : Option ℕ) (bad : Option BadItem) → (IsSome (cond b (level_or level bad) bad) → ⊥) → b ≡ true → level ≡ None
 none_noted b None bad read is = refl
@@ -284,19 +306,21 @@ none_noted false (Some n) bad read is = absurd (false≢true is)
 
 report_fits : (n : ℕ) (s : State) (r : Report) → Sound n s → (IsSome (bad_item s) → ⊥) → (s.held.has_tree ≡ true → 0 < length s.held.levels + length s.held.tree) → (s.held.has_value ≡ true → 0 < length s.held.values) → report_of s ≡ Some r → ReportFits n r
 report_fits n s r f read some values is =
-    let flat = λ (c : claiming_of s ≡ Some claiming.Infeasible). f.5 (said_infeasible true s.claiming c) (none_noted (says_infeasible false s.claiming) s.level s.bad read (said_infeasible false s.claiming c)) in
+    let b = s.held.has_bound in
+    let flat = λ (one : is_of_one_level b (claiming_of s) ≡ true). f.5 (said_one true true s.claiming (may_be_one b (claiming_of s) one)) (none_noted (has_one_level false b s.claiming) s.level s.bad read (said_one false b s.claiming one)) in
     reported_fits n s.general (nonempty s.job) (nonempty s.message) (status_of s) _ r is f.1 f.2 (λ o. said_claim n s.has_solution (option_and_then (claim_as s.held) (claiming_of s)) o (claimed_fits n s.held f.3 some values (claiming_of s) flat))
 
 report_more : (n m : ℕ) (r : Report) → n ≤ m → ReportFits n r → ReportFits m r
 report_more n m r less f = let few = f.claim.0 in record { job = f.job; message = f.message; claim = (omega (arith, few, less), All-weaker (HasFew n) (HasFew m) (λ (c : Cert) short. omega (arith, short, less)) (certs_in r.claim) f.claim.1, f.claim.2) }
 
-none_held : (n : ℕ) → HeldFits n nothing_held
-none_held n = record { few = omega arith; rounds = omega arith; levels = All-nil LevelComesBack; tree = All-nil NodeComesBack; columns = All-nil HaveColumns; causes = All-nil CauseComesBack }
+-- where no item is held
+none_held : (n : ℕ) (h : Held) → HeldFits n (emptied h)
+none_held n h = record { few = omega arith; rounds = omega arith; levels = All-nil LevelComesBack; tree = All-nil NodeComesBack; columns = All-nil HaveColumns; causes = All-nil CauseComesBack }
 
 pub start_sound : Sound 0 start
-start_sound = (no_text, tt, tt, none_held 0, record { job = tt; message = tt; claim = none_fits 0 }, (λ may none. refl))
+start_sound = (no_text, tt, tt, none_held 0 nothing_held, record { job = tt; message = tt; claim = none_fits 0 }, (λ may none. refl))
 
-may_before : (old : Option (List ℕ)) (type : List ℕ) → says_infeasible true (first old type) ≡ true → says_infeasible true old ≡ true
+may_before : (old : Option (List ℕ)) (type : List ℕ) → has_one_level true true (first old type) ≡ true → has_one_level true true old ≡ true
 may_before None type may = refl
 may_before (Some t) type may = may
 
@@ -346,6 +370,7 @@ added_noted parts.Tree text may level n h k (trees.Node m, is, e) before so empt
 added_noted parts.Point text may level n h k a before so empty = ap (λ (g : Held). g.levels) a.2 ∙ before so (first_none (may && false) level n empty).1
 added_noted parts.Value text may level n h k a before so empty = ap (λ (g : Held). g.levels) a.2 ∙ before so (first_none (may && false) level n empty).1
 added_noted parts.Ray text may level n h k a before so empty = ap (λ (g : Held). g.levels) a.2 ∙ before so (first_none (may && false) level n empty).1
+added_noted parts.Bound text may level n h k a before so empty = ap (λ (g : Held). g.levels) a.2 ∙ before so (first_none (may && false) level n empty).1
 added_noted parts.Rounds text may level n h k a before so empty = ap (λ (g : Held). g.levels) a.2 ∙ before so (first_none (may && false) level n empty).1
 added_noted parts.Cause text may level n h k a before so empty = ap (λ (g : Held). g.levels) a.2 ∙ before so (first_none (may && false) level n empty).1
 
@@ -372,17 +397,17 @@ module _ (ground : TextsAreOfCharacters) where
   item_sound n s z p None h f = subst (Ended n) (sym h.2) (added_sound h.0 h.1)
     where
       added_sound : (r : Result Held Misread) → IsItemRead p s.text s.held r → Ended n (with_read (noted s p) r)
-      added_sound (Err u) is = ((f.0, f.1, f.2, none_held (suc n), report_more n (suc n) s.report (omega arith) f.4, (λ may none. refl)), f.4)
+      added_sound (Err u) is = ((f.0, f.1, f.2, none_held (suc n) s.held, report_more n (suc n) s.report (omega arith) f.4, (λ may none. refl)), f.4)
       added_sound (Ok k) (inl early) = absurd (let e : Ok k ≡ Err NoShape = early.1 in cc)
       added_sound (Ok k) (inr reads) =
           let adds = reads_adds (item_fields p s.text) k (λ (g : Held). AddsItem p s.text s.held g) reads.1 in
-          ((f.0, f.1, f.2, added_fits p s.text n s.held k adds f.3, report_more n (suc n) s.report (omega arith) f.4, added_noted p s.text (says_infeasible true s.claiming) s.level s.count s.held k adds f.5), f.4)
+          ((f.0, f.1, f.2, added_fits p s.text n s.held k adds f.3, report_more n (suc n) s.report (omega arith) f.4, added_noted p s.text (has_one_level true true s.claiming) s.level s.count s.held k adds f.5), f.4)
 
   end_sound : (n : ℕ) (s z : State) (p : Place) → AllPass (Fails s) (tests (ends p)) → Ends s p z → Sound n s → Ended n z
   end_sound n s z (places.Item p) pass h f = item_sound n (record s { place = around (places.Item p) }) z p s.bad h f
   end_sound n s z places.Osrl pass h f =
       let r = report_fits n s h.0 f pass.0 (λ is. some_of (length s.held.levels + length s.held.tree) (λ none. pass.1.1.1.0 (is, none))) (λ is. some_of (length s.held.values) (λ none. pass.1.1.0 (is, none))) h.1 in
-      subst (Ended n) (sym h.2) ((no_text, tt, tt, none_held (suc n), report_more n (suc n) h.0 (omega arith) r, (λ may none. refl)), r)
+      subst (Ended n) (sym h.2) ((no_text, tt, tt, none_held (suc n) nothing_held, report_more n (suc n) h.0 (omega arith) r, (λ may none. refl)), r)
   end_sound n s z places.JobId pass h f = on n (record s { place = around places.JobId; job = first s.job (trimmed s.text) }) z (f.0, kept_bare s.job s.text f.1 f.0, f.2, f.3, f.4, f.5) h
   end_sound n s z places.Message pass h f = on n (record s { place = around places.Message; message = first s.message (trimmed s.text) }) z (f.0, f.1, kept_bare s.message s.text f.2 f.0, f.3, f.4, f.5) h
   end_sound n s z places.JobStatus pass h f = on n (record s { place = around places.JobStatus; status = first s.status s.text }) z f h

@@ -7,7 +7,7 @@ use Rattle.osrl_writing.specs.declared.parts.Part.TheVariants as parts
 use Rattle.osrl_grammar.specs.declared.parts.TreeItem.TheVariants as trees
 use Rattle.osrl_grammar.specs.Values.{IsLevelBut}
 use Rattle.osrl_grammar.specs.Items.{begins_level, is_level}
-use Rattle.osrl_grammar.specs.Saying.{says_infeasible, with_rounds}
+use Rattle.osrl_grammar.specs.Saying.{has_one_level, with_rounds}
 use Rattle.osrl_grammar.proofs.ItemTests.{added_readable, added_read}
 use Rattle.osrl_grammar.proofs.PieceTexts.{pieces_free}
 use Rattle.osrl_grammar.proofs.BackNumbers.{index_back, decimal_spaceless}
@@ -19,7 +19,7 @@ item_added p text h k order adds = inr (order, added_read (item_fields p text) k
 
 -- of an item with such a status: nothing is kept in mind
 abbrev pub IsSilent : Option (List ℕ) → Part → List ℕ → Type 0
-IsSilent type p text = says_infeasible true type && is_level p text ≡ false
+IsSilent type p text = has_one_level true true type && is_level p text ≡ false
 
 pub never_noted : (b : Bool) → b && false ≡ false
 never_noted true = refl
@@ -57,7 +57,7 @@ nodes_add type h ls [] before back = ap (holding h ls) (append-nil before)
 nodes_add type h ls (n ∷ ns) before back =
     let is = node_back n (All-head NodeComesBack n ns back) in
     let apart = node_apart (length ls + 2) (pieces (node_text n)) n is in
-    let silent = ap (λ (b : Bool). says_infeasible true type && b) apart.0 ∙ never_noted (says_infeasible true type) in
+    let silent = ap (λ (b : Bool). has_one_level true true type && b) apart.0 ∙ never_noted (has_one_level true true type) in
     let rest = nodes_add type h ls ns (before ++ n ∷ []) (All-tail NodeComesBack n ns back) in (
       holding h ls (before ++ n ∷ []),
       item_added parts.Tree (node_text n) (holding h ls before) (holding h ls (before ++ n ∷ [])) apart.1 (trees.Node n, is, refl),
@@ -81,7 +81,7 @@ abbrev pub last_nodes : List Node → List Cert → List Node
 last_nodes ns [] = ns
 last_nodes ns (c ∷ cs) = last_nodes c.nodes cs
 
-levels_add : (type : Option (List ℕ)) (h : Held) (ls : List Cert) (ns : List Node) (cs : List Cert) (k : ℕ) → says_infeasible true type ≡ false → k ≡ length ls + 2 → k + length cs ≤ 2 ^ 32 → All LevelComesBack cs → Adds type parts.Tree (level_texts k cs) (holding h ls ns) (holding h (before_last ls ns cs) (last_nodes ns cs))
+levels_add : (type : Option (List ℕ)) (h : Held) (ls : List Cert) (ns : List Node) (cs : List Cert) (k : ℕ) → has_one_level true true type ≡ false → k ≡ length ls + 2 → k + length cs ≤ 2 ^ 32 → All LevelComesBack cs → Adds type parts.Tree (level_texts k cs) (holding h ls ns) (holding h (before_last ls ns cs) (last_nodes ns cs))
 levels_add type h ls ns [] k quiet is few back = refl
 levels_add type h ls ns (c ∷ cs) k quiet is few back =
     let small : k < 2 ^ 32 = omega (arith, few) in
@@ -98,7 +98,7 @@ levels_add type h ls ns (c ∷ cs) k quiet is few back =
     )
 
 -- ALL TREES
-pub trees_add : (type : Option (List ℕ)) (h : Held) (c : Cert) (cs : List Cert) → (says_infeasible true type ≡ false) ⊎ (cs ≡ []) → 2 + length cs ≤ 2 ^ 32 → All NodeComesBack c.nodes → All LevelComesBack cs → Adds type parts.Tree (map node_text c.nodes ++ level_texts 2 cs) (holding h [] []) (holding h (before_last [] c.nodes cs) (last_nodes c.nodes cs))
+pub trees_add : (type : Option (List ℕ)) (h : Held) (c : Cert) (cs : List Cert) → (has_one_level true true type ≡ false) ⊎ (cs ≡ []) → 2 + length cs ≤ 2 ^ 32 → All NodeComesBack c.nodes → All LevelComesBack cs → Adds type parts.Tree (map node_text c.nodes ++ level_texts 2 cs) (holding h [] []) (holding h (before_last [] c.nodes cs) (last_nodes c.nodes cs))
 trees_add type h c cs (inl quiet) few first back = adds_both type parts.Tree (map node_text c.nodes) (level_texts 2 cs) (holding h [] []) (holding h [] c.nodes) (holding h (before_last [] c.nodes cs) (last_nodes c.nodes cs)) (nodes_add type h [] c.nodes [] first) (levels_add type h [] c.nodes cs 2 quiet refl few back)
 trees_add type h c [] (inr none) few first back = adds_both type parts.Tree (map node_text c.nodes) [] (holding h [] []) (holding h [] c.nodes) (holding h [] c.nodes) (nodes_add type h [] c.nodes [] first) refl
 trees_add type h c (d ∷ cs) (inr none) few first back = absurd (cc)

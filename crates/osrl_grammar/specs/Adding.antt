@@ -5,7 +5,7 @@ use Rattle.certificate.specs.declared.lists.Mult.{Mult}
 use Rattle.certificate.specs.declared.causes.Cause as why
 use Rattle.osrl_grammar.specs.declared.held.Held.{Held}
 use Rattle.osrl_writing.specs.declared.parts.Part.{Part}
-use Rattle.osrl_writing.specs.declared.parts.Part.TheVariants.{Point, Value, Ray, Rounds, Tree, Cause}
+use Rattle.osrl_writing.specs.declared.parts.Part.TheVariants.{Point, Value, Ray, Cause, Bound, Rounds, Tree}
 use Rattle.osrl_grammar.specs.declared.parts.Misread.{Misread}
 use Rattle.osrl_grammar.specs.declared.parts.Misread.TheVariants.{NoShape}
 use Rattle.osrl_grammar.specs.declared.parts.BadItem.{BadItem}
@@ -13,8 +13,8 @@ use Rattle.osrl_grammar.specs.declared.parts.TreeItem.{TreeItem}
 use Rattle.osrl_grammar.specs.declared.parts.TreeItem.TheVariants as trees
 use Rattle.osrl_grammar.specs.Items.{item_fields, is_level, ReadsTexts}
 use Rattle.osrl_grammar.specs.Values.{IsFraction, IsRound, IsTreeItem, IsCause, IsOutOfOrder}
-use Rattle.osrl_grammar.specs.Standing.{State, nothing_held}
-use Rattle.osrl_grammar.specs.Saying.{cert, next_level, says_infeasible}
+use Rattle.osrl_grammar.specs.Standing.{State, emptied}
+use Rattle.osrl_grammar.specs.Saying.{cert, next_level, has_one_level}
 
 -- a node is added to the latest level, or a level begins behind it
 abbrev pub with_tree_item : TreeItem → Held → Held
@@ -26,26 +26,27 @@ abbrev pub AddsItem : Part → (said : List ℕ) → Held → Held → Type 0
 AddsItem Point said h k = (x : Frac) × IsFraction said x × (k ≡ record h { point = h.point ++ x ∷ [] })
 AddsItem Value said h k = (x : Frac) × IsFraction said x × (k ≡ record h { values = h.values ++ x ∷ [] })
 AddsItem Ray said h k = (x : Frac) × IsFraction said x × (k ≡ record h { ray = h.ray ++ x ∷ [] })
+AddsItem Cause said h k = (c : why.Cause) × IsCause said c × (k ≡ record h { causes = h.causes ++ c ∷ [] })
+AddsItem Bound said h k = (x : Frac) × IsFraction said x × (k ≡ record h { bounds = h.bounds ++ x ∷ [] })
 AddsItem Rounds said h k = (r : List Mult) × IsRound said r × (k ≡ record h { rounds = h.rounds ++ r ∷ [] })
 AddsItem Tree said h k = (i : TreeItem) × IsTreeItem said i × (k ≡ with_tree_item i h)
-AddsItem Cause said h k = (c : why.Cause) × IsCause said c × (k ≡ record h { causes = h.causes ++ c ∷ [] })
 
 -- WHAT IS READ OF AN ITEM: what the parts hold then, or what is wrong with it; a level out of order isn't of its shape
 abbrev pub IsItemRead : Part → (said : List ℕ) → Held → Result Held Misread → Type 0
 IsItemRead p said h r = (IsOutOfOrder (next_level h) p said × (r ≡ Err NoShape)) ⊎ ((IsOutOfOrder (next_level h) p said → ⊥) × ReadsTexts (item_fields p said) r (λ k. AddsItem p said h k))
 
--- the number of the first item that begins with the word of a level, where the solution may claim that no point is feasible
+-- the number of the first item that begins with the word of a level, where the solution may speak of one level
 abbrev pub first_level : Bool → Option ℕ → ℕ → Option ℕ
 first_level true None n = Some n
 first_level b old n = old
 
 abbrev pub noted : State → Part → State
-noted s p = record s { level = first_level (says_infeasible true s.claiming && is_level p s.text) s.level s.count }
+noted s p = record s { level = first_level (has_one_level true true s.claiming && is_level p s.text) s.level s.count }
 
--- what the parts hold then; or the first item that isn't read, and nothing is held any more
+-- what the parts hold then; or the first item that isn't read, and no item is held any more
 abbrev pub with_read : State → Result Held Misread → State
 with_read s (Ok k) = record s { held = k }
-with_read s (Err u) = record s { bad = Some (record { misread = u; number = s.count }); held = nothing_held }
+with_read s (Err u) = record s { bad = Some (record { misread = u; number = s.count }); held = emptied s.held }
 
 -- WHAT AN ITEM LEAVES; behind one that isn't read it says nothing
 abbrev pub AfterItem : Option BadItem → State → Part → State → Type 0

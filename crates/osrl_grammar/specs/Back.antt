@@ -11,6 +11,7 @@ use Rattle.certificate.specs.declared.nodes.Node.TheVariants.{Split, Zero, Clash
 use Rattle.certificate.specs.declared.nodes.Cert.{Cert}
 use Rattle.certificate.specs.declared.causes.Cause.{Cause}
 use Rattle.certificate.specs.declared.causes.Cause.TheVariants as causes
+use Rattle.certificate.specs.declared.claims.ProvedBound.{ProvedBound}
 use Rattle.certificate.specs.declared.claims.Claim.{Claim}
 use Rattle.certificate.specs.declared.claims.Claim.TheVariants.{Optimal, Infeasible, Unbounded, BestSoFar, Unsure}
 use Rattle.osrl_writing.specs.declared.report.Report.{Report}
@@ -69,13 +70,18 @@ abbrev pub MayHaveTrees : List Cert → Type 0
 MayHaveTrees [] = Unit {0}
 MayHaveTrees (c ∷ cs) = TreesComeBack c cs
 
+-- a bound has a tree, of one level
+abbrev pub BoundComesBack : Option ProvedBound → Type 0
+BoundComesBack None = Unit {0}
+BoundComesBack (Some b) = TreesComeBack b.cert []
+
 abbrev pub ClaimComesBack : Option Claim → Type 0
 ClaimComesBack None = Unit {0}
 ClaimComesBack (Some (Optimal x vs cs)) = (0 < length vs) × HasTrees cs
 ClaimComesBack (Some (Infeasible c)) = TreesComeBack c []
 ClaimComesBack (Some (Unbounded x vs cs r)) = (0 < length vs) × MayHaveTrees cs
-ClaimComesBack (Some (BestSoFar x vs c)) = (0 < length vs) × CauseComesBack c
-ClaimComesBack (Some (Unsure c)) = CauseComesBack c
+ClaimComesBack (Some (BestSoFar x vs c b)) = (0 < length vs) × CauseComesBack c × BoundComesBack b
+ClaimComesBack (Some (Unsure c b)) = CauseComesBack c × BoundComesBack b
 
 -- the text is no longer than a document may be, and what the report says can be written and read
 pub record ComesBack (r : Report) : Type 0 where

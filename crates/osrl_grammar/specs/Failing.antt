@@ -1,7 +1,7 @@
 -- When the tests of result documents fail.
 use Rattle.std.specs.Prelude.{◌≡◌, ℕ, ◌<◌, true, None, IsSome}
 use Rattle.osrl_writing.specs.declared.parts.Part.{Part}
-use Rattle.osrl_writing.specs.declared.parts.Part.TheVariants.{Point, Value, Ray, Rounds, Tree, Cause}
+use Rattle.osrl_writing.specs.declared.parts.Part.TheVariants.{Point, Value, Ray, Cause, Bound, Rounds, Tree}
 use Rattle.osrl_grammar.specs.Standing.{State}
 use Rattle.osrl_grammar.specs.Saying.{has, items, bad_item, report_of}
 use Rattle.osrl_grammar.specs.Table.{Test, other_root, unread, twice, miscounted, incomplete}
@@ -11,9 +11,10 @@ abbrev pub MayHoldItems : Part → ℕ → Type 0
 MayHoldItems Point n = Unit {0}
 MayHoldItems Value n = 0 < n
 MayHoldItems Ray n = Unit {0}
+MayHoldItems Cause n = n ≡ 1
+MayHoldItems Bound n = n ≡ 1
 MayHoldItems Rounds n = Unit {0}
 MayHoldItems Tree n = 0 < n
-MayHoldItems Cause n = n ≡ 1
 
 -- WHEN EACH TEST FAILS
 abbrev pub Fails : State → Test → Type 0

@@ -11,7 +11,7 @@ use Rattle.tag_tests.specs.Contents.{keeps_in}
 use Rattle.osrl_writing.specs.declared.report.Report.{Report}
 use Rattle.osrl_grammar.specs.declared.held.Held.{Held}
 use Rattle.osrl_writing.specs.declared.parts.Part.{Part}
-use Rattle.osrl_writing.specs.declared.parts.Part.TheVariants.{Point, Value, Ray, Rounds, Tree, Cause}
+use Rattle.osrl_writing.specs.declared.parts.Part.TheVariants.{Point, Value, Ray, Cause, Bound, Rounds, Tree}
 use Rattle.osrl_grammar.specs.Standing.{State, start}
 use Rattle.osrl_grammar.specs.Saying.{type_of, has, report_of}
 use Rattle.osrl_grammar.specs.Adding.{AfterItem}
@@ -35,9 +35,10 @@ abbrev pub with_part : Part → Held → Held
 with_part Point h = record h { has_point = true }
 with_part Value h = record h { has_value = true }
 with_part Ray h = record h { has_ray = true }
+with_part Cause h = record h { has_cause = true }
+with_part Bound h = record h { has_bound = true }
 with_part Rounds h = record h { has_rounds = true }
 with_part Tree h = record h { has_tree = true }
-with_part Cause h = record h { has_cause = true }
 
 -- WHAT A START TAG LEAVES that leads there
 abbrev pub begun : State → List Attribute → Place → State

@@ -7,6 +7,7 @@ use Rattle.certificate.specs.declared.lists.Mult.{Mult}
 use Rattle.certificate.specs.declared.nodes.Node.{Node}
 use Rattle.certificate.specs.declared.nodes.Cert.{Cert}
 use Rattle.certificate.specs.declared.causes.Cause.{Cause}
+use Rattle.certificate.specs.declared.claims.ProvedBound.{ProvedBound}
 use Rattle.certificate.specs.declared.claims.Claim.{Claim}
 use Rattle.certificate.specs.declared.claims.Claim.TheVariants.{Optimal, Infeasible, Unbounded, BestSoFar, Unsure}
 use Rattle.osrl_writing.specs.declared.report.JobStatus.{JobStatus}
@@ -31,17 +32,19 @@ abbrev pub has : Held → Part → Bool
 has h parts.Point = h.has_point
 has h parts.Value = h.has_value
 has h parts.Ray = h.has_ray
+has h parts.Cause = h.has_cause
+has h parts.Bound = h.has_bound
 has h parts.Rounds = h.has_rounds
 has h parts.Tree = h.has_tree
-has h parts.Cause = h.has_cause
 
 abbrev pub items : Held → Part → ℕ
 items h parts.Point = length h.point
 items h parts.Value = length h.values
 items h parts.Ray = length h.ray
+items h parts.Cause = length h.causes
+items h parts.Bound = length h.bounds
 items h parts.Rounds = length h.rounds
 items h parts.Tree = length h.levels + length h.tree
-items h parts.Cause = length h.causes
 
 -- how far the job is, if one of the six words says it
 abbrev pub status_of : State → Option JobStatus
@@ -51,19 +54,26 @@ status_of s = option_and_then (worded status_text all_statuses) s.status
 abbrev pub claiming_of : State → Option Claiming
 claiming_of s = option_and_then (worded claiming_text all_claimings) s.claiming
 
--- whether a solution whose status has this type claims that no point is feasible; where there is no status so far, as is said
-abbrev pub says_infeasible : Bool → Option (List ℕ) → Bool
-says_infeasible unknown None = unknown
-says_infeasible unknown (Some type) = bytes_eq type (claiming_text claiming.Infeasible)
+-- whether what is claimed so speaks of one level: that no point is feasible, or what is left of a search, with a bound
+abbrev pub is_of_one_level : (bounded : Bool) → Option Claiming → Bool
+is_of_one_level bounded (Some claiming.Infeasible) = true
+is_of_one_level bounded (Some claiming.BestSoFar) = bounded
+is_of_one_level bounded (Some claiming.Unsure) = bounded
+is_of_one_level bounded c = false
+
+-- whether a solution whose status has this type speaks of one level; where there is no status so far, as is said
+abbrev pub has_one_level : (unknown bounded : Bool) → Option (List ℕ) → Bool
+has_one_level unknown bounded None = unknown
+has_one_level unknown bounded (Some type) = is_of_one_level bounded (worded claiming_text all_claimings type)
 
 -- the item of such a number, as one that isn't of its shape; else the other
 abbrev pub level_or : Option ℕ → Option BadItem → Option BadItem
 level_or None bad = bad
 level_or (Some n) bad = Some (record { misread = NoShape; number = n })
 
--- THE ITEM THAT ISN'T READ, if one isn't: the first that isn't one of its part, or begins a level out of order; but in a solution that claims that no point is feasible the first that begins with the word of a level, unless one before it isn't read
+-- THE ITEM THAT ISN'T READ, if one isn't: the first that isn't one of its part, or begins a level out of order; but in a solution that speaks of one level the first that begins with the word of a level, unless one before it isn't read
 abbrev pub bad_item : State → Option BadItem
-bad_item s = cond (says_infeasible false s.claiming) (level_or s.level s.bad) s.bad
+bad_item s = cond (has_one_level false s.held.has_bound s.claiming) (level_or s.level s.bad) s.bad
 
 -- the one of these, if there is just one
 abbrev pub only : {X : Type 0} → List X → Option X
@@ -103,17 +113,30 @@ abbrev pub unbounded : Option (List Frac) → Option (List Frac) → List Cert �
 unbounded (Some x) (Some vs) cs (Some r) = Some (Unbounded x vs cs r)
 unbounded x vs cs r = None
 
-abbrev pub best_so_far : Option (List Frac) → Option (List Frac) → Option Cause → Option Claim
-best_so_far (Some x) (Some vs) (Some c) = Some (BestSoFar x vs c)
-best_so_far x vs c = None
+-- a bound, if its number and its tree are there
+abbrev pub bounded : Option Frac → Option Cert → Option (Option ProvedBound)
+bounded (Some v) (Some c) = Some (Some (record { number = v; cert = c }))
+bounded v c = None
+
+-- the same where one is told; where none is, there is none
+abbrev pub bound_of : Held → Option (Option ProvedBound)
+bound_of h = cond h.has_bound (bounded (only h.bounds) (when h.has_tree (cert h.rounds h.tree))) (Some None)
+
+abbrev pub best_so_far : Option (List Frac) → Option (List Frac) → Option Cause → Option (Option ProvedBound) → Option Claim
+best_so_far (Some x) (Some vs) (Some c) (Some b) = Some (BestSoFar x vs c b)
+best_so_far x vs c b = None
+
+abbrev pub unsure : Option Cause → Option (Option ProvedBound) → Option Claim
+unsure (Some c) (Some b) = Some (Unsure c b)
+unsure c b = None
 
 -- the claim of a solution with such a status, if its parts are there
 abbrev pub claim_as : Held → Claiming → Option Claim
 claim_as h claiming.Optimal = optimal (when h.has_point h.point) (when h.has_value h.values) (when h.has_tree (trees h))
 claim_as h claiming.Infeasible = option_map Infeasible (when h.has_tree (cert h.rounds h.tree))
 claim_as h claiming.Unbounded = unbounded (when h.has_point h.point) (when h.has_value h.values) (trees h) (when h.has_ray h.ray)
-claim_as h claiming.BestSoFar = best_so_far (when h.has_point h.point) (when h.has_value h.values) (only h.causes)
-claim_as h claiming.Unsure = option_map Unsure (only h.causes)
+claim_as h claiming.BestSoFar = best_so_far (when h.has_point h.point) (when h.has_value h.values) (only h.causes) (bound_of h)
+claim_as h claiming.Unsure = unsure (only h.causes) (bound_of h)
 
 -- THE CLAIM, if there is one, where it can be told: not where a solution claims nothing, or a part isn't there
 abbrev pub claim_of : State → Option (Option Claim)

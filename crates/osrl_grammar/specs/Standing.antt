@@ -23,7 +23,7 @@ pub record State : Type 0 where
   -- whether a solution has begun, and whether a second one, or a part of a certificate again
   pub has_solution : Bool
   pub twice : Bool
-  -- the number of the first item that begins with the word of a level, where the status isn't known to be of another type than `infeasible`; and the first item that isn't read, behind which no item says anything
+  -- the number of the first item that begins with the word of a level, where the solution may speak of one level; and the first item that isn't read, behind which no item says anything
   pub level : Option ℕ
   pub bad : Option BadItem
   -- what its parts hold
@@ -37,17 +37,23 @@ nothing_held = record {
   has_point = false;
   has_value = false;
   has_ray = false;
+  has_cause = false;
+  has_bound = false;
   has_rounds = false;
   has_tree = false;
-  has_cause = false;
   point = [];
   values = [];
   ray = [];
+  causes = [];
+  bounds = [];
   rounds = [];
   levels = [];
   tree = [];
-  causes = [];
 }
+
+-- the same, but that a bound was told
+abbrev pub emptied : Held → Held
+emptied h = record nothing_held { has_bound = h.has_bound }
 
 -- what stands in place of a report before the root has ended; the marks of a root always end it
 abbrev pub nothing_said : Report

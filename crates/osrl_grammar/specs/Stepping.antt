@@ -12,7 +12,7 @@ use Rattle.osrl_grammar.specs.declared.held.Held.{Held}
 use Rattle.osrl_grammar.specs.declared.fault.OsrlFault.{OsrlFault}
 use Rattle.osrl_grammar.specs.declared.elements.Place.{Place}
 use Rattle.osrl_writing.specs.declared.parts.Part.{Part}
-use Rattle.osrl_writing.specs.declared.parts.Part.TheVariants.{Value, Tree, Cause}
+use Rattle.osrl_writing.specs.declared.parts.Part.TheVariants.{Value, Tree, Cause, Bound}
 use Rattle.osrl_grammar.specs.declared.parts.Misread.{Misread}
 use Rattle.osrl_grammar.specs.Numbers.{Exact, Field, IsBad, IsTooGreat}
 use Rattle.osrl_grammar.specs.Items.{field, ReadsTexts}
@@ -30,7 +30,7 @@ abbrev pub IsCounted : Held → Part → Type 0
 IsCounted h p = has h p ≡ true → MayHoldItems p (items h p)
 
 abbrev pub AreCounted : State → Type 0
-AreCounted s = (s.twice ≡ false) × IsCounted s.held Value × IsCounted s.held Tree × IsCounted s.held Cause
+AreCounted s = (s.twice ≡ false) × IsCounted s.held Value × IsCounted s.held Tree × IsCounted s.held Cause × IsCounted s.held Bound
 
 -- multipliers were read of these pieces, or this is wrong with the texts in them
 abbrev pub ReadMults : {X : Type 0} → List (List ℕ) → List Field → List Mult → Result X Unread → Type 0

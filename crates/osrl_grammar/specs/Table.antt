@@ -10,7 +10,7 @@ use Rattle.tag_tests.specs.declared.places.Led.TheVariants.{To, Over, OtherRoot}
 use Rattle.tag_tests.specs.Places.{Child, child, among, Kind, begins, ends}
 use Rattle.tag_tests.specs.Contents.{ChildPlaces, root, reads, leads_by, kind_by}
 use Rattle.osrl_writing.specs.declared.parts.Part.{Part}
-use Rattle.osrl_writing.specs.declared.parts.Part.TheVariants.{Point, Value, Ray, Rounds, Tree, Cause}
+use Rattle.osrl_writing.specs.declared.parts.Part.TheVariants.{Point, Value, Ray, Cause, Bound, Rounds, Tree}
 use Rattle.osrl_grammar.specs.declared.parts.BadItem.{BadItem}
 use Rattle.osrl_grammar.specs.declared.parts.Misread.{Misread}
 use Rattle.osrl_grammar.specs.declared.parts.Misread.TheVariants.{NoShape, NoNumber, TooGreat}
@@ -33,7 +33,7 @@ content p = reads []
 
 -- the results that are read, by what their attribute `name` says
 abbrev pub parts : List (Child Place)
-parts = child (part_name Point) (Result Point) ∷ child (part_name Value) (Result Value) ∷ child (part_name Ray) (Result Ray) ∷ child (part_name Rounds) (Result Rounds) ∷ child (part_name Tree) (Result Tree) ∷ child (part_name Cause) (Result Cause) ∷ []
+parts = child (part_name Point) (Result Point) ∷ child (part_name Value) (Result Value) ∷ child (part_name Ray) (Result Ray) ∷ child (part_name Cause) (Result Cause) ∷ child (part_name Bound) (Result Bound) ∷ child (part_name Rounds) (Result Rounds) ∷ child (part_name Tree) (Result Tree) ∷ []
 
 -- where the start tag of an element of this name leads
 abbrev pub named_led : Place → List ℕ → Led Place
@@ -82,10 +82,10 @@ pub data Test : Type 0 where
   miscounted : Part → Test
   incomplete : Test
 
--- THE TESTS OF EACH KIND, in the order in which they refuse. Root, at the start tag of the root. At its end tag, by which the solution's status is known: Item, Number, Wide, for an item that isn't read. Count: a second solution, or a part of one name twice; a cause has not just one item, a value or a tree none. Then Missing: there is no general status, no job's status of the six, no solution's status of the five, or not each part that its claim has.
+-- THE TESTS OF EACH KIND, in the order in which they refuse. Root, at the start tag of the root. At its end tag, by which the solution's status is known: Item, Number, Wide, for an item that isn't read. Count: a second solution, or a part of one name twice; a cause or a bound has not just one item, a value or a tree none. Then Missing: there is no general status, no job's status of the six, no solution's status of the five, or not each part that its claim has.
 abbrev pub tests : Kind Place → List Test
 tests (begins OtherRoot as') = other_root ∷ []
-tests (ends Osrl) = unread ∷ twice ∷ miscounted Value ∷ miscounted Tree ∷ miscounted Cause ∷ incomplete ∷ []
+tests (ends Osrl) = unread ∷ twice ∷ miscounted Value ∷ miscounted Tree ∷ miscounted Cause ∷ miscounted Bound ∷ incomplete ∷ []
 tests k = []
 
 -- the refusal of the n-th item: it isn't of its shape, a text in it is no number, a number is too great

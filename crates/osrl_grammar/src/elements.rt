@@ -86,15 +86,17 @@ fn part_led(name: &[u8]) -> Led<Place>
         Led::To(Place::Result(Part::Value))
     } else if name == part_name(Part::Ray) {
         Led::To(Place::Result(Part::Ray))
+    } else if name == part_name(Part::Cause) {
+        Led::To(Place::Result(Part::Cause))
+    } else if name == part_name(Part::Bound) {
+        Led::To(Place::Result(Part::Bound))
     } else if name == part_name(Part::Rounds) {
         Led::To(Place::Result(Part::Rounds))
-    } else if name == part_name(Part::Tree) {
-        Led::To(Place::Result(Part::Tree))
     } else {
         named(
             name,
-            part_name(Part::Cause),
-            Led::To(Place::Result(Part::Cause)),
+            part_name(Part::Tree),
+            Led::To(Place::Result(Part::Tree)),
             Led::Over,
         )
     }

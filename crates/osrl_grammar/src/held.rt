@@ -1,8 +1,8 @@
 //! What the parts of a claim's certificate hold.
 
-ghost use Rattle.std.specs.Prelude.{◌≡◌, ◌↔◌, IsTrue, IfOk, OnOk, cond, [], option_map};
-ghost use Rattle.certificate.specs.declared.claims.Claim.TheVariants.{Infeasible, Unsure};
-ghost use Rattle.osrl_grammar.specs.Standing.{nothing_held};
+ghost use Rattle.std.specs.Prelude.{◌≡◌, ◌↔◌, IsTrue, IfOk, OnOk, cond, None, Some, [], option_map};
+ghost use Rattle.certificate.specs.declared.claims.Claim.TheVariants.{Infeasible};
+ghost use Rattle.osrl_grammar.specs.Standing.{nothing_held, emptied};
 ghost use Rattle.osrl_grammar.specs.Saying as saying;
 ghost use Rattle.osrl_grammar.specs.Failing.{MayHoldItems};
 ghost use Rattle.osrl_grammar.specs.Adding.{with_tree_item};
@@ -13,7 +13,7 @@ ghost use Rattle.osrl_writing.specs.declared.parts.Part.TheVariants as parts;
 use crate::item_reading::{is_level_but, misread, read_cause, read_round, read_tree_item};
 use crate::numbers::read_exact;
 use crate::parts::{Misread, TreeItem};
-use certificate::{Cause, Cert, Certs, Claim, Nodes, Point, Ray, Rounds, Values};
+use certificate::{Cause, Cert, Certs, Claim, Nodes, Point, ProvedBound, Ray, Rounds, Values};
 use fraction::Frac;
 use items::Items;
 use osrl_writing::{Claiming, Part};
@@ -29,16 +29,18 @@ pub(crate) struct Held {
     pub has_point: bool,
     pub has_value: bool,
     pub has_ray: bool,
+    pub has_cause: bool,
+    pub has_bound: bool,
     pub has_rounds: bool,
     pub has_tree: bool,
-    pub has_cause: bool,
     pub point: Point,
     pub values: Values,
     pub ray: Ray,
+    pub causes: Items<Cause>,
+    pub bounds: Items<Frac>,
     pub rounds: Rounds,
     pub levels: Certs,
     pub tree: Nodes,
-    pub causes: Items<Cause>,
 }
 
 impl Drop for Held {
@@ -47,16 +49,18 @@ impl Drop for Held {
             has_point: _,
             has_value: _,
             has_ray: _,
+            has_cause: _,
+            has_bound: _,
             has_rounds: _,
             has_tree: _,
-            has_cause: _,
             point: _,
             values: _,
             ray: _,
+            causes: _,
+            bounds: _,
             rounds: _,
             levels: _,
             tree: _,
-            causes: _,
         } = self;
     }
 }
@@ -91,7 +95,7 @@ fn may_hold(part: Part, count: usize) -> bool
     match part {
         Part::Point | Part::Ray | Part::Rounds => true,
         Part::Value | Part::Tree => count > 0,
-        Part::Cause => count == 1,
+        Part::Cause | Part::Bound => count == 1,
     }
 }
 
@@ -148,14 +152,29 @@ fn infeasible(cert: Option<Cert>) -> Option<Claim>
     }
 }
 
-/// The claim of nothing, if its part is there.
-fn unsure(cause: Option<Cause>) -> Option<Claim>
-    ensures { result ≡ option_map Unsure cause }
+/// The bound, if its number and its tree are there, where one is told.
+fn bound_of(
+    has_bound: bool,
+    number: Option<Frac>,
+    cert: Option<Cert>,
+) -> Option<Option<ProvedBound>>
+    ensures { result ≡ cond has_bound (saying.bounded number cert) (Some None) }
 {
-    match cause {
-        Some(cause) => Some(Claim::Unsure { cause }),
-        None => None,
+    if !has_bound {
+        return Some(None);
     }
+    let number = number?;
+    let cert = cert?;
+    Some(Some(ProvedBound { number, cert }))
+}
+
+/// The claim of nothing but perhaps a bound, if its parts are there.
+fn unsure(cause: Option<Cause>, bound: Option<Option<ProvedBound>>) -> Option<Claim>
+    ensures { result ≡ saying.unsure cause bound }
+{
+    let cause = cause?;
+    let bound = bound?;
+    Some(Claim::Unsure { cause, bound })
 }
 
 /// The claim that points have no best value, if its parts are there.
@@ -179,16 +198,23 @@ fn unbounded(
 }
 
 /// The claim of the best point so far, if its parts are there.
-fn best_so_far(point: Option<Point>, values: Option<Values>, cause: Option<Cause>) -> Option<Claim>
-    ensures { result ≡ saying.best_so_far point values cause }
+fn best_so_far(
+    point: Option<Point>,
+    values: Option<Values>,
+    cause: Option<Cause>,
+    bound: Option<Option<ProvedBound>>,
+) -> Option<Claim>
+    ensures { result ≡ saying.best_so_far point values cause bound }
 {
     let point = point?;
     let values = values?;
     let cause = cause?;
+    let bound = bound?;
     Some(Claim::BestSoFar {
         point,
         values,
         cause,
+        bound,
     })
 }
 
@@ -201,17 +227,28 @@ impl Held {
             has_point: false,
             has_value: false,
             has_ray: false,
+            has_cause: false,
+            has_bound: false,
             has_rounds: false,
             has_tree: false,
-            has_cause: false,
             point: Point::new(alloc),
             values: Values::new(alloc),
             ray: Ray::new(alloc),
+            causes: Items::new(alloc),
+            bounds: Items::new(alloc),
             rounds: Rounds::new(alloc),
             levels: Certs::new(alloc),
             tree: Nodes::new(alloc),
-            causes: Items::new(alloc),
         }
+    }
+
+    /// Lets all items go, and keeps in mind whether a bound was told.
+    pub(crate) fn empty(&mut self, alloc: Global)
+        ensures { self.new ≡ emptied self.old }
+    {
+        let has_bound = self.has_bound;
+        *self = Held::new(alloc);
+        self.has_bound = has_bound;
     }
 
     /// Whether a part has begun.
@@ -222,9 +259,10 @@ impl Held {
             Part::Point => self.has_point,
             Part::Value => self.has_value,
             Part::Ray => self.has_ray,
+            Part::Cause => self.has_cause,
+            Part::Bound => self.has_bound,
             Part::Rounds => self.has_rounds,
             Part::Tree => self.has_tree,
-            Part::Cause => self.has_cause,
         }
     }
 
@@ -236,9 +274,10 @@ impl Held {
             Part::Point => may_hold(part, self.point.len()),
             Part::Value => may_hold(part, self.values.len()),
             Part::Ray => may_hold(part, self.ray.len()),
+            Part::Cause => may_hold(part, self.causes.len()),
+            Part::Bound => may_hold(part, self.bounds.len()),
             Part::Rounds => may_hold(part, self.rounds.len()),
             Part::Tree => self.levels.len() > 0 || self.tree.len() > 0,
-            Part::Cause => may_hold(part, self.causes.len()),
         }
     }
 
@@ -250,15 +289,17 @@ impl Held {
             Part::Point => self.has_point = true,
             Part::Value => self.has_value = true,
             Part::Ray => self.has_ray = true,
+            Part::Cause => self.has_cause = true,
+            Part::Bound => self.has_bound = true,
             Part::Rounds => self.has_rounds = true,
             Part::Tree => self.has_tree = true,
-            Part::Cause => self.has_cause = true,
         }
     }
 
     /// Adds a round, if the text is one.
     fn push_round(&mut self, alloc: Global, text: &[u8]) -> Result<Result<(), Misread>, AllocError>
-        ensures { ReadsItem parts.Rounds text.now self.old self.new result }
+        ensures read { ReadsItem parts.Rounds text.now self.old self.new result }
+        ensures bound { OnOk result (self.new.has_bound ≡ self.old.has_bound) }
     {
         match read_round(alloc, text)? {
             Ok(round) => {
@@ -271,7 +312,8 @@ impl Held {
 
     /// Adds a node to the latest level, or begins one behind it.
     fn push_item(&mut self, alloc: Global, item: TreeItem) -> Result<(), AllocError>
-        ensures { OnOk result (self.new ≡ with_tree_item item self.old) }
+        ensures added { OnOk result (self.new ≡ with_tree_item item self.old) }
+        ensures bound { OnOk result (self.new.has_bound ≡ self.old.has_bound) }
     {
         match item {
             TreeItem::Node(node) => self.tree.push(node),
@@ -291,7 +333,8 @@ impl Held {
         alloc: Global,
         text: &[u8],
     ) -> Result<Result<(), Misread>, AllocError>
-        ensures { ReadsItem parts.Tree text.now self.old self.new result }
+        ensures read { ReadsItem parts.Tree text.now self.old self.new result }
+        ensures bound { OnOk result (self.new.has_bound ≡ self.old.has_bound) }
     {
         if self.levels.len() > MOST_LEVELS {
             return Err(AllocError);
@@ -310,7 +353,8 @@ impl Held {
 
     /// Adds a cause, if the text is one.
     fn push_cause(&mut self, text: &[u8]) -> Result<Result<(), Misread>, AllocError>
-        ensures { ReadsItem parts.Cause text.now self.old self.new result }
+        ensures read { ReadsItem parts.Cause text.now self.old self.new result }
+        ensures bound { OnOk result (self.new.has_bound ≡ self.old.has_bound) }
     {
         match read_cause(text) {
             Ok(cause) => {
@@ -328,15 +372,17 @@ impl Held {
         part: Part,
         text: &[u8],
     ) -> Result<Result<(), Misread>, AllocError>
-        ensures { ReadsItem part text.now self.old self.new result }
+        ensures read { ReadsItem part text.now self.old self.new result }
+        ensures bound { OnOk result (self.new.has_bound ≡ self.old.has_bound) }
     {
         match part {
             Part::Point => push_number(&mut self.point, text),
             Part::Value => push_number(&mut self.values, text),
             Part::Ray => push_number(&mut self.ray, text),
+            Part::Cause => self.push_cause(text),
+            Part::Bound => push_number(&mut self.bounds, text),
             Part::Rounds => self.push_round(alloc, text),
             Part::Tree => self.push_tree_item(alloc, text),
-            Part::Cause => self.push_cause(text),
         }
     }
 
@@ -359,16 +405,18 @@ impl Held {
             has_point,
             has_value,
             has_ray,
+            has_cause: _,
+            has_bound,
             has_rounds: _,
             has_tree,
-            has_cause: _,
             point,
             values,
             ray,
+            causes,
+            bounds,
             rounds,
             levels,
             tree,
-            causes,
         } = self;
         let point = when(has_point, point);
         let values = when(has_value, values);
@@ -386,8 +434,18 @@ impl Held {
                 let certs = trees(alloc, has_tree, rounds, levels, tree)?;
                 Ok(unbounded(point, values, certs, when(has_ray, ray)))
             }
-            Claiming::BestSoFar => Ok(best_so_far(point, values, cause)),
-            Claiming::Unsure => Ok(unsure(cause)),
+            Claiming::BestSoFar => {
+                let nodes = tree;
+                let cert = when(has_tree, Cert { rounds, nodes });
+                let bound = bound_of(has_bound, only(bounds.as_slice()), cert);
+                Ok(best_so_far(point, values, cause, bound))
+            }
+            Claiming::Unsure => {
+                let nodes = tree;
+                let cert = when(has_tree, Cert { rounds, nodes });
+                let bound = bound_of(has_bound, only(bounds.as_slice()), cert);
+                Ok(unsure(cause, bound))
+            }
         }
     }
 }

@@ -191,22 +191,33 @@ fn claiming_of(word: &Option<Text>) -> Option<Claiming>
     }
 }
 
-/// Whether a solution with such a status claims that no point is feasible; where there is no status so far, as is said.
-fn says_infeasible(unknown: bool, word: &Option<Text>) -> bool
-    ensures { result ≡ saying.says_infeasible unknown word.now }
+/// Whether what is claimed so speaks of one level: that no point is feasible, or what is left of a search, with a bound.
+fn is_of_one_level(bounded: bool, claiming: Option<Claiming>) -> bool
+    ensures { result ≡ saying.is_of_one_level bounded claiming }
+{
+    match claiming {
+        Some(Claiming::Infeasible) => true,
+        Some(Claiming::BestSoFar | Claiming::Unsure) => bounded,
+        Some(Claiming::Optimal | Claiming::Unbounded) | None => false,
+    }
+}
+
+/// Whether a solution with such a status speaks of one level; where there is no status so far, as is said.
+fn has_one_level(unknown: bool, bounded: bool, word: &Option<Text>) -> bool
+    ensures { result ≡ saying.has_one_level unknown bounded word.now }
 {
     match word {
-        Some(word) => word.as_slice() == b"infeasible".as_slice(),
+        Some(word) => is_of_one_level(bounded, with_word(word.as_slice(), &CLAIMINGS)),
         None => unknown,
     }
 }
 
-/// Whether an item begins with the word of a level, where its solution may claim that no point is feasible.
+/// Whether an item begins with the word of a level, where its solution may speak of one level.
 fn may_begin(claiming: &Option<Text>, part: Part, text: &[u8]) -> bool
-    ensures { result ≡ saying.says_infeasible true claiming.now && items.is_level part text.now }
+    ensures { result ≡ saying.has_one_level true true claiming.now && items.is_level part text.now }
 {
     if is_level(part, text) {
-        says_infeasible(true, claiming)
+        has_one_level(true, true, claiming)
     } else {
         false
     }
@@ -405,8 +416,7 @@ impl Standing {
         }
     }
 
-    /// Keeps in mind which item is the first that begins with the word of a level, where the solution may claim that no
-    /// point is feasible.
+    /// Keeps in mind which item is the first that begins with the word of a level, where the solution may speak of one level.
     fn note_level(&mut self, part: Part)
         ensures { self.new ≡ noted self.old part }
     {
@@ -414,7 +424,7 @@ impl Standing {
         self.level = first_level(begins, self.level, self.count);
     }
 
-    /// Keeps what was read of an item, or that it isn't read; then nothing is held any more.
+    /// Keeps what was read of an item, or that it isn't read; then no item is held any more.
     fn keep_read(&mut self, read: Result<(), Misread>)
         ensures { self.new ≡ with_read self.old (as_held self.old.held read) }
     {
@@ -423,7 +433,7 @@ impl Standing {
                 misread,
                 number: self.count,
             });
-            self.held = Held::new(self.alloc);
+            self.held.empty(self.alloc);
         }
     }
 
@@ -450,12 +460,11 @@ impl Standing {
     }
 
     /// The item that isn't read, if one isn't: the first that isn't one of its part, or begins a level out of order; but in
-    /// a solution that claims that no point is feasible the first that begins with the word of a level, unless one before
-    /// it isn't read.
+    /// a solution that speaks of one level the first that begins with the word of a level, unless one before it isn't read.
     fn bad_item(&self) -> Option<BadItem>
         ensures { result ≡ saying.bad_item self.now }
     {
-        if !says_infeasible(false, &self.claiming) {
+        if !has_one_level(false, self.held.has_bound, &self.claiming) {
             return self.bad;
         }
         level_or(self.level, self.bad)
@@ -469,6 +478,7 @@ impl Standing {
             && self.held.is_counted(Part::Value)
             && self.held.is_counted(Part::Tree)
             && self.held.is_counted(Part::Cause)
+            && self.held.is_counted(Part::Bound)
     }
 
     /// What the marks have reported, if all parts are there.

@@ -3,7 +3,7 @@ use Rattle.std.specs.Prelude.{ℕ, List, codes}
 use Rattle.osrl_writing.specs.declared.report.JobStatus.{JobStatus}
 use Rattle.osrl_writing.specs.declared.report.JobStatus.TheVariants as statuses
 use Rattle.osrl_writing.specs.declared.parts.Part.{Part}
-use Rattle.osrl_writing.specs.declared.parts.Part.TheVariants.{Point, Value, Ray, Rounds, Tree, Cause}
+use Rattle.osrl_writing.specs.declared.parts.Part.TheVariants.{Point, Value, Ray, Cause, Bound, Rounds, Tree}
 use Rattle.osrl_writing.specs.declared.parts.Claiming.{Claiming}
 use Rattle.osrl_writing.specs.declared.parts.Claiming.TheVariants.{Optimal, Infeasible, Unbounded, BestSoFar, Unsure}
 
@@ -29,9 +29,10 @@ abbrev pub part_name : Part → List ℕ
 part_name Point = codes "os_cert.point"
 part_name Value = codes "os_cert.value"
 part_name Ray = codes "os_cert.ray"
+part_name Cause = codes "os_cert.cause"
+part_name Bound = codes "os_cert.bound"
 part_name Rounds = codes "os_cert.rounds"
 part_name Tree = codes "os_cert.tree"
-part_name Cause = codes "os_cert.cause"
 
 -- the word of rounds
 abbrev pub round_word : List ℕ

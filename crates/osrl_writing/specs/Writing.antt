@@ -13,6 +13,7 @@ use Rattle.certificate.specs.declared.nodes.Node.TheVariants.{Split, Zero, Clash
 use Rattle.certificate.specs.declared.nodes.Cert.{Cert}
 use Rattle.certificate.specs.declared.causes.Cause.{Cause}
 use Rattle.certificate.specs.declared.causes.Cause.TheVariants as causes
+use Rattle.certificate.specs.declared.claims.ProvedBound.{ProvedBound}
 use Rattle.certificate.specs.declared.claims.Claim.{Claim}
 use Rattle.certificate.specs.declared.claims.Claim.TheVariants.{Optimal, Infeasible, Unbounded, BestSoFar, Unsure}
 use Rattle.osrl_writing.specs.declared.report.JobStatus.{JobStatus}
@@ -136,8 +137,14 @@ abbrev pub trees_parts : List Cert → Nodes
 trees_parts [] = none
 trees_parts (c ∷ cs) = tree_parts c cs
 
-abbrev pub cause_part : Cause → Nodes
-cause_part c = certificate_part parts.Cause (cause_text c ∷ []) none
+-- why a search stopped, and then more
+abbrev pub cause_part : Cause → Nodes → Nodes
+cause_part c more = certificate_part parts.Cause (cause_text c ∷ []) more
+
+-- a bound, where there is one: its number, and the tree that shows it
+abbrev pub bound_parts : Option ProvedBound → Nodes
+bound_parts None = none
+bound_parts (Some b) = certificate_part parts.Bound (fraction_texts (b.number ∷ [])) (tree_parts b.cert [])
 
 -- a solution: its status, values for people, and its certificate
 abbrev pub solution : Claiming → (certificate : Nodes) → (values : Nodes → Nodes) → Nodes
@@ -147,8 +154,8 @@ abbrev pub claim_nodes : Claim → Nodes
 claim_nodes (Optimal x vs cs) = solution claiming.Optimal (point_parts x vs (trees_parts cs)) (λ more. point_values x vs (dual_values (length x) vs cs more))
 claim_nodes (Infeasible c) = solution claiming.Infeasible (tree_parts c []) (λ more. more)
 claim_nodes (Unbounded x vs cs r) = solution claiming.Unbounded (point_parts x vs (ray_part r (trees_parts cs))) (point_values x vs)
-claim_nodes (BestSoFar x vs c) = solution claiming.BestSoFar (point_parts x vs (cause_part c)) (point_values x vs)
-claim_nodes (Unsure c) = solution claiming.Unsure (cause_part c) (λ more. more)
+claim_nodes (BestSoFar x vs c b) = solution claiming.BestSoFar (point_parts x vs (cause_part c (bound_parts b))) (point_values x vs)
+claim_nodes (Unsure c b) = solution claiming.Unsure (cause_part c (bound_parts b)) (λ more. more)
 
 -- a text in an element of this name, if there is one, and then more
 abbrev pub leaf_of : (name : List ℕ) → Option (List ℕ) → Nodes → Nodes

@@ -9,13 +9,14 @@ ghost use Rattle.document_tags.specs.Telling.{Told, opening};
 
 use crate::item_texts::{cause_text, level_text, node_text, round_text};
 use crate::parts::{Part, part_name};
-use certificate::{Cause, Cert, Mults, Node};
+use certificate::{Cause, Cert, Mults, Node, ProvedBound};
 use decimal_text::write_ratio;
 use document_tags::{close, leaf, open_with};
 use element_tree::TreeBuilder;
 use fraction::Frac;
 use os_io::{Memory, Text};
 use std::alloc::Global;
+use std::slice::from_ref;
 
 /// Tells an item that holds a number.
 fn tell_fraction(alloc: Global, b: &mut TreeBuilder, value: Frac) -> Result<(), Memory>
@@ -155,12 +156,28 @@ pub(crate) fn tell_certs(alloc: Global, b: &mut TreeBuilder, certs: &[Cert]) -> 
 /// Tells why a search stopped.
 pub(crate) fn tell_cause(alloc: Global, b: &mut TreeBuilder, cause: Cause) -> Result<(), Memory>
     requires { b.old.attributes ≡ [] }
-    ensures { OnOk result (Told b.old b.new (λ k. nodes_events (writing.cause_part cause) k)) }
+    ensures { OnOk result (Told b.old b.new (λ k. nodes_events (writing.cause_part cause none) k)) }
 {
     let text = cause_text(alloc, cause)?;
     open_part(b, Part::Cause)?;
     leaf(b, b"item", text.as_slice())?;
     close(b, b"otherSolutionResult")
+}
+
+/// Tells a bound, if there is one: its number, and the tree that shows it.
+pub(crate) fn tell_bound(
+    alloc: Global,
+    b: &mut TreeBuilder,
+    bound: &Option<ProvedBound>,
+) -> Result<(), Memory>
+    requires { b.old.attributes ≡ [] }
+    ensures { OnOk result (Told b.old b.new (λ k. nodes_events (writing.bound_parts bound.now) k)) }
+{
+    let Some(bound) = bound else {
+        return Ok(());
+    };
+    tell_numbers(alloc, b, Part::Bound, from_ref(&bound.number))?;
+    tell_trees(alloc, b, &bound.cert, &[])
 }
 
 /// Tells a point and its values.

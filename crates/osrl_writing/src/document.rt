@@ -8,12 +8,14 @@ ghost use Rattle.osrl_writing.specs.Writing as writing;
 ghost use Rattle.osrl_writing.specs.Words as words;
 ghost use Rattle.document_tags.specs.Telling.{Told, whole_element};
 
-use crate::certificates::{tell_cause, tell_certs, tell_numbers, tell_point, tell_trees};
+use crate::certificates::{
+    tell_bound, tell_cause, tell_certs, tell_numbers, tell_point, tell_trees,
+};
 use crate::parts::{Claiming, Part};
 use crate::report::{JobStatus, Report};
 use crate::values::{tell_dual_values, tell_point_values};
 use crate::words::Worded;
-use certificate::{Cause, Cert, Claim};
+use certificate::{Cause, Cert, Claim, ProvedBound};
 use document_tags::{close, leaf, leaf_with, open, open_with, told_text};
 use element_tree::TreeBuilder;
 use fraction::Frac;
@@ -95,26 +97,34 @@ fn tell_best_so_far(
     point: &[Frac],
     values: &[Frac],
     cause: Cause,
+    bound: &Option<ProvedBound>,
 ) -> Result<(), Memory>
     requires { b.old.attributes ≡ [] }
-    ensures { OnOk result (Told b.old b.new (nodes_events (writing.claim_nodes (BestSoFar point.now values.now cause)))) }
+    ensures { OnOk result (Told b.old b.new (nodes_events (writing.claim_nodes (BestSoFar point.now values.now cause bound.now)))) }
 {
     tell_status(b, Claiming::BestSoFar)?;
     tell_point_values(alloc, b, point, values)?;
     open(b, b"otherSolutionResults")?;
     tell_point(alloc, b, point, values)?;
     tell_cause(alloc, b, cause)?;
+    tell_bound(alloc, b, bound)?;
     close(b, b"otherSolutionResults")
 }
 
-/// Tells the solution of a claim of nothing.
-fn tell_unsure(alloc: Global, b: &mut TreeBuilder, cause: Cause) -> Result<(), Memory>
+/// Tells the solution of a claim of nothing but perhaps a bound.
+fn tell_unsure(
+    alloc: Global,
+    b: &mut TreeBuilder,
+    cause: Cause,
+    bound: &Option<ProvedBound>,
+) -> Result<(), Memory>
     requires { b.old.attributes ≡ [] }
-    ensures { OnOk result (Told b.old b.new (nodes_events (writing.claim_nodes (Unsure cause)))) }
+    ensures { OnOk result (Told b.old b.new (nodes_events (writing.claim_nodes (Unsure cause bound.now)))) }
 {
     tell_status(b, Claiming::Unsure)?;
     open(b, b"otherSolutionResults")?;
     tell_cause(alloc, b, cause)?;
+    tell_bound(alloc, b, bound)?;
     close(b, b"otherSolutionResults")
 }
 
@@ -153,8 +163,9 @@ fn tell_claim(alloc: Global, b: &mut TreeBuilder, claim: &Claim) -> Result<(), M
             point,
             values,
             cause,
-        } => tell_best_so_far(alloc, b, point.as_slice(), values.as_slice(), *cause),
-        Claim::Unsure { cause } => tell_unsure(alloc, b, *cause),
+            bound,
+        } => tell_best_so_far(alloc, b, point.as_slice(), values.as_slice(), *cause, bound),
+        Claim::Unsure { cause, bound } => tell_unsure(alloc, b, *cause, bound),
     }
 }
 

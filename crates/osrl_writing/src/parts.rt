@@ -13,9 +13,10 @@ pub enum Part {
     Point,
     Value,
     Ray,
+    Cause,
+    Bound,
     Rounds,
     Tree,
-    Cause,
 }
 
 /// What a solution's status claims.
@@ -36,9 +37,10 @@ pub fn part_name(part: Part) -> &'static [u8]
         Part::Point => b"os_cert.point",
         Part::Value => b"os_cert.value",
         Part::Ray => b"os_cert.ray",
+        Part::Cause => b"os_cert.cause",
+        Part::Bound => b"os_cert.bound",
         Part::Rounds => b"os_cert.rounds",
         Part::Tree => b"os_cert.tree",
-        Part::Cause => b"os_cert.cause",
     }
 }
 

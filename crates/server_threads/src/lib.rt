@@ -19,7 +19,6 @@
 
 mod links;
 mod means;
-mod open;
 mod places;
 mod promise;
 mod serve;
@@ -27,6 +26,6 @@ mod service;
 mod staff;
 
 pub use means::{ServeFault, ServeLimits};
-pub use open::OpenLink;
+pub use open_links::OpenLink;
 pub use serve::serve_loop;
 pub use service::Service;

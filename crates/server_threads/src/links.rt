@@ -9,13 +9,13 @@ ghost use Rattle.server_threads.specs.Serving.{stand, taken, MayTake};
 ghost use Rattle.server_threads.specs.OpenLinks.{GoesOn, Goes, LinksServed, CameSo, served_result, served_so};
 
 use crate::means::{Means, ServeFault};
-use crate::open::OpenLink;
 use crate::places::{Started, put_in, take_out};
 use crate::promise::{Finished, ToServe};
 use crate::service::Service;
 use crossbeam_channel::{Receiver, Sender};
 use desk::{DeskOf, LentSeatOf, SeatOf, Slotted};
 use job_table::Verdicts;
+use open_links::OpenLink;
 use os_io::{Close, Failed, Link, Listener};
 use std::alloc::Global;
 use std::marker::PhantomData;

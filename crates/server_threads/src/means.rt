@@ -14,14 +14,17 @@ use os_io::{Link, Memory};
 use std::alloc::Global;
 use std::collections::VecDeque;
 use std::sync::atomic::AtomicU64;
+use thiserror::Error;
 use workers::{Naps, Wake, wake_pair};
 
 /// Serving ended before all links were served.
-#[derive(Clone, Copy, PartialEq, Eq, Drop)]
+#[derive(Clone, Copy, PartialEq, Eq, Debug, Drop, Error)]
 pub enum ServeFault {
     /// The listener failed: its count of faults rose.
+    #[error("the listener failed")]
     Failed,
     /// There was no memory, and no link was taken.
+    #[error("there was no memory")]
     Memory,
 }
 

@@ -3,9 +3,9 @@
 ghost use Rattle.std.specs.Prelude.{List};
 ghost use Rattle.job_table.specs.History.{MoveEntry};
 
-use crate::open::OpenLink;
 use job_runs::Runner;
 use job_table::{Mover, Verdicts};
+use open_links::OpenLink;
 use os_io::{Close, Stream};
 use std::alloc::Global;
 use std::sync::Wait;

@@ -1,6 +1,7 @@
 pub mod Envelopes
-pub mod CallParts
-pub mod Calls
+pub mod Walks
+pub mod FoundCalls
+pub mod Listenings
 pub mod AnswerEnvelopes
 pub mod OneCall
 pub mod OneAnswer

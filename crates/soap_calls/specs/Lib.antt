@@ -2,6 +2,9 @@ pub mod Envelope
 pub mod Calls
 pub mod Replies
 pub mod Refusals
+pub mod Marked
+pub mod Listening
+pub mod Leaving
 pub mod Reading
 pub mod Writing
 pub mod Back

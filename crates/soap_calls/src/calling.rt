@@ -1,66 +1,24 @@
 //! Reads calls.
 
 ghost use Rattle.std.specs.Prelude.{◌≡◌, [], List, ℕ, None, Some, Err, IfOk, IfErr};
-ghost use Rattle.tree_grammar.specs.Elements.{Element, events};
-ghost use Rattle.document_tags.specs.Spots.{StandsAt};
-ghost use Rattle.soap_calls.specs.Calls.{IsCall, IsCallIn, IsCallText};
+ghost use Rattle.soap_calls.specs.Calls.{IsCallText};
 ghost use Rattle.soap_calls.specs.Refusals.{CallFails};
 ghost use Rattle.doc_tree.specs.declared.fault.TreeFault as trees;
-ghost use Rattle.soap_calls.specs.Reading.{RefusesElement, RefusesRoot, HasTaken, TakesMore, more_none, more_both, tree_fault};
+ghost use Rattle.soap_calls.specs.Reading.{HasTaken, TakesMore, more_none, more_both, tree_fault};
 
 use crate::call::SoapCall;
-use crate::envelope::held;
 use crate::fault::SoapFault;
-use crate::parts::read_parts;
-use doc_tree::{Reader, TreeFault};
-use document_tags::{Spot, told_name};
-use element_tree::Tree;
-use os_io::{Body, MOST_BYTES};
-use six_calls::CallKind;
+use crate::listening::EnvelopeReader;
+use doc_tree::TreeFault;
+use os_io::Body;
 use std::alloc::Global;
 
-/// The call that an element is, or why it is none.
-fn read_element(alloc: Global, spot: Spot<'_>) -> Result<SoapCall, SoapFault>
-    ensures ok { (e : Element) → StandsAt spot.entry e → IfOk result (IsCall e) }
-    ensures err { (e : Element) → StandsAt spot.entry e → IfErr result (RefusesElement e) }
-{
-    let Some(kind) = CallKind::named(spot.name()) else {
-        let name = told_name(alloc, spot.name())?;
-        return Err(SoapFault::Call { name });
-    };
-    match read_parts(alloc, spot, kind) {
-        Ok(parts) => Ok(SoapCall { kind, parts }),
-        Err(fault) => Err(fault),
-    }
-}
-
-/// The call in an envelope, or why there is none.
-fn read_root(alloc: Global, root: Spot<'_>) -> Result<SoapCall, SoapFault>
-    ensures ok { (e : Element) → StandsAt root.entry e → IfOk result (IsCallIn e) }
-    ensures err { (e : Element) → StandsAt root.entry e → IfErr result (RefusesRoot e) }
-{
-    let Some(call) = held(alloc, root)? else {
-        return Err(SoapFault::Envelope);
-    };
-    read_element(alloc, call)
-}
-
-/// The call in a tree, or why there is none.
-fn read_tree(alloc: Global, tree: &Tree) -> Result<SoapCall, SoapFault>
-    ensures ok { (e : Element) → tree.now ≡ events e → IfOk result (IsCallIn e) }
-    ensures err { (e : Element) → tree.now ≡ events e → IfErr result (RefusesRoot e) }
-{
-    match Spot::root(tree) {
-        Some(root) => read_root(alloc, root),
-        None => Err(SoapFault::Envelope),
-    }
-}
-
-/// Reads the call whose envelope comes in pieces, as the body of a request does. It holds what was read, and no bytes beside.
+/// Reads the call whose envelope comes in pieces, as the body of a request does, mark by mark. It holds the texts of the call's
+/// parts as they came so far, each once, and of the envelope nothing else.
 #[derive(Drop)]
 pub struct CallReader {
     alloc: Global,
-    reader: Reader,
+    reader: EnvelopeReader,
 }
 
 impl CallReader {
@@ -71,7 +29,7 @@ impl CallReader {
     {
         CallReader {
             alloc,
-            reader: Reader::new(alloc, MOST_BYTES),
+            reader: EnvelopeReader::new(alloc),
         }
     }
 
@@ -87,7 +45,7 @@ impl CallReader {
     {
         let CallReader { alloc, reader } = self;
         match reader.finish() {
-            Ok(tree) => read_tree(alloc, &tree),
+            Ok(found) => found.call(alloc),
             Err(TreeFault::Memory) => Err(SoapFault::Memory),
             Err(_) => Err(SoapFault::Envelope),
         }
@@ -103,7 +61,7 @@ impl Body for CallReader {
 
     /// A piece that is refused is refused again at the end, and so is one for which there was no memory.
     fn take(&mut self, piece: &[u8]) {
-        let _ = self.reader.feed(piece);
+        self.reader.feed(piece);
     }
 }
 

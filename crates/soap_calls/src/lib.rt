@@ -1,10 +1,10 @@
 //! The six calls of the Optimization Services in SOAP envelopes, and what answers them (SOAP 1.1, sections 4 and 7).
 //!
 //! [`read_call`] gives the [`SoapCall`] that bytes are the envelope of, or by a [`SoapFault`] why they are none, and a
-//! [`CallReader`] that of bytes that come in pieces, which it doesn't keep; [`write_call`] writes a call, and [`call_of`] makes
-//! one of the texts of its [`Parts`]. [`write_reply`] and [`write_fault`] write what answers a call, and [`read_reply`] reads
-//! that as an [`Answer`], or says by a [`NotReply`] why bytes are none. What is written is read back:
-//! [`calls_are_read_back`], [`returns_are_read_back`], [`faults_are_read_back`].
+//! [`CallReader`] that of bytes that come in pieces, of which it keeps the texts of the call's parts alone; [`write_call`]
+//! writes a call, and [`call_of`] makes one of the texts of its [`Parts`]. [`write_reply`] and [`write_fault`] write what answers
+//! a call, and [`read_reply`] reads that as an [`Answer`], or says by a [`NotReply`] why bytes are none. What is written is read
+//! back: [`calls_are_read_back`], [`returns_are_read_back`], [`faults_are_read_back`].
 #![tactic(auto)]
 
 mod answering;
@@ -13,9 +13,11 @@ mod calling;
 mod envelope;
 mod fault;
 mod laws;
+mod listening;
 mod parts;
 mod replies;
 mod replying;
+mod standing;
 mod telling;
 
 pub use call::{Parts, SoapCall};

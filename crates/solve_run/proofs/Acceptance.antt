@@ -1,5 +1,5 @@
 -- What a report claims is accepted, from the report's own text.
-use Rattle.std.proofs.Common.{◌≡◌, ◌∙◌, ℕ, ◌⊎◌, inl, inr, Bool, Option, None, Some, List, arith, ap, sym, subst}
+use Rattle.std.proofs.Common.{◌≡◌, ◌∙◌, ℕ, ◌⊎◌, inl, inr, Bool, Option, None, Some, List, arith, refl, ap, sym, subst}
 use Rattle.evidence.specs.Instance.{Problem, IsProblem}
 use Rattle.evidence.specs.Claim.{Accepts}
 use Rattle.instance.specs.Parts.{Parts, IsValid}
@@ -31,6 +31,7 @@ use Rattle.solve_run.proofs.InkedTexts.{IsMessage}
 use Rattle.solve_run.proofs.FaultMessages.{options_message, instance_message}
 use Rattle.solve_run.proofs.Names.{short_name, bare_name}
 use Rattle.solve_run.proofs.PartialClaims.{given_other, given_shown}
+use Rattle.solve_run.proofs.ClaimNodes.{none_bounded}
 use Rattle.solve_run.proofs.WidthRefusals.{best_accepted}
 use Rattle.solve_run.proofs.RoundTrips.{shown_back, wanting_causes}
 use Rattle.solve_run.proofs.Runs.{claim_short, wanting}
@@ -47,16 +48,20 @@ accepts_of : (p : Parts) (c : Claim) (k : Kind) → IsShownClaim p c → (IsFina
 accepts_of p (Has.Optimal x vs cs) k s final is = final tt
 accepts_of p (Has.Infeasible cert) k s final is = final tt
 accepts_of p (Has.Unbounded x vs cs r) k s final is = final tt
-accepts_of p (Has.BestSoFar x vs c) k s final is = best_accepted p x vs c s
-accepts_of p (Has.Unsure c) k s final is = absurd (cc)
+accepts_of p (Has.BestSoFar x vs c None) k s final is = best_accepted p x vs c s
+accepts_of p (Has.BestSoFar x vs c (Some b)) k s final is = absurd (none_bounded p (Has.BestSoFar x vs c (Some b)) b s refl)
+accepts_of p (Has.Unsure c None) k s final is = absurd (cc)
+accepts_of p (Has.Unsure c (Some b)) k s final is = absurd (none_bounded p (Has.Unsure c (Some b)) b s refl)
 
--- a claim that isn't final carries no certificate
-no_certificates : (c : Claim) → (IsFinal c → ⊥) → HasFewRounds c
-no_certificates (Has.Optimal x vs cs) other = absurd (other tt)
-no_certificates (Has.Infeasible cert) other = absurd (other tt)
-no_certificates (Has.Unbounded x vs cs r) other = absurd (other tt)
-no_certificates (Has.BestSoFar x vs c) other = λ k d h. absurd (omega (arith, h))
-no_certificates (Has.Unsure c) other = λ k d h. absurd (omega (arith, h))
+-- a claim of a search that isn't final carries no certificate
+no_certificates : (p : Parts) (c : Claim) → IsShownClaim p c → (IsFinal c → ⊥) → HasFewRounds c
+no_certificates p (Has.Optimal x vs cs) s other = absurd (other tt)
+no_certificates p (Has.Infeasible cert) s other = absurd (other tt)
+no_certificates p (Has.Unbounded x vs cs r) s other = absurd (other tt)
+no_certificates p (Has.BestSoFar x vs c None) s other = λ k d h. absurd (omega (arith, h))
+no_certificates p (Has.BestSoFar x vs c (Some b)) s other = absurd (none_bounded p (Has.BestSoFar x vs c (Some b)) b s refl)
+no_certificates p (Has.Unsure c None) s other = λ k d h. absurd (omega (arith, h))
+no_certificates p (Has.Unsure c (Some b)) s other = absurd (none_bounded p (Has.Unsure c (Some b)) b s refl)
 
 module _ (p : Parts) (job : Option (List ℕ)) (valid : IsValid p) (name : IsShortName job) where
   -- a claim that isn't final
@@ -125,7 +130,7 @@ module _ (names : (bytes : List ℕ) (o : Options) → IsOptionsText bytes o →
         parts = g.parts;
         instance_text = g.instance_text;
         claim = c;
-        back = shown_back g.parts c g.valid claimed (no_certificates c (wanting c b.moment.best b.tells)) (wanting_causes c b.moment.best b.tells.cause);
+        back = shown_back g.parts c g.valid claimed (no_certificates g.parts c claimed (wanting c b.moment.best b.tells)) (wanting_causes c b.moment.best b.tells.cause);
         good = other_good g.parts job g.valid named.1 c claimed (wanting c b.moment.best b.tells);
         is = is;
       }
@@ -166,7 +171,7 @@ module _ (names : (bytes : List ℕ) (o : Options) → IsOptionsText bytes o →
   answer_good osil osol asked r c k (solved stop looks may s) stands says = solved_good osil osol stop looks r s
   answer_good osil osol asked r c k (gave_up a) stands says = by a.claims
     where
-      by : (a.claim ≡ Has.Unsure causes.Memory) ⊎ IsBestOfSearch osil osol a.claim → IsGoodReport osil r
+      by : (a.claim ≡ Has.Unsure causes.Memory None) ⊎ IsBestOfSearch osil osol a.claim → IsGoodReport osil r
       by (inl unsure) =
           let same = same_claim r a.job a.claim c a.is stands in
           let told : kind c ≡ None = ap kind (sym same ∙ unsure) in
@@ -180,10 +185,10 @@ module _ (names : (bytes : List ℕ) (o : Options) → IsOptionsText bytes o →
       (comes_back (error_report job message) (record { short = error_short job short message told.short; job = bare; message = told.bare; claim = tt }))
 
   -- and so is one that tells nothing
-  unsure_read : (job : Option (List ℕ)) (c : Cause) (r : Report) → IsBareOrNone job → IsShortName job → CauseComesBack c → r ≡ claim_report job (Has.Unsure c) → IsReportText (report_text r) r
+  unsure_read : (job : Option (List ℕ)) (c : Cause) (r : Report) → IsBareOrNone job → IsShortName job → CauseComesBack c → r ≡ claim_report job (Has.Unsure c None) → IsReportText (report_text r) r
   unsure_read job c r bare short back is =
       subst (λ (s : Report). IsReportText (report_text s) s) (sym is)
-      (comes_back (claim_report job (Has.Unsure c)) (record { short = unsure_short job short c; job = bare; message = tt; claim = back }))
+      (comes_back (claim_report job (Has.Unsure c None)) (record { short = unsure_short job short c; job = bare; message = tt; claim = (back, tt) }))
 
   pub answer_read : (osil osol : List ℕ) (asked : Bool) (r : Report) → AnswersJob osil osol asked r → IsReportText (report_text r) r
   answer_read osil osol asked r (no_options a) = error_read None a.message r tt tt (options_message a.fault a.message a.says) a.is
@@ -193,7 +198,7 @@ module _ (names : (bytes : List ℕ) (o : Options) → IsOptionsText bytes o →
   answer_read osil osol asked r (solved stop looks may s) = good_read osil r (solved_good osil osol stop looks r s)
   answer_read osil osol asked r (gave_up a) = by a.claims
     where
-      by : (a.claim ≡ Has.Unsure causes.Memory) ⊎ IsBestOfSearch osil osol a.claim → IsReportText (report_text r) r
+      by : (a.claim ≡ Has.Unsure causes.Memory None) ⊎ IsBestOfSearch osil osol a.claim → IsReportText (report_text r) r
       by (inl unsure) =
           let named = job_bare osol a.job a.whose in
           unsure_read a.job causes.Memory r named.0 named.1 tt (a.is ∙ ap (claim_report a.job) unsure)

@@ -8,6 +8,7 @@ use Rattle.evidence.specs.Instance.{Instance, Problem, width, height}
 use Rattle.evidence.specs.OneDenominator.{number_at}
 use Rattle.evidence.specs.Cases.{Multiplier, Node}
 use Rattle.evidence.specs.Rounds.{Certificate, derive}
+use Rattle.evidence.specs.ProvedBounds as With
 use Rattle.evidence.specs.Claim as Says
 use Rattle.evidence.proofs.AddedRows.{height_added}
 use Rattle.instance.specs.Parts.{Parts, IsValid}
@@ -15,6 +16,7 @@ use Rattle.instance.specs.Program.{problem, variable, row, goal, goals}
 use Rattle.certificate.specs.Meanings as Means
 use Rattle.certificate.specs.Nodes.{certs_of, nodes_of, IsInRange}
 use Rattle.certificate.specs.declared.nodes.Cert.{Cert}
+use Rattle.certificate.specs.declared.claims.ProvedBound.{ProvedBound}
 use Rattle.certificate.specs.declared.claims.Claim.{Claim}
 use Rattle.certificate.specs.declared.claims.Claim.TheVariants as Has
 use Rattle.osol_grammar.specs.Limits.{most_rounds}
@@ -25,24 +27,47 @@ use Rattle.solve_run.specs.Judging.{IsShownClaim, HasFewRounds}
 use Rattle.solve_run.proofs.Numbers.{HasColumn, IsWithin, nodes_within, some_nodes, in_range}
 use Rattle.solve_run.proofs.LevelProofs.{ProvesIn, most_columns, best_levels, endless_levels}
 
+-- that of a bound
+abbrev pub bound_certificates : Option With.ProvedBound → List Certificate
+bound_certificates None = []
+bound_certificates (Some b) = b.certificate ∷ []
+
 -- what is said carries these certificates
 abbrev pub said_certificates : Says.Claim → List Certificate
 said_certificates (Says.Optimal x vs cs) = cs
 said_certificates (Says.Infeasible c) = c ∷ []
 said_certificates (Says.Unbounded x vs cs r) = cs
-said_certificates (Says.BestSoFar x vs) = []
-said_certificates Says.Unsure = []
+said_certificates (Says.BestSoFar x vs b) = bound_certificates b
+said_certificates (Says.Unsure b) = bound_certificates b
 
 meant : (c : Claim) → said_certificates (Means.claim c) ≡ Means.certificates (certs_of c)
 meant (Has.Optimal x vs cs) = refl
 meant (Has.Infeasible cert) = refl
 meant (Has.Unbounded x vs cs r) = refl
-meant (Has.BestSoFar x vs c) = refl
-meant (Has.Unsure c) = refl
+meant (Has.BestSoFar x vs c None) = refl
+meant (Has.BestSoFar x vs c (Some b)) = refl
+meant (Has.Unsure c None) = refl
+meant (Has.Unsure c (Some b)) = refl
 
 -- a claim carries those of its outcome
 pub carried : (c : Claim) (o : Outcome) → ClaimTells c o → said_certificates (said o) ≡ Means.certificates (certs_of c)
 carried c o tells = sym (ap said_certificates tells.says) ∙ meant c
+
+-- a search has no bound
+abbrev pub bound_said : Says.Claim → Option With.ProvedBound
+bound_said (Says.BestSoFar x vs b) = b
+bound_said (Says.Unsure b) = b
+bound_said c = None
+
+none_said : (o : Outcome) → bound_said (said o) ≡ None
+none_said (Optimal x vs cs) = refl
+none_said (Infeasible c) = refl
+none_said (Unbounded x vs cs r) = refl
+none_said (BestSoFar x vs c) = refl
+none_said (Unsure c) = refl
+
+pub none_bounded : (p : Parts) (c : Claim) (b : ProvedBound) → IsShownClaim p c → bound_said (Means.claim c) ≡ Some (Means.proved b) → ⊥
+none_bounded p c b s is = let clash : Some (Means.proved b) ≡ None = sym is ∙ ap bound_said s.tells.says ∙ none_said s.outcome in cc
 
 -- its columns are below n, and its tree has nodes
 pub record IsCertWithin (n : ℕ) (c : Certificate) : Type 0 where

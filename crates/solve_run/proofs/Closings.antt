@@ -15,11 +15,11 @@ use Rattle.solve_run.specs.Runs.{HasCauses, IsFittedDocument, IsClaimTold}
 use Rattle.solve_run.proofs.RoundTrips.{shown_back}
 
 given_back : (c : Claim) (cause : Cause) → CauseComesBack cause → ClaimComesBack (Some c) → ClaimComesBack (Some (given_up c cause))
-given_back (Optimal x vs cs) cause h back = (back.0, h)
-given_back (Infeasible cert) cause h back = h
-given_back (Unbounded x vs cs r) cause h back = (back.0, h)
-given_back (BestSoFar x vs old) cause h back = (back.0, h)
-given_back (Unsure old) cause h back = h
+given_back (Optimal x vs cs) cause h back = (back.0, h, tt)
+given_back (Infeasible cert) cause h back = (h, tt)
+given_back (Unbounded x vs cs r) cause h back = (back.0, h, tt)
+given_back (BestSoFar x vs old b) cause h back = (back.0, h, tt)
+given_back (Unsure old b) cause h back = (h, tt)
 
 checked_back : (c : Claim) (turns : ℕ) (width : Option ℕ) → turns < 2 ^ 64 → IfSome width (λ n. n < 2 ^ 32) → ClaimComesBack (Some c) → ClaimComesBack (Some (checked c turns width))
 checked_back c turns None few node h = h

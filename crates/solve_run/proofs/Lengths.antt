@@ -148,23 +148,23 @@ module _ (job : Option (List ℕ)) (short : IsShortName job) where
       let most = around c in
       omega (arith, all, most, few)
 
-  unsure_size : (c : Cause) → nodes_size (claim_nodes (Unsure c)) ≤ 4000000
+  unsure_size : (c : Cause) → nodes_size (claim_nodes (Unsure c None)) ≤ 4000000
   unsure_size c =
       let text = text_size (cause_text c) in
       let cause = cause_size c in
       omega (arith, text, cause)
 
-  best_size : (x vs : List Frac) (c : Cause) → length x ≤ 1000 → length vs ≤ 8 → nodes_size (claim_nodes (BestSoFar x vs c)) ≤ 4000000
+  best_size : (x vs : List Frac) (c : Cause) → length x ≤ 1000 → length vs ≤ 8 → nodes_size (claim_nodes (BestSoFar x vs c None)) ≤ 4000000
   best_size x vs c few asked =
       let text = text_size (cause_text c) in
       let cause = cause_size c in
       omega (arith, text, cause, values_size 0 x, items_size x, goals_size 1 vs, items_size vs, few, asked)
 
-  pub unsure_short : (c : Cause) → IsShort job (Unsure c)
-  unsure_short c = whole_size (Unsure c) (unsure_size c)
+  pub unsure_short : (c : Cause) → IsShort job (Unsure c None)
+  unsure_short c = whole_size (Unsure c None) (unsure_size c)
 
-  pub best_short : (x vs : List Frac) (c : Cause) → length x ≤ 1000 → length vs ≤ 8 → IsShort job (BestSoFar x vs c)
-  best_short x vs c few asked = whole_size (BestSoFar x vs c) (best_size x vs c few asked)
+  pub best_short : (x vs : List Frac) (c : Cause) → length x ≤ 1000 → length vs ≤ 8 → IsShort job (BestSoFar x vs c None)
+  best_short x vs c few asked = whole_size (BestSoFar x vs c None) (best_size x vs c few asked)
 
   -- the document of an error with a short message isn't either
   error_size : (message : List ℕ) → length message ≤ 300 → nodes_size (report_element (error_report job message)).children ≤ 10000

@@ -1,18 +1,20 @@
 -- A claim is told by its outcome.
-use Rattle.std.proofs.Common.{◌≡◌, ◌∙◌, List, [], ◌∷◌, map, refl, ap, sym, subst}
+use Rattle.std.proofs.Common.{◌≡◌, ◌∙◌, Option, None, Some, List, [], ◌∷◌, map, refl, ap, sym, subst}
 use Rattle.rational.specs.Ratio.{IsSame}
 use Rattle.fraction.specs.Frac.{ratio, ratios}
 use Rattle.fraction.specs.declared.frac.Frac.{Frac}
 use Rattle.evidence.specs.Cases as Of
 use Rattle.evidence.specs.Rounds.{Certificate}
+use Rattle.evidence.specs.ProvedBounds as Early
 use Rattle.evidence.specs.Claim as Says
 use Rattle.certificate.specs.declared.lists.Mult.{Mult}
 use Rattle.certificate.specs.declared.nodes.Node.{Node}
 use Rattle.certificate.specs.declared.nodes.Node.TheVariants.{Split, Zero, Clash, Farkas, Bound}
 use Rattle.certificate.specs.declared.nodes.Cert.{Cert}
+use Rattle.certificate.specs.declared.claims.ProvedBound.{ProvedBound}
 use Rattle.certificate.specs.declared.claims.Claim.{Claim}
 use Rattle.certificate.specs.declared.claims.Claim.TheVariants as Has
-use Rattle.certificate.specs.Meanings.{multiplier, multipliers, node, certificate, certificates, claim}
+use Rattle.certificate.specs.Meanings.{multiplier, multipliers, node, certificate, certificates, proved, bound, claim}
 use Rattle.search_rules.specs.Search.{Outcome}
 use Rattle.branch_bound.specs.Claims.{ClaimTells, claimed_cause}
 
@@ -60,6 +62,18 @@ module _ (fractions : (x y : Frac) → IsSame (ratio x) (ratio y) → x ≡ y) w
   certs_once : (cs ds : List Cert) → certificates cs ≡ certificates ds → cs ≡ ds
   certs_once cs ds e = each_once certificate cert_once cs ds e
 
+  proved_once : (a b : ProvedBound) → proved a ≡ proved b → a ≡ b
+  proved_once a b e =
+      let number = fraction_once a.number b.number (ap (λ (x : Early.ProvedBound). x.number) e) in
+      let cert = cert_once a.cert b.cert (ap (λ (x : Early.ProvedBound). x.certificate) e) in
+      λ i. record { number = number i; cert = cert i }
+
+  bound_once : (g h : Option ProvedBound) → bound g ≡ bound h → g ≡ h
+  bound_once None None e = refl
+  bound_once None (Some b) e = let clash : None ≡ Some (proved b) = e in absurd (cc)
+  bound_once (Some a) None e = let clash : Some (proved a) ≡ None = e in absurd (cc)
+  bound_once (Some a) (Some b) e = let both : Some (proved a) ≡ Some (proved b) = e in ap (λ (x : ProvedBound). let o : Option ProvedBound = Some x in o) (proved_once a b (cc))
+
   -- what a claim says and its cause are all of it
   same_claim : (c d : Claim) → claim c ≡ claim d → claimed_cause c ≡ claimed_cause d → c ≡ d
   same_claim (Has.Optimal x vs cs) (Has.Optimal y ws ds) e f =
@@ -78,13 +92,18 @@ module _ (fractions : (x y : Frac) → IsSame (ratio x) (ratio y) → x ≡ y) w
       let t : cs ≡ ds = certs_once cs ds (cc) in
       let u : r ≡ s = points_once r s (cc) in
       cc
-  same_claim (Has.BestSoFar x vs b) (Has.BestSoFar y ws c) e f =
-      let all : Says.BestSoFar (ratios x) (ratios vs) ≡ Says.BestSoFar (ratios y) (ratios ws) = e in
+  same_claim (Has.BestSoFar x vs b g) (Has.BestSoFar y ws c h) e f =
+      let all : Says.BestSoFar (ratios x) (ratios vs) (bound g) ≡ Says.BestSoFar (ratios y) (ratios ws) (bound h) = e in
       let p : x ≡ y = points_once x y (cc) in
       let q : vs ≡ ws = points_once vs ws (cc) in
+      let r : g ≡ h = bound_once g h (cc) in
       let s : b ≡ c = cc in
       cc
-  same_claim (Has.Unsure b) (Has.Unsure c) e f = let s : b ≡ c = cc in cc
+  same_claim (Has.Unsure b g) (Has.Unsure c h) e f =
+      let all : Says.Unsure (bound g) ≡ Says.Unsure (bound h) = e in
+      let r : g ≡ h = bound_once g h (cc) in
+      let s : b ≡ c = cc in
+      cc
   same_claim c d e f = absurd (cc)
 
   -- an outcome is told by one claim

@@ -19,8 +19,8 @@ pub given_other : (c : Claim) (cause : Cause) → IsFinal (given_up c cause) →
 given_other (Has.Optimal x vs cs) cause f = f
 given_other (Has.Infeasible cert) cause f = f
 given_other (Has.Unbounded x vs cs r) cause f = f
-given_other (Has.BestSoFar x vs c) cause f = f
-given_other (Has.Unsure c) cause f = f
+given_other (Has.BestSoFar x vs c b) cause f = f
+given_other (Has.Unsure c b) cause f = f
 
 -- what is left of a claim that is given up tells what is left of its outcome
 abbrev left : Outcome → Cause → Outcome
@@ -42,19 +42,19 @@ abbrev point_said : Says.Claim → Option (List Ratio × List Ratio)
 point_said (Says.Optimal x vs cs) = Some (x, vs)
 point_said (Says.Infeasible c) = None
 point_said (Says.Unbounded x vs cs r) = Some (x, vs)
-point_said (Says.BestSoFar x vs) = Some (x, vs)
-point_said Says.Unsure = None
+point_said (Says.BestSoFar x vs b) = Some (x, vs)
+point_said (Says.Unsure b) = None
 
 abbrev with_point : Option (List Ratio × List Ratio) → Says.Claim
-with_point None = Says.Unsure
-with_point (Some xv) = Says.BestSoFar xv.0 xv.1
+with_point None = Says.Unsure None
+with_point (Some xv) = Says.BestSoFar xv.0 xv.1 None
 
 given_says : (c : Claim) (cause : Cause) → Means.claim (given_up c cause) ≡ with_point (point_said (Means.claim c))
 given_says (Has.Optimal x vs cs) cause = refl
 given_says (Has.Infeasible cert) cause = refl
 given_says (Has.Unbounded x vs cs r) cause = refl
-given_says (Has.BestSoFar x vs c) cause = refl
-given_says (Has.Unsure c) cause = refl
+given_says (Has.BestSoFar x vs c b) cause = refl
+given_says (Has.Unsure c b) cause = refl
 
 left_says : (o : Outcome) (cause : Cause) → said (left o cause) ≡ with_point (point_said (said o))
 left_says (Optimal x vs cs) cause = refl
@@ -67,8 +67,8 @@ given_cause : (c : Claim) (cause : Cause) → claimed_cause (given_up c cause) �
 given_cause (Has.Optimal x vs cs) cause = refl
 given_cause (Has.Infeasible cert) cause = refl
 given_cause (Has.Unbounded x vs cs r) cause = refl
-given_cause (Has.BestSoFar x vs c) cause = refl
-given_cause (Has.Unsure c) cause = refl
+given_cause (Has.BestSoFar x vs c b) cause = refl
+given_cause (Has.Unsure c b) cause = refl
 
 left_cause : (o : Outcome) (cause : Cause) → cause_of (left o cause) ≡ Some cause
 left_cause (Optimal x vs cs) cause = refl

@@ -102,8 +102,8 @@ abbrev HasValues : Says.Claim → Type 0
 HasValues (Says.Optimal x vs cs) = (0 < length vs) × (0 < length cs)
 HasValues (Says.Infeasible c) = Unit {0}
 HasValues (Says.Unbounded x vs cs r) = 0 < length vs
-HasValues (Says.BestSoFar x vs) = 0 < length vs
-HasValues Says.Unsure = Unit {0}
+HasValues (Says.BestSoFar x vs b) = 0 < length vs
+HasValues (Says.Unsure b) = Unit {0}
 
 module _ (P : Problem) where
   some_values : (x vs : List Ratio) → IsPoint P x vs → 0 < length vs
@@ -129,8 +129,10 @@ claim_back : (c : Claim) → HasValues (claim c) → AreWithin (certs_of c) → 
 claim_back (Has.Optimal x vs cs) values within none causes = (omega (arith, values.0, length-map vs ratio), some_back cs values.1 within none)
 claim_back (Has.Infeasible cert) values within none causes = trees_back cert [] within none
 claim_back (Has.Unbounded x vs cs r) values within none causes = (omega (arith, values, length-map vs ratio), all_back cs within none)
-claim_back (Has.BestSoFar x vs c) values within none causes = (omega (arith, values, length-map vs ratio), causes)
-claim_back (Has.Unsure c) values within none causes = causes
+claim_back (Has.BestSoFar x vs c None) values within none causes = (omega (arith, values, length-map vs ratio), causes, tt)
+claim_back (Has.BestSoFar x vs c (Some b)) values within none causes = (omega (arith, values, length-map vs ratio), causes, trees_back b.cert [] within none)
+claim_back (Has.Unsure c None) values within none causes = (causes, tt)
+claim_back (Has.Unsure c (Some b)) values within none causes = (causes, trees_back b.cert [] within none)
 
 -- a claim that is shown, of few rounds, whose cause has numbers of its types
 pub shown_back : (p : Parts) (c : Claim) → IsValid p → IsShownClaim p c → HasFewRounds c → HasCauses c → ClaimComesBack (Some c)
@@ -151,8 +153,8 @@ causes_back : (c : Claim) → claimed_cause c ≡ Some Memory → HasCauses c
 causes_back (Has.Optimal x vs cs) e = tt
 causes_back (Has.Infeasible cert) e = tt
 causes_back (Has.Unbounded x vs cs r) e = tt
-causes_back (Has.BestSoFar x vs c) e = cause_back c e
-causes_back (Has.Unsure c) e = cause_back c e
+causes_back (Has.BestSoFar x vs c b) e = cause_back c e
+causes_back (Has.Unsure c b) e = cause_back c e
 
 pub wanting_causes : (c : Claim) (best : Option Found) → claimed_cause c ≡ cause_of (early best Memory) → HasCauses c
 wanting_causes c best e = causes_back c (e ∙ memory_cause best)

@@ -40,7 +40,7 @@ use Rattle.solve_run.specs.Runs.{Reports, no_options, no_instance, solved, gave_
 use Rattle.solve_run.proofs.Lengths.{IsShortName, best_short, unsure_short}
 use Rattle.solve_run.proofs.Names.{short_name}
 use Rattle.solve_run.proofs.WidthRefusals.{decided, few_values}
-use Rattle.solve_run.proofs.ClaimNodes.{carried}
+use Rattle.solve_run.proofs.ClaimNodes.{carried, none_bounded}
 use Rattle.solve_run.proofs.FewRounds.{answer_few}
 
 -- ---- claims that are given up
@@ -50,8 +50,10 @@ pub claim_short : (p : Parts) (job : Option (List ℕ)) (c : Claim) → IsValid 
 claim_short p job (Has.Optimal x vs cs) valid name s other = absurd (other tt)
 claim_short p job (Has.Infeasible cert) valid name s other = absurd (other tt)
 claim_short p job (Has.Unbounded x vs cs r) valid name s other = absurd (other tt)
-claim_short p job (Has.BestSoFar x vs c) valid name s other = let (few, asked) = few_values p x vs c valid s in best_short job name x vs c few asked
-claim_short p job (Has.Unsure c) valid name s other = unsure_short job name c
+claim_short p job (Has.BestSoFar x vs c None) valid name s other = let (few, asked) = few_values p x vs c valid s in best_short job name x vs c few asked
+claim_short p job (Has.BestSoFar x vs c (Some b)) valid name s other = absurd (none_bounded p (Has.BestSoFar x vs c (Some b)) b s refl)
+claim_short p job (Has.Unsure c None) valid name s other = unsure_short job name c
+claim_short p job (Has.Unsure c (Some b)) valid name s other = absurd (none_bounded p (Has.Unsure c (Some b)) b s refl)
 
 -- what is told of it is the claim itself
 kept : (p : Parts) (job : Option (List ℕ)) (turns : ℕ) (found told : Claim) → (IsFinal found → ⊥) → IsShort job found → IsToldOf p job turns found told → told ≡ found
@@ -134,8 +136,8 @@ module _ (osil osol : List ℕ) (o : Options) (p : Parts) (valid : IsValid p) (o
 -- nothing is told for want of memory, of this job
 untold : (osil osol : List ℕ) (n : ℕ) (killed : Bool) (job : Option (List ℕ)) (doc : Document) → IsJobOf osol job → IsMemoryDocument job doc → TellsOutcome osil osol n killed doc
 untold osil osol n killed job doc whose is = record {
-  report = claim_report job (Has.Unsure Memory);
-  reports = gave_up (record { job = job; whose = whose; claim = Has.Unsure Memory; claims = inl refl; is = refl });
+  report = claim_report job (Has.Unsure Memory None);
+  reports = gave_up (record { job = job; whose = whose; claim = Has.Unsure Memory None; claims = inl refl; is = refl });
   is = is;
 }
 

@@ -105,19 +105,19 @@ pub decided : (c : Claim) (o : Outcome) → IsFinal c → Means.claim c ≡ said
 decided c (Optimal y vs cs) f e = tt
 decided c (Infeasible cert) f e = tt
 decided c (Unbounded y vs cs r) f e = tt
-decided (Has.BestSoFar x vs c) (BestSoFar y ws d) f e = f
-decided (Has.BestSoFar x vs c) (Unsure d) f e = f
-decided (Has.Unsure c) (BestSoFar y ws d) f e = f
-decided (Has.Unsure c) (Unsure d) f e = f
+decided (Has.BestSoFar x vs c b) (BestSoFar y ws d) f e = f
+decided (Has.BestSoFar x vs c b) (Unsure d) f e = f
+decided (Has.Unsure c b) (BestSoFar y ws d) f e = f
+decided (Has.Unsure c b) (Unsure d) f e = f
 decided c o f e = absurd (cc)
 
 -- a best point so far has a number for each variable, and a value for each goal
-pub few_values : (p : Parts) (x vs : List Frac) (c : Cause) → IsValid p → IsShownClaim p (Has.BestSoFar x vs c) → (length x ≤ 1000) × (length vs ≤ 8)
+pub few_values : (p : Parts) (x vs : List Frac) (c : Cause) → IsValid p → IsShownClaim p (Has.BestSoFar x vs c None) → (length x ≤ 1000) × (length vs ≤ 8)
 few_values p x vs c valid s = by s.outcome s.tells.says s.shown
   where
-    by : (o : Outcome) → Says.BestSoFar (ratios x) (ratios vs) ≡ said o → IsShown (problem p) o → (length x ≤ 1000) × (length vs ≤ 8)
+    by : (o : Outcome) → Says.BestSoFar (ratios x) (ratios vs) None ≡ said o → IsShown (problem p) o → (length x ≤ 1000) × (length vs ≤ 8)
     by (BestSoFar y ws d) e point =
-        let all : Says.BestSoFar (ratios x) (ratios vs) ≡ Says.BestSoFar y ws = e in
+        let all : Says.BestSoFar (ratios x) (ratios vs) None ≡ Says.BestSoFar y ws None = e in
         let here : ratios x ≡ y = cc in
         let told : ratios vs ≡ ws = cc in
         let count = point.feasible.count in
@@ -131,11 +131,11 @@ few_values p x vs c valid s = by s.outcome s.tells.says s.shown
     by o e point = absurd (cc)
 
 -- and is accepted
-pub best_accepted : (p : Parts) (x vs : List Frac) (c : Cause) → IsShownClaim p (Has.BestSoFar x vs c) → Accepts (problem p) (Means.claim (Has.BestSoFar x vs c))
+pub best_accepted : (p : Parts) (x vs : List Frac) (c : Cause) → IsShownClaim p (Has.BestSoFar x vs c None) → Accepts (problem p) (Means.claim (Has.BestSoFar x vs c None))
 best_accepted p x vs c s = subst (Accepts (problem p)) (sym s.tells.says) (by s.outcome s.tells.says s.shown)
   where
-    by : (o : Outcome) → Says.BestSoFar (ratios x) (ratios vs) ≡ said o → IsShown (problem p) o → Accepts (problem p) (said o)
-    by (BestSoFar y ws d) e point = (has_values (problem p) y ws point, point.fits)
+    by : (o : Outcome) → Says.BestSoFar (ratios x) (ratios vs) None ≡ said o → IsShown (problem p) o → Accepts (problem p) (said o)
+    by (BestSoFar y ws d) e point = (has_values (problem p) y ws point, point.fits, tt)
     by o e point = absurd (cc)
 
 module _ (laws : WidthAlone) (P : Problem) (good : IsProblem P) where

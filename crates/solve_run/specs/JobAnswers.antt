@@ -80,7 +80,7 @@ pub record GaveUp (osil osol : List ℕ) (r : Report) : Type 0 where
   pub job : Option (List ℕ)
   pub whose : IsJobOf osol job
   pub claim : Claim
-  pub claims : (claim ≡ Unsure Memory) ⊎ IsBestOfSearch osil osol claim
+  pub claims : (claim ≡ Unsure Memory None) ⊎ IsBestOfSearch osil osol claim
   pub is : r ≡ claim_report job claim
 
 -- no look stops the search, or, only where the job was asked to stop, its last one

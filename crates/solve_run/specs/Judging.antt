@@ -40,8 +40,8 @@ abbrev pub IsFinal : Claim → Type 0
 IsFinal (Optimal x vs cs) = Unit {0}
 IsFinal (Infeasible c) = Unit {0}
 IsFinal (Unbounded x vs cs r) = Unit {0}
-IsFinal (BestSoFar x vs c) = ⊥
-IsFinal (Unsure c) = ⊥
+IsFinal (BestSoFar x vs c b) = ⊥
+IsFinal (Unsure c b) = ⊥
 
 -- a sum by which node n is checked doesn't fit, and is formed after so many turns
 abbrev pub wide_check : (n turns : ℕ) → Cause

@@ -1,5 +1,5 @@
 -- What the run of a job answers after its looks, of which the last may have stopped it.
-use Rattle.std.specs.Prelude.{◌≡◌, ◌⊎◌, ℕ, Bool, false, Option, Some, Result, Ok, IfOk, List}
+use Rattle.std.specs.Prelude.{◌≡◌, ◌⊎◌, ℕ, Bool, false, Option, None, Some, Result, Ok, IfOk, List}
 use Rattle.instance.specs.Parts.{Parts}
 use Rattle.instance.specs.Program.{problem}
 use Rattle.certificate.specs.declared.causes.Cause.TheVariants.{Memory}
@@ -65,7 +65,7 @@ TellsDocument {E} osil osol result n killed = IfOk result (TellsOutcome osil oso
 
 -- the document claims nothing for want of memory
 abbrev pub IsMemoryDocument : (job : Option (List ℕ)) → Document → Type 0
-IsMemoryDocument job doc = IsDocumentOf (claim_report job (Unsure Memory)) doc
+IsMemoryDocument job doc = IsDocumentOf (claim_report job (Unsure Memory None)) doc
 
 -- the document of a report, or for want of memory of one that claims nothing of the same job
 abbrev pub IsTextOf : Report → Document → Type 0
@@ -84,8 +84,8 @@ abbrev pub HasCauses : Claim → Type 0
 HasCauses (Optimal x vs cs) = Unit {0}
 HasCauses (Infeasible cert) = Unit {0}
 HasCauses (Unbounded x vs cs r) = Unit {0}
-HasCauses (BestSoFar x vs c) = CauseComesBack c
-HasCauses (Unsure c) = CauseComesBack c
+HasCauses (BestSoFar x vs c b) = CauseComesBack c
+HasCauses (Unsure c b) = CauseComesBack c
 
 -- what is told of a claim that was found, closed
 pub record ClosesClaim (p : Parts) (job : Option (List ℕ)) (turns : ℕ) (found : Claim) (doc : Document) : Type 0 where

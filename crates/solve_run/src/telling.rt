@@ -48,7 +48,7 @@ pub fn memory_document(alloc: Global, job: Option<Text>) -> Result<Document, Mem
     ensures { IfOk result (IsMemoryDocument job) }
 {
     let cause = Cause::Memory;
-    let report = claim_report(job, Claim::Unsure { cause });
+    let report = claim_report(job, Claim::Unsure { cause, bound: None });
     Ok(Document {
         text: encode(alloc, &report)?,
         is_error: false,
@@ -127,7 +127,7 @@ fn read_causes(claim: &Claim)
 {
     match claim {
         Claim::BestSoFar { cause, .. } => read_cause(*cause),
-        Claim::Unsure { cause } => read_cause(*cause),
+        Claim::Unsure { cause, .. } => read_cause(*cause),
         _ => {}
     }
 }

@@ -1,6 +1,5 @@
 -- Elements of XML documents (XML 1.0, sections 2.1 and 3), as trees and in document order.
 use Rattle.std.specs.Prelude.{ℕ, suc, ◌≤◌, max, List, [], ◌∷◌, length}
-use Rattle.tree_grammar.specs.declared.TheConstants.{DEPTH}
 
 -- An attribute's name and its value (XML 1.0, section 3.1).
 pub record Attribute : Type 0 where
@@ -47,7 +46,7 @@ depth e = suc (nodes_depth e.children)
 
 -- No more elements stand in one another than may.
 abbrev pub IsShallow : Element → Type 0
-IsShallow e = depth e ≤ DEPTH
+IsShallow e = depth e ≤ 32
 
 -- The text has at most so many bytes.
 abbrev pub IsTextWithin : ℕ → List ℕ → Type 0

@@ -1,4 +1,4 @@
-//! Texts of numbers.
+//! Texts of numbers, and sums and products of the fractions that they say.
 
 use crate::shown::{put_end, put_frac, put_number};
 use cases::Answers;
@@ -6,11 +6,11 @@ use decimal_text::{
     DecimalFault, read_bound, read_count, read_decimal, read_ratio, read_whole, write_cut12,
     write_decimal, write_ratio,
 };
-use fraction::Frac;
+use fraction::{Frac, Wide};
 use os_io::{Memory, Text};
 use std::alloc::{AllocError, Global};
 
-/// Given what is asked, and the text of a number.
+/// Given what is asked, and the text of a number, or of two whose sum or product is asked.
 #[derive(Drop)]
 pub(crate) struct Numbers;
 
@@ -76,12 +76,35 @@ fn put_written(text: &mut Text, asked: &[u8], x: Frac) -> Result<(), Memory> {
     }
 }
 
+/// Appends the sum or the product of two numbers, or that it is wide; or why a text is none.
+fn put_result(text: &mut Text, asked: &[u8], left: &[u8], right: &[u8]) -> Result<(), Memory> {
+    let (x, y) = match (read_ratio(left), read_ratio(right)) {
+        (Ok(x), Ok(y)) => (x, y),
+        (Err(fault), _) | (_, Err(fault)) => return put_fault(text, fault),
+    };
+    let result = match asked {
+        b"sum" => x.add(y),
+        b"product" => x.mul(y),
+        _ => return text.extend(b"not asked"),
+    };
+    match result {
+        Ok(z) => put_frac(text, z),
+        Err(Wide) => text.extend(b"Wide"),
+    }
+}
+
 impl Answers for Numbers {
     fn answer(&mut self, alloc: Global, given: &[Vec<u8>]) -> Result<Text, Memory> {
         let mut text = Text::new(alloc);
         match given {
             [asked, number] => put_answer(&mut text, asked.as_slice(), number.as_slice())?,
-            _ => text.extend(b"two fields")?,
+            [asked, left, right] => put_result(
+                &mut text,
+                asked.as_slice(),
+                left.as_slice(),
+                right.as_slice(),
+            )?,
+            _ => text.extend(b"two or three fields")?,
         }
         Ok(text)
     }

@@ -1,12 +1,13 @@
 //! Jobs in files, solved with the safe limit of turns and without: the result document that is written of each, and what the checker says
-//! of it (`docs/rules/search.md`, `docs/rules/results.md`).
+//! of it (`docs/rules/search.md`, `docs/rules/results.md`); and small programs, whose status and values are those that another exact
+//! solver gives (`tools/peer_programs.py`).
 
 mod examples;
 mod jobs;
 
 use cases::{Tables, compare, gather};
 use examples::Examples;
-use jobs::answer_job;
+use jobs::{answer_job, answer_program};
 use os_io::DiskFiles;
 use std::sync::Wait;
 use std::thread::Threads;
@@ -26,6 +27,11 @@ pub(crate) fn try_tables<R: Threads + Wait + Sync + fs::Files + Print + AllocGlo
         }
         compare(tables, name, answers)?;
     }
+    let mut answers = Vec::new(alloc);
+    for row in &gather(alloc, "peers.txt", &mut files)? {
+        answers.push(answer_program(rt, alloc, row.as_slice())?)?;
+    }
+    compare(tables, "peers.txt", answers)?;
     let mut examples = Examples::new(rt, DiskFiles::new(rt));
     let mut answers = Vec::new(alloc);
     for row in &gather(alloc, "examples.txt", &mut files)? {

@@ -194,7 +194,7 @@ impl<'a, R: Clock> Client for Turner<'a, R> {
 }
 
 /// How often a client sends a job and knocks at most.
-const ROUNDS: u32 = 500;
+const ROUNDS: u32 = 3_000;
 
 /// 2 x0 - 2 x1 = 1 in whole numbers. Cases of it have no end.
 const NO_END: &str =

@@ -2,20 +2,27 @@
 
 use std::sync::atomic::AtomicBool;
 use std::sync::atomic::Ordering::SeqCst;
-use std::thread::sleep;
+use std::thread::{sleep, yield_now};
 use std::time::{Clock, Duration};
 
-/// How often a thread that waits sleeps for a millisecond at most. It isn't a number of turns of the processor, since where others
-/// want that too, a turn may take as long as a sleep, and a thread that waits takes it from whom it waits for.
-const SLEEPS: u32 = 10_000;
+/// How often a thread that waits looks at most.
+const TURNS: u32 = 10_000_000;
 
-/// Sleeps until another thread has set the word, or so long as it waits at most. The answer is whether it was set.
+/// Behind how many looks it sleeps for a millisecond. Where others want the processor too, whoever only looks takes it from whom it
+/// waits for.
+const LOOKS: u32 = 1_000;
+
+/// Looks until another thread has set the word, or so often as it looks at most. The answer is whether it was set.
 pub(crate) fn wait_for<R: Clock>(clock: &R, word: &AtomicBool) -> bool {
-    for _ in 0..SLEEPS {
+    for turn in 1..=TURNS {
         if word.load(SeqCst) {
             return true;
         }
-        sleep(clock, Duration::from_millis(1));
+        if turn.is_multiple_of(LOOKS) {
+            sleep(clock, Duration::from_millis(1));
+        } else {
+            yield_now();
+        }
     }
     false
 }

@@ -1,5 +1,6 @@
 -- What a visitor was told, and what waits.
-use Rattle.doc_tree.proofs.Words.{Err, Feeding, HandedOn, Heard, IsEnd, IsTaken, List, Mark, MatchOption, None, Ok, Option, ReadingFails, Refused, RefusesBytes, Relieved, Result, Some, MachineState, TakesBytes, TreeFault, Visits, WasHeard, ap, append_assoc, arith, behind, drop, length, length-drop, refl, subst, sym, take, take-add, take_rest, ℕ, ◌++◌, ◌+◌, ◌-◌, ◌<◌, ◌∙◌, ◌≡◌, ◌≤◌}
+use Rattle.doc_tree.proofs.Words.{Err, Feeding, HandedOn, Heard, IsEnd, IsTaken, List, Mark, MatchOption, None, Ok, Option, ReadingFails, Refused, RefusesBytes, Relieved, Result, Some, MachineState, TakesBytes, TreeFault, Visits, WasHeard, ap, append_assoc, arith, behind, drop, length, length-drop, refl, subst, sym, take, take-add, take-append-drop, take_rest, ℕ, ◌++◌, ◌+◌, ◌-◌, ◌<◌, ◌∙◌, ◌≡◌, ◌≤◌}
+use Rattle.doc_tree.specs.Feeding.{ToldBefore}
 use Rattle.doc_tree.specs.declared.fault.TreeFault.TheVariants as faults
 use Rattle.doc_tree.proofs.Behind.{over_after}
 use Rattle.doc_tree.proofs.TextTrees.Verdicts.{refused_fed, visited}
@@ -60,6 +61,10 @@ answers_ok {A} B (Some f) r x m e = let h : ◌≡◌ {A = Result A TreeFault} (
 -- bytes behind those that were heard
 pub heard_more : (now : List Mark → Type 0) (f : Feeding) (bytes xs : List ℕ) (i n : ℕ) → WasHeard now f ((bytes ++ take i xs) ++ take n (take (length xs - i) (drop i xs))) → WasHeard now f (bytes ++ take (i + n) xs)
 heard_more now f bytes xs i n h = subst (WasHeard now f) (ap (λ z. (bytes ++ take i xs) ++ take n z) (take_rest xs i) ∙ append_assoc bytes (take i xs) (take n (drop i xs)) ∙ ap (λ z. bytes ++ z) (sym (take-add i n xs))) h
+
+-- what was told before a byte of these was refused
+pub told_more : (had : List Mark → Type 0) (bytes xs : List ℕ) (i : ℕ) → ToldBefore had ((bytes ++ take i xs) ++ take (length xs - i) (drop i xs)) → ToldBefore had (bytes ++ xs)
+told_more had bytes xs i h = subst (ToldBefore had) (ap (λ z. (bytes ++ take i xs) ++ z) (take_rest xs i) ∙ append_assoc bytes (take i xs) (drop i xs) ∙ ap (λ z. bytes ++ z) (take-append-drop i xs)) h
 
 pub within_more : (xs : List ℕ) (i n : ℕ) → i < length xs → n ≤ length (take (length xs - i) (drop i xs)) → i + n ≤ length xs
 within_more xs i n l h = omega (arith, h, ap length (take_rest xs i), length-drop i xs)

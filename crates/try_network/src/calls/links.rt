@@ -3,6 +3,7 @@
 use super::replies::{put, put_number};
 use cases::count_left;
 use memory_ends::MemLink;
+use open_links::OpenLink;
 use os_client::{
     CallFault, call_get_job_id, call_kill, call_knock, call_retrieve, call_send, call_solve,
 };
@@ -15,7 +16,7 @@ const ROOM: usize = 2000;
 /// Makes the call of this name with these parts; a call of one part has the second.
 fn make(
     alloc: Global,
-    link: &mut MemLink,
+    link: &mut OpenLink<MemLink>,
     name: &[u8],
     first: &[u8],
     second: &[u8],
@@ -33,6 +34,19 @@ fn make(
         b"kill" => call_kill(alloc, link, second),
         _ => Ok(Text::from_slice(alloc, b"no call")?),
     }
+}
+
+/// The same over this link, which is open, and the link then.
+fn made(
+    alloc: Global,
+    link: MemLink,
+    name: &[u8],
+    first: &[u8],
+    second: &[u8],
+) -> (Result<Text, CallFault>, MemLink) {
+    let mut link = OpenLink::new(link);
+    let outcome = make(alloc, &mut link, name, first, second);
+    (outcome, link.into_link())
 }
 
 /// What a call answers.
@@ -65,8 +79,8 @@ fn outcome_text(alloc: Global, outcome: Result<Text, CallFault>) -> Result<Text,
 
 /// What the call of this name answers over a link that gives these bytes in pieces, and how many bytes are left.
 fn told(alloc: Global, name: &[u8], bytes: &[u8], piece: usize) -> Result<Text, Memory> {
-    let mut link = MemLink::new(alloc, bytes, piece, ROOM, &[])?;
-    let outcome = make(alloc, &mut link, name, b"", b"");
+    let link = MemLink::new(alloc, bytes, piece, ROOM, &[])?;
+    let (outcome, mut link) = made(alloc, link, name, b"", b"");
     let mut text = outcome_text(alloc, outcome)?;
     text.extend(b", left ")?;
     put_number(alloc, &mut text, count_left(&mut link, bytes.len()))?;
@@ -90,8 +104,9 @@ pub(crate) fn asked_text(
     first: &[u8],
     second: &[u8],
 ) -> Result<Text, Memory> {
-    let mut link = MemLink::new(alloc, b"", 1, ROOM, &[])?;
-    match make(alloc, &mut link, name, first, second) {
+    let link = MemLink::new(alloc, b"", 1, ROOM, &[])?;
+    let (outcome, link) = made(alloc, link, name, first, second);
+    match outcome {
         Err(CallFault::NoReply { .. }) => Text::from_slice(alloc, link.handed_on()),
         Err(CallFault::Memory) => Err(AllocError),
         _ => Text::from_slice(alloc, b"answered"),
@@ -108,8 +123,8 @@ pub(crate) fn failing_text(
     bytes: &[u8],
 ) -> Result<Text, Memory> {
     let room = usize::try_from(room).unwrap_or(0);
-    let mut link = MemLink::new(alloc, bytes, 1, room, &[call])?;
-    let outcome = make(alloc, &mut link, name, b"", b"");
+    let link = MemLink::new(alloc, bytes, 1, room, &[call])?;
+    let (outcome, mut link) = made(alloc, link, name, b"", b"");
     let mut text = outcome_text(alloc, outcome)?;
     text.extend(b", faults ")?;
     put_number(alloc, &mut text, link.read_faults())?;

@@ -136,12 +136,13 @@ pub fn put_claim(text: &mut Text, claim: &Claim) -> Result<(), Memory> {
             point,
             values,
             cause,
+            ..
         } => {
             text.extend(b"bestSoFar")?;
             put_point(text, point.as_slice(), values)?;
             put_cause(text, *cause)
         }
-        Claim::Unsure { cause } => {
+        Claim::Unsure { cause, .. } => {
             text.extend(b"unsure")?;
             put_cause(text, *cause)
         }

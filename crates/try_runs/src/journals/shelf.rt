@@ -71,6 +71,8 @@ impl Stores for Shelf {
 
     ghost back = { λ _. None };
 
+    ghost opened = { λ _. None };
+
     ghost faults = { λ s. s.faults };
 
     fn open_store(&mut self, name: &str) -> Result<MemDisk, FileFault> {

@@ -124,3 +124,32 @@ pub(crate) fn answer_job<R: Threads + Wait + Sync>(
     text.extend(solved.document.as_slice())?;
     Ok(text)
 }
+
+/// The items of a result document's values, none where it has none.
+fn value_items(document: &str) -> &str {
+    match document.split_once("os_cert.value\">") {
+        Some((_, rest)) => match rest.split_once("</otherSolutionResult>") {
+            Some((items, _)) => items,
+            None => "",
+        },
+        None => "",
+    }
+}
+
+/// Given the text of an instance: what the checker says of its result, and behind an optimum the values of its goals.
+pub(crate) fn answer_program<R: Threads + Wait + Sync>(
+    rt: &R,
+    alloc: Global,
+    given: &[Vec<u8>],
+) -> Result<Text, Memory> {
+    let [osil] = given else {
+        return Text::from_slice(alloc, b"one field");
+    };
+    let solved = solve(rt, alloc, osil.as_slice(), b"", false)?;
+    let mut text = Text::from_slice(alloc, solved.line.as_slice())?;
+    if solved.line.as_slice() == b"accepted optimal\n".as_slice() {
+        let document = str::from_utf8(solved.document.as_slice()).unwrap_or("");
+        text.extend(value_items(document).as_bytes())?;
+    }
+    Ok(text)
+}

@@ -1,4 +1,4 @@
-use Rattle.std.proofs.Common.{◌≡◌, ℤ, ◌+◌, ◌*◌, ◌≤◌, List, arith, refl, ◌∙◌, ap, subst}
+use Rattle.std.proofs.Common.{◌≡◌, ℤ, ◌+◌, ◌*◌, List, arith, refl, ◌∙◌, ap, subst}
 use Rattle.std.specs.Vec.{with_items}
 use Rattle.std.proofs.lemmas.List.{with_items_is}
 use Rattle.marks.specs.Words.{is_set}
@@ -20,7 +20,7 @@ items g c = with_items_is c.args.row.now.numers c.change_word-changed.new.numers
 pub returns-clause-row : goal.returns-clause-row
 returns-clause-row g c =
     let r = c.requires.row in
-    let room : room_of c.args.row.now.fractions ≤ room_of c.args.row.now.fractions = omega arith in
+    let room : room_of c.args.row.now.fractions ≡ room_of c.args.row.now.fractions = refl in
     word_row c.args.row.now c.args.by.now c.change_word-changed.new.numers c.args.w c.word-own.result c.word-other.result c.changing.result c.change_word-changed.result.entries c.change_word-changed.result.size c.args.parts.scale c.args.parts.factor c.only_adds.result c.word-own.ensures c.word-other.ensures c.changing.ensures (changed g (goal.at.returns-clause-row g c).After-change_word-changed) _ (items g (goal.at.returns-clause-row g c).After-change_word-changed) refl c.requires.common c.requires.common refl c.set_word.ensures.size c.set_word.ensures.own c.set_word.ensures.others room r.0 r.1 r.2 r.3
 
 pub returns-clause-changed : goal.returns-clause-changed

@@ -3,7 +3,7 @@ use Rattle.effects.specs.Records.{Begin, body}
 use Rattle.effects.specs.declared.store.NotStored.{NotStored}
 use Rattle.job_journal.specs.Journal.{is_too_long}
 use Rattle.job_journal.proofs.Runs.{stays_whole}
-use Rattle.job_solver.proofs.Openings.{begun, begins_then, stays_so}
+use Rattle.job_solver.proofs.Openings.{begun, begins_then, puts_so, stays_so}
 use Rattle.job_solver.proofs.opening.begin_with.Goals as goal
 
 pub returns-in-Ok-apply-clause-begun : goal.returns-in-Ok-apply-clause-begun
@@ -28,5 +28,25 @@ returns-in-Err-Long-clause-begins g c =
     inr (inr (subst (λ (end : ℕ). is_too_long end (length (body (Begin c.args.first))) ≡ true) (ap (λ j. j.end) (sym still)) (put.long.0 is).1))
 
 pub returns-then-has_given-clause-any_moment : goal.returns-then-has_given-clause-any_moment
-returns-then-has_given-clause-any_moment g c = λ deeds t rests.
-    stays_so g.D.Disk.may_leave g.D.Disk.moment g.D.Disk.left_since (Begin c.args.first) g.D.Disk.seen c.args.journal.now.disk c.args.journal.now.end deeds (g.met.D.Disk.only_now c.args.journal.now.disk) rests
+returns-then-has_given-clause-any_moment g c = λ deeds t rests folds.
+    stays_so g.D.Disk.may_leave g.D.Disk.moment g.D.Disk.left_since c.args.first g.D.Disk.seen c.args.journal.now.disk c.args.journal.now.end deeds (g.met.D.Disk.only_now c.args.journal.now.disk) rests
+
+pub returns-in-Ok-apply-clause-any_moment : goal.returns-in-Ok-apply-clause-any_moment
+returns-in-Ok-apply-clause-any_moment g c = λ deeds t rests folds.
+    puts_so g.D.Disk.may_leave g.D.Disk.moment g.D.Disk.left_since c.args.first c.args.journal.now.disk c.put.new.self.disk deeds c.args.table.now (sym c.has_given.ensures ∙ c.if-has_given.false) c.requires.some c.requires.within folds (c.put.ensures.any_moment deeds t rests)
+
+pub returns-in-Err-clause-any_moment : goal.returns-in-Err-clause-any_moment
+returns-in-Err-clause-any_moment g c = λ deeds t rests folds.
+    puts_so g.D.Disk.may_leave g.D.Disk.moment g.D.Disk.left_since c.args.first c.args.journal.now.disk c.put.new.self.disk deeds c.args.table.now (sym c.has_given.ensures ∙ c.if-has_given.false) c.requires.some c.requires.within folds (c.put.ensures.any_moment deeds t rests)
+
+pub returns-in-Err-Disk-clause-any_moment : goal.returns-in-Err-Disk-clause-any_moment
+returns-in-Err-Disk-clause-any_moment g c = λ deeds t rests folds.
+    puts_so g.D.Disk.may_leave g.D.Disk.moment g.D.Disk.left_since c.args.first c.args.journal.now.disk c.put.new.self.disk deeds c.args.table.now (sym c.has_given.ensures ∙ c.if-has_given.false) c.requires.some c.requires.within folds (c.put.ensures.any_moment deeds t rests)
+
+pub returns-in-Err-Broken-clause-any_moment : goal.returns-in-Err-Broken-clause-any_moment
+returns-in-Err-Broken-clause-any_moment g c = λ deeds t rests folds.
+    puts_so g.D.Disk.may_leave g.D.Disk.moment g.D.Disk.left_since c.args.first c.args.journal.now.disk c.put.new.self.disk deeds c.args.table.now (sym c.has_given.ensures ∙ c.if-has_given.false) c.requires.some c.requires.within folds (c.put.ensures.any_moment deeds t rests)
+
+pub returns-in-Err-Long-clause-any_moment : goal.returns-in-Err-Long-clause-any_moment
+returns-in-Err-Long-clause-any_moment g c = λ deeds t rests folds.
+    puts_so g.D.Disk.may_leave g.D.Disk.moment g.D.Disk.left_since c.args.first c.args.journal.now.disk c.put.new.self.disk deeds c.args.table.now (sym c.has_given.ensures ∙ c.if-has_given.false) c.requires.some c.requires.within folds (c.put.ensures.any_moment deeds t rests)

@@ -1,6 +1,5 @@
 use Rattle.std.proofs.Common.{sym, ◌∙◌, subst}
 use Rattle.disks.specs.Disks.{LeavesOnly}
-use Rattle.effects.specs.Records.{Begin}
 use Rattle.job_table.specs.Jobs.{Register}
 use Rattle.job_solver.specs.Openings.{NumbersBeginWith}
 use Rattle.job_solver.proofs.Openings.{made_on, table_on, no_damage, not_of_file, leaves_file, counted_back, opened_on, not_opened, WasOrBegins}
@@ -30,18 +29,18 @@ returns-in-Err-begin_with-clause-cause g c =
 
 pub returns-in-Ok-begin_with-clause-any_moment : goal.returns-in-Ok-begin_with-clause-any_moment
 returns-in-Ok-begin_with-clause-any_moment g c = λ deeds t fit stands.
-    opened_on g.D.Disk.may_leave g.D.Disk.moment g.D.Disk.left_since (Begin c.args.first) deeds c.args.disk c.in-Ok.journal.disk c.begin_with.new.journal.disk
+    opened_on g.D.Disk.may_leave g.D.Disk.moment g.D.Disk.left_since c.args.first deeds c.args.disk g.D.Disk.seen c.in-Ok.journal.disk c.begin_with.new.journal.disk _ _ (g.D.Disk.seen c.args.disk) fit stands (c.in-Ok.ensures.opened t)
     (c.in-Ok.ensures.any_moment deeds t fit stands) (c.begin_with.ensures.any_moment deeds (c.in-Ok.ensures.told ∙ t) (c.in-Ok.ensures.same deeds t fit stands).1)
 
 pub returns-in-Err-begin_with-clause-any_moment_err : goal.returns-in-Err-begin_with-clause-any_moment_err
 returns-in-Err-begin_with-clause-any_moment_err g c = λ deeds t fit stands.
-    subst (λ left. LeavesOnly g.D.Disk.moment g.D.Disk.left_since c.args.disk left (WasOrBegins g.D.Disk.may_leave g.D.Disk.moment g.D.Disk.left_since (Begin c.args.first) deeds c.args.disk)) (sym c.into_disk.ensures)
-    (opened_on g.D.Disk.may_leave g.D.Disk.moment g.D.Disk.left_since (Begin c.args.first) deeds c.args.disk c.in-Ok.journal.disk c.begin_with.new.journal.disk
+    subst (λ left. LeavesOnly g.D.Disk.moment g.D.Disk.left_since c.args.disk left (WasOrBegins g.D.Disk.may_leave g.D.Disk.moment g.D.Disk.left_since c.args.first deeds c.args.disk)) (sym c.into_disk.ensures)
+    (opened_on g.D.Disk.may_leave g.D.Disk.moment g.D.Disk.left_since c.args.first deeds c.args.disk g.D.Disk.seen c.in-Ok.journal.disk c.begin_with.new.journal.disk _ _ (g.D.Disk.seen c.args.disk) fit stands (c.in-Ok.ensures.opened t)
     (c.in-Ok.ensures.any_moment deeds t fit stands) (c.begin_with.ensures.any_moment deeds (c.in-Ok.ensures.told ∙ t) (c.in-Ok.ensures.same deeds t fit stands).1))
 
 pub returns-in-Err-clause-any_moment_err : goal.returns-in-Err-clause-any_moment_err
 returns-in-Err-clause-any_moment_err g c = λ deeds t fit stands.
-    not_opened g.D.Disk.may_leave g.D.Disk.moment g.D.Disk.left_since (Begin c.args.first) deeds c.args.disk c.in-Err.back.1 (c.in-Err.ensures.any_moment_err deeds t fit stands)
+    not_opened g.D.Disk.may_leave g.D.Disk.moment g.D.Disk.left_since c.args.first deeds c.args.disk c.in-Err.back.1 (c.in-Err.ensures.any_moment_err deeds t fit stands)
 
 pub returns-in-Err-begin_with-clause-left : goal.returns-in-Err-begin_with-clause-left
 returns-in-Err-begin_with-clause-left g c = λ of_file. absurd (not_of_file c.in-Err-begin_with.fault c.in-Err-begin_with.ensures.err of_file)

@@ -1,7 +1,0 @@
-use Rattle.std.proofs.Common.{◌≡◌}
-use Rattle.job_table.specs.Remade.{first_marked}
-use Rattle.job_table.proofs.jobs.Jobs.marked.Given as goal
-
--- none was found yet
-abbrev pub invariant-loop-number : goal.invariant-loop-number
-invariant-loop-number l = first_marked l.number-iterator ≡ first_marked l.self.jobs
