@@ -6,6 +6,7 @@ What is expected is worked out from the models: by hand, by their duals' own sum
 """
 
 import csv
+import doctest
 import io
 import json
 import math
@@ -225,6 +226,16 @@ class Results(unittest.TestCase):
         self.assertEqual(read_result(text).of(DIET).names, ("n0", "n1", "n2", "n3"))
         half = text.replace(' name="n2"', "")
         self.assertEqual((read_result(half).names, read_result(half).of(DIET).names), (None, ("oats", "milk", "eggs", "bread")))
+
+
+class Shown(unittest.TestCase):
+    """What the README shows of models comes."""
+
+    def test_the_readme(self):
+        text = (ROOT / "README.md").read_text(encoding="utf-8").split("## From Python, PuLP")[1].split("PuLP, as Debian")[0]
+        shown = doctest.DocTestParser().get_doctest(text, {}, "README.md", "README.md", 0)
+        told = doctest.DocTestRunner(verbose=False).run(shown)
+        self.assertEqual((told.attempted, told.failed), (7, 0))
 
 
 class Programs(unittest.TestCase):
