@@ -15,6 +15,7 @@ status=1 # of that process
 . "$here/tools/os_files.sh"
 
 # Hands a signal on. It goes as TERM, since what a script starts behind itself ignores INT and QUIT.
+# shellcheck disable=SC2317 # a trap calls it
 hand_on() {
     caught=$1
     [ -z "$child" ] || kill -s TERM "$child" 2>/dev/null
@@ -94,6 +95,10 @@ for signal in HUP INT QUIT TERM; do
     # shellcheck disable=SC2064 # the name is to stand in the trap
     trap "hand_on $signal" "$signal"
 done
+if [ "$1" = try ]; then
+    shift
+    begin_try "$@"
+fi
 if is_to_convert "$@"; then
     solve_converted "$@"
 else

@@ -60,7 +60,7 @@ class Machines:
 
     def start_proxy(self, where):
         variables = {f"GUBNATRIS_{place + 1}": f"127.0.0.1:{self.ports[name]}" for place, name in enumerate(NAMES)}
-        variables |= {"GUBNATRIS_LISTEN": f"127.0.0.1:{self.port}", "GUBNATRIS_CERTIFICATE": f"{where}/both.pem", "GUBNATRIS_ADMIN": self.admin_socket}
+        variables |= {"GUBNATRIS_LISTEN": f"127.0.0.1:{self.port}", "GUBNATRIS_CERTIFICATE": f"{where}/both.pem", "GUBNATRIS_ADMIN": self.admin_socket, "GUBNATRIS_PAGE": "deploy/page"}
         words = ["haproxy", "-db", "-q", "-f", "deploy/haproxy.cfg", "-f", f"{where}/users.cfg"]
         with open(f"{where}/log", "wb") as self.log:
             self.proxy = subprocess.Popen(words, env=os.environ | variables, stderr=self.log)

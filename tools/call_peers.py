@@ -11,7 +11,7 @@ import threading
 import xml.etree.ElementTree as tree
 from xml.sax.saxutils import escape
 
-PROGRAM = os.path.abspath("crates/os_main/out/os_main")
+PROGRAM = os.path.abspath(os.environ.get("OS_PROGRAM", "crates/os_main/out/os_main"))
 HOST = "127.0.0.1"
 OSIL = '<osil><instanceData><variables><var/></variables><objectives><obj><coef idx="0">1</coef></obj></objectives></instanceData></osil>'
 SOAP = "http://schemas.xmlsoap.org/soap/envelope/"
@@ -234,7 +234,7 @@ def main():
         by_closed(answers)
         by_axis(answers)
         by_others(answers)
-    print("\n".join([*answers.wrong, f"{answers.right} answers as the rules give them, {len(answers.wrong)} others"]))
+    print("\n".join([*answers.wrong, f"answers as the rules give them:\n{answers.right} passed, {len(answers.wrong)} failed"]))
     return bool(answers.wrong)
 
 

@@ -2,6 +2,7 @@
 # Read by ./os: proves and builds the program where its sources changed since, and says how far that is.
 proved=$crate/out/crates.log
 room= # the folder that the crates are laid out in
+. "$here/tools/os_try.sh"
 
 is_built() {
     [ -x "$program" ] && [ -z "$(find "$here/crates.txt" "$here/crates" \( -name out -o -name must-fail \) -prune -o -type f ! -name '*.md' -newer "$program" -print)" ]
@@ -29,6 +30,7 @@ lines() {
 # gate wants no second crates.txt, and the folder .git makes it the top of a repository, wherever it stands.
 lay_out() {
     room=$(mktemp -d) && mkdir "$room/crates" "$room/.git" && lines >"$room/crates.txt" && cp "$here/HANDLES" "$room" || return 1
+    # shellcheck disable=SC2013 # a name has no space
     for listed in $(sed 's/[ :].*//' "$room/crates.txt"); do
         mkdir "$room/crates/$listed" || return 1
         for part in "$here/crates/$listed"/*; do
@@ -38,8 +40,9 @@ lay_out() {
     done
 }
 
-# How many crates are proved, of how many, and about how many minutes are left, by the seconds of docs/WORKING.md's table: as fast
-# as it went since the build was begun, and at first as if half of the processors were at work.
+# SECONDS NAMES PROVED: how many crates of the file NAMES are proved by the file PROVED, of how many, and about how many minutes are left, by
+# the seconds of docs/WORKING.md's table: as fast as it went since the build was begun, so many seconds ago, and at first as if five of six
+# processors were at work, as on a quiet machine of four.
 count_crates() {
     awk -v gone="$1" -v processors="$(nproc)" '
         function seconds(name) { return name in cost ? cost[name] : 60 }
@@ -47,22 +50,28 @@ count_crates() {
         part == "names" { sub(/[ :].*/, ""); count++; all += seconds($0) }
         part == "proved" && $1 == "rt:" && $3 == "proved" { proved++; done += seconds($2) }
         part == "proved" && $1 == "rt:" && $3 == "is" && $4 == "kept:" { proved++; all -= seconds($2) }
-        END { print proved + 0, count, int((all - done) * (gone + 120) / (done + 60 * processors) / 60 + 0.5) }
-    ' part=times "$here/docs/WORKING.md" part=names "$room/crates.txt" part=proved "$proved"
+        END { print proved + 0, count, int((all - done) * (gone + 120) / (done + 100 * processors) / 60 + 0.5) }
+    ' part=times "$here/docs/WORKING.md" part=names "$2" part=proved "$3"
 }
 
-# One line that goes on in place at a terminal, and elsewhere a line at every tenth crate and at the last one.
+minutes_of_proof() {
+    lines | count_crates 0 - /dev/null | cut -d ' ' -f 3
+}
+
+# One line that goes on in place at a terminal, and elsewhere a line at every tenth crate, at the last one, and where nothing was said for
+# two minutes.
 tell_progress() {
     gone=$(($(date +%s) - begun))
     # shellcheck disable=SC2046 # three numbers
-    set -- $(count_crates "$gone")
+    set -- $(count_crates "$gone" "$room/crates.txt" "$proved")
     text="$1 of $2 crates proved, $((gone / 60)) min gone, about $3 min left"
     if [ -t 2 ]; then
         printf '\ros: %s   ' "$text" >&2
-    elif [ "$1" != "$told" ] && { [ $(($1 / 10)) -ge "$tens" ] || [ "$1" = "$2" ]; }; then
+    elif [ "$gone" -ge "$due" ] || { [ "$1" != "$told" ] && { [ $(($1 / 10)) -ge "$tens" ] || [ "$1" = "$2" ]; }; }; then
         say "$text"
         told=$1
         tens=$(($1 / 10 + 1))
+        due=$((gone + ${OS_TELL_SECONDS:-120}))
     fi
 }
 
@@ -98,7 +107,11 @@ heed_signal() {
 
 # Proves the crates and builds the program. The gate, which runs it too, ends with a status above 0 where any of that fails.
 prove() {
-    lay_out 2>/dev/null || give_up "$(cant_write "${TMPDIR:-/tmp}")"
+    [ -e "$program" ] || say "the program is proved and built first, once, in about $(minutes_of_proof) min; ./os try COMMAND .. runs a command unproved in about 2"
+    if ! lay_out 2>/dev/null; then
+        heed_signal
+        give_up "$(cant_write "${TMPDIR:-/tmp}")"
+    fi
     : >"$proved"
     (cd "$room" && exec rt ci) </dev/null >"$proved" 2>&1 9>&- &
     child=$!
@@ -132,6 +145,7 @@ build() {
     begun=$(date +%s)
     tens=0
     told=
+    due=0
     is_built || prove
     exec 9>&-
 }

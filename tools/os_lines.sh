@@ -13,10 +13,11 @@ failed=0
 # A copy of what ./os reads, with sources that are nearly empty.
 mkdir -p tools docs bin
 cp "$top/os" "$top/crates.txt" "$top/HANDLES" .
-cp "$top/tools/os_words.sh" "$top/tools/os_build.sh" tools
+cp "$top/tools/os_words.sh" "$top/tools/os_build.sh" "$top/tools/os_try.sh" tools
 cp "$top/tools/os_files.sh" "$top"/tools/*_to_osil "$top/tools/show_result" "$top"/tools/*.py tools
 mkdir clients && cp -R "$top/clients/python" clients
 cp "$top/docs/commands.txt" "$top/docs/WORKING.md" docs
+# shellcheck disable=SC2013 # a name has no space
 for name in $(sed -n 's/^\([a-z][a-z0-9_]*\):.*/\1/p' crates.txt); do
     mkdir -p "crates/$name/src"
     echo "// $name" >"crates/$name/src/lib.rt"
@@ -126,6 +127,7 @@ says_help './os check OSIL OSRL' check there -h
 says_no_command 'os: there is no command fly; ./os help lists those that there are' help fly
 says_no_command 'os: there is no command fly; ./os help lists those that there are' fly away
 says_no_command 'os: there is no command -x; ./os help lists those that there are' -x
+# shellcheck disable=SC2013 # a name has no space
 for command in $(sed -n 's/^command //p' docs/commands.txt); do
     ./os help "$command" >out 2>err
     for part in takes gives ends example; do
@@ -162,14 +164,24 @@ PATH=/bin:/usr/bin ./os generate 1 >out 2>err
 expect 'status without rt' $? 1
 expect 'line without rt' "$(cat out err)" "os: not built: the toolchain's command rt isn't on the PATH; README.md names the toolchain"
 
-# ---- the first build
+# ---- what is tried without a proof, and the first build
 
-# What stands in for rt tells of each crate of its folder that it is proved, or kept where RT_KEPT has its name. Its help is RT_HELP.
+# What stands in for rt tells of each crate of its folder that it is proved, or kept where RT_KEPT has its name. Its help is RT_HELP. Of a
+# try it keeps the words, writes its input behind RT_TEXT, and ends as RT_TRIED says.
 cat >bin/rt <<'RT'
 #!/bin/sh
 [ "$*" != help ] || { echo "${RT_HELP-}" >&2 && exit; }
+if [ "$1" = try ]; then
+    echo "$*" >"$RT_SEEN"
+    echo $$ >"$RT_PID"
+    [ -z "${RT_STOPS-}" ] || exec sleep 30
+    printf '%s' "${RT_TEXT-}" && cat
+    printf 'checked: ended\n%s\n' "${RT_TRIED:-run=ended status=0 runners=1 proved=no}" >&2
+    exit "${RT_STATUS:-0}"
+fi
 [ "$*" = ci ] || exit 9
 find . -name '*.edit' >"$RT_LEFT"
+[ -z "${RT_SECONDS-}" ] || sleep "$RT_SECONDS"
 for listed in $(sed 's/[ :].*//' crates.txt); do
     if [ "$listed" = fraction ] && [ -n "${RT_STOPS-}" ]; then
         echo $$ >"$RT_PID"
@@ -194,8 +206,68 @@ count=$(sh -c 'here=. crate=. program=. && . tools/os_build.sh && lines' | wc -l
 mkdir crates/os_io/must-fail
 echo 'file: src/lib.rt' >crates/os_io/must-fail/one.edit
 
+# WORDS LINE COMMAND..: a try of the command hands these words to rt, writes what it writes, and says LINE behind the first one.
+tries() {
+    handed=$1 line=$2
+    shift 2
+    RT_TEXT=text ./os try "$@" >out 2>err <given
+    expect "status of try: $*" $? "${RT_STATUS:-0}"
+    expect "output of try: $*" "$(cat out)" "${OUT:-text}"
+    expect "words of try: $*" "$(cat seen)" "try --seconds 3600 $handed"
+    expect "first line of try: $*" "$(sed -n '1s/ about [0-9]* min, and keeps/ about N min, and keeps/p' err)" "os: nothing of this run is proved: the sources are compiled, in about 2 min, and run once; ./os $1 proves them, in about N min, and keeps the program"
+    expect "other lines of try: $*" "$(sed 1d err)" "$line"
+}
+
+# LINE COMMAND..: these words can't be tried.
+cant_try() {
+    line=$1
+    shift
+    ./os try "$@" >out 2>err
+    expect "status of try: $*" $? 2
+    expect "lines of try: $*" "$(cat out err)" "$line"
+}
+
+echo it >there && echo few >'few words' && printf ' and input' >given
+tries "--data file1=$room/there -- solve file1" '' solve there
+tries "--data file1=$room/there --data file2=$room/few words -- solve file1 --options file2 --safe" '' solve there --options 'few words' --safe
+tries "--data file1=$room/few words --data file2=$room/there -- solve --options=file1 -- file2" '' solve "--options=few words" -- there
+tries "--data file1=$room/there --data file2=$room/there -- check file1 file2" '' check there "$room/there"
+tries '-- generate 5' '' generate 5
+tries "--data file1=$room/there -- call there a 80 --osol file1" '' call there a 80 --osol there
+OUT='text and input' tries '-- session' '' session
+RT_STATUS=2 RT_TRIED='run=ended status=2 proved=no' tries '-- generate there' "os: these words are not those of generate: ./os generate N (./os help generate says more)" generate there
+./os try solve nofile.osil >out 2>err
+expect 'status of a try without its file' $? 3
+expect 'line of a try without its file' "$(cat out err)" "os: can't read nofile.osil: there is no such file; name another file: ./os solve OSIL [--options OSOL] [--safe]"
+cant_try 'os: name a command to be tried: ./os try COMMAND .. (./os help try says which)'
+cant_try 'os: name a command to be tried: ./os try COMMAND .. (./os help try says which)' try
+cant_try 'os: name a command to be tried: ./os try COMMAND .. (./os help try says which)' fly
+cant_try 'os: name a command to be tried: ./os try COMMAND .. (./os help try says which)' version
+cant_try 'os: not tried: serve goes on without an end, and what is tried says nothing before it has ended; ./os serve proves the program, and runs it then' serve a 80
+cant_try 'os: not tried: compact writes a file, and what is tried leaves none; ./os compact proves the program, and runs it then' compact a b
+cant_try 'os: not tried: a journal is a file, and what is tried leaves none; ./os session proves the program, and runs it then' session --journal=a
+RT_STATUS=4 RT_TRIED='run=fault proved=no' ./os try generate 1 >out 2>err
+expect 'status of a try that stops at a fault' $? 1
+expect 'lines of a try that stops at a fault' "$(sed 1d err)" "os: checked: ended
+os: run=fault proved=no
+os: the run came to no end of its own: the toolchain says above why"
+RT_STOPS=yes ./os try generate 1 >out 2>err &
+for _ in $(seq 300); do
+    [ ! -s rt_pid ] || break
+    sleep 0.1
+done
+kill -TERM $!
+wait $! 2>/dev/null
+expect 'status of a try that is interrupted' $? 143
+kill -0 "$(cat rt_pid)" 2>/dev/null
+expect 'an interrupted try leaves nothing behind' $? 1
+expect 'nor any file' "$(ls "$TMPDIR")" ''
+expect 'a try builds nothing' "$(ls crates/os_main/out 2>/dev/null)" ''
+rm rt_pid seen
+
 RT_FAILS=yes ./os generate 1 >out 2>err
 expect 'status of a build that fails' $? 1
+expect 'first line of a first build' "$(sed -n '1s/ about [0-9]* min/ about N min/p' err)" 'os: the program is proved and built first, once, in about N min; ./os try COMMAND .. runs a command unproved in about 2'
 expect 'output of a build that fails' "$(cat out)" ''
 expect 'line of a build that fails' "$(tail -n 1 err)" "os: not built: $room/crates/os_main/out/crates.log says why"
 rm -rf crates/os_main/out
@@ -227,7 +299,7 @@ rm crates/os_main/out
 mv crates/os_main/aside crates/os_main/out
 TMPDIR=$room/none ./os generate 1 >out 2>err
 expect 'status where no room can be made' $? 1
-expect 'line where no room can be made' "$(cat out err)" "os: not built: can't write to $room/none; see that there is space, and that you may write there"
+expect 'line where no room can be made' "$(cat out err | tail -n 1)" "os: not built: can't write to $room/none; see that there is space, and that you may write there"
 
 : >seen
 echo '// changed' >>crates/os_io/src/lib.rt
@@ -238,8 +310,9 @@ expect 'what was changed is proved' "$(grep -c '^// changed' seen)" 1
 expect 'a crate that the program needs is proved' "$(grep -c '^// os_app$' seen)" 1
 expect 'no other crate is proved' "$(grep -c '^// try_runs$' seen)" 0
 expect 'no edits are tried' "$(cat left)" ''
+# shellcheck disable=SC2012 # no other names are there
 expect 'what a build makes' "$(ls crates/os_main/out | tr '\n' ' ')" 'crates.log lock os_main '
-expect 'first line of a build' "$(sed -n 's/ about .*//p' err | head -n 1 | sed 's/^os: [0-9]* /os: N /')" "os: N of $count crates proved, 0 min gone,"
+expect 'first line of a build' "$(sed -n '2s/ about .*//p' err | sed 's/^os: [0-9]* /os: N /')" "os: N of $count crates proved, 0 min gone,"
 expect 'last lines of a build' "$(sed 's/about [0-9]* min/about N min/' err | tail -n 2)" "os: $count of $count crates proved, 0 min gone, about N min left
 os: built in 0 min"
 ./os generate 1 >out 2>err
@@ -250,7 +323,12 @@ RT_KEPT=$(sed -n 's/^\([a-z][a-z0-9_]*\):.*/\1/p' crates.txt | grep -v os_main |
 expect 'kept crates are counted' "$(tail -n 2 err | head -n 1)" "os: $count of $count crates proved, 0 min gone, about 0 min left"
 
 echo '// changed' >>crates/os_io/src/lib.rt
-flock crates/os_main/out/lock sleep 2 &
+OS_TELL_SECONDS=1 RT_SECONDS=5 ./os generate 1 >out 2>err
+expect 'lines of a build in which time goes' "$(sed -n 's/^os: 0 of [0-9]* crates proved, 0 min gone.*/time/p' err | sort -u)" time
+expect 'how often time is told' "$([ "$(grep -c '^os: 0 of' err)" -ge 3 ] && echo often)" often
+
+echo '// changed' >>crates/os_io/src/lib.rt
+flock crates/os_main/out/lock sleep 6 &
 sleep 1
 ./os generate 1 >out 2>err
 expect 'line of a second build' "$(head -n 1 err)" 'os: another ./os builds the program; waiting for it'
@@ -266,7 +344,6 @@ unset TMPDIR
 # ---- statuses
 
 make_stub
-echo it >there
 mkdir folder
 says 0 '' solve there
 says 0 '' solve there --safe
