@@ -242,6 +242,7 @@ expect 'line of a try without its file' "$(cat out err)" "os: can't read nofile.
 cant_try 'os: name a command to be tried: ./os try COMMAND .. (./os help try says which)'
 cant_try 'os: name a command to be tried: ./os try COMMAND .. (./os help try says which)' try
 cant_try 'os: name a command to be tried: ./os try COMMAND .. (./os help try says which)' fly
+cant_try 'os: name a command to be tried: ./os try COMMAND .. (./os help try says which)' version
 cant_try 'os: not tried: serve goes on without an end, and what is tried says nothing before it has ended; ./os serve proves the program, and runs it then' serve a 80
 cant_try 'os: not tried: compact writes a file, and what is tried leaves none; ./os compact proves the program, and runs it then' compact a b
 cant_try 'os: not tried: a journal is a file, and what is tried leaves none; ./os session proves the program, and runs it then' session --journal=a

@@ -13,7 +13,8 @@ why_not_tried() {
 
 # Says what is amiss with the words before minutes are spent on them.
 check_words() {
-    if ! is_command "$asked" || [ "$asked" = try ]; then
+    case $asked in try | help | version) asked= ;; esac
+    if ! is_command "$asked"; then
         say "name a command to be tried: $own (./os help try says which)"
         exit 2
     fi

@@ -160,7 +160,8 @@ def try_data():
         check(len({len(line) for line in lines}) == 1 and lines[1][3] == (wanted or ""), f"CSV of {name}", str(lines[:2]))
         if wanted:
             names, point = [line["name"] for line in found["variables"]], [fractions.Fraction(line["exactly"]) for line in found["variables"]]
-            check(names == [column.name for column in instance.variables], f"names of {name}", str(names))
+            own = [column.name.replace("variable ", "x") for column in instance.variables]  # x3 is one without a name
+            check(names == own, f"names of {name}", str(names))
             check(str(sum(cost * point[j] for j, cost in instance.costs.items()) + instance.constant) == wanted, f"point of {name}")
             check([line[1] for line in lines[2:]] == names + [line["name"] for line in found["rows"]], f"lines of {name}")
     diet = json.loads(tool("show_result", *(f"{TOOLS}/../examples/diet.{end}" for end in ("osil", "osrl")), "--json").stdout)

@@ -8,6 +8,7 @@ expected comes from GLPK and from the models.
 
 import contextlib
 import io
+import json
 import os
 import shutil
 import signal
@@ -249,6 +250,31 @@ class Solved(unittest.TestCase):
             _, err = process.communicate(timeout=20)
             self.assertEqual((process.returncode, err), (1, b"gubnatris_ampl: interrupted, so there is no result\n"))
             self.assertEqual((sorted(os.listdir(room.folder)), os.listdir(f"{room.folder}/tmp")), (["p.nl", "p.sol", "tmp"], []))
+
+
+class Foreign(unittest.TestCase):
+    """Files that others write."""
+
+    def test_those_of_minizinc(self):
+        """MiniZinc writes .nl for solvers that say so, and reads their .sol: the answers are Gecode's."""
+        models = DRIVER.parents[1] / "minizinc/models"
+        told = {"id": "org.gubnatris.nl", "name": "nl", "version": "1", "mznlib": "-Glinear", "executable": str(DRIVER), "supportsFzn": False, "supportsNL": True}
+        with tempfile.TemporaryDirectory() as folder:
+            Path(folder, "nl.msc").write_text(json.dumps(told), encoding="utf-8")
+            for name in ("knapsack", "blending", "tardiness"):
+                answers = []
+                for solver in ("org.gubnatris.nl", "gecode"):
+                    words = ["minizinc", "--solver", solver, models / f"{name}.mzn"]
+                    made = subprocess.run(words, capture_output=True, text=True, check=False, env={**os.environ, "MZN_SOLVER_PATH": folder})
+                    answers.append([line for line in made.stdout.splitlines() if line])
+                self.assertEqual(answers[0], answers[1])
+                self.assertIn("==========", answers[0])
+
+    def test_the_example(self):
+        path = DRIVER.parents[2] / "examples/diet.nl"
+        with Room(path.read_bytes()) as room:
+            room.run("-AMPL")
+            self.assertIn("objective 2.00727272727273, exactly 552/275", room.sol()[0])
 
 
 class Bad(unittest.TestCase):

@@ -6,12 +6,14 @@ What is expected is worked out from the models: by hand, by their duals' own sum
 """
 
 import csv
+import doctest
 import io
 import json
 import math
 import os
 import random
 import re
+import signal
 import subprocess
 import sys
 import tempfile
@@ -226,6 +228,16 @@ class Results(unittest.TestCase):
         self.assertEqual((read_result(half).names, read_result(half).of(DIET).names), (None, ("oats", "milk", "eggs", "bread")))
 
 
+class Shown(unittest.TestCase):
+    """What the README shows of models comes."""
+
+    def test_the_readme(self):
+        text = (ROOT / "README.md").read_text(encoding="utf-8").split("## From Python, PuLP")[1].split("PuLP, as Debian")[0]
+        shown = doctest.DocTestParser().get_doctest(text, {}, "README.md", "README.md", 0)
+        told = doctest.DocTestRunner(verbose=False).run(shown)
+        self.assertEqual((told.attempted, told.failed), (7, 0))
+
+
 class Programs(unittest.TestCase):
     """The program of this machine."""
 
@@ -279,16 +291,29 @@ class Programs(unittest.TestCase):
                 Program(path).solve(DIET)
 
     def test_an_interrupt_ends_it(self):
+        """At any moment from the first file on: nothing runs on, and no file is left."""
         text = "from gubnatris import *; import test_models; Program().solve(test_models.odd_sums(), node_limit=1000000, turn_limit=100000000)"
-        with tempfile.TemporaryDirectory() as folder:
-            process = subprocess.Popen([sys.executable, "-c", text], cwd=Path(__file__).parent, stderr=subprocess.PIPE, env={**os.environ, "TMPDIR": folder})
-            while not os.listdir(folder):
-                time.sleep(0.05)
-            time.sleep(0.2)
-            process.send_signal(2)
-            _, err = process.communicate(timeout=30)
-            self.assertIn(b"KeyboardInterrupt", err)
-            self.assertEqual(os.listdir(folder), [])
+        for pause in (0, 0.01, 0.03, 0.3):
+            with tempfile.TemporaryDirectory() as folder:
+                process = subprocess.Popen([sys.executable, "-c", text], cwd=Path(__file__).parent, stderr=subprocess.PIPE, env={**os.environ, "TMPDIR": folder})
+                while not os.listdir(folder):
+                    time.sleep(0.005)
+                time.sleep(pause)
+                process.send_signal(signal.SIGINT)
+                _, err = process.communicate(timeout=30)
+                self.assertIn(b"KeyboardInterrupt", err)
+                self.assertEqual((os.listdir(folder), running(folder)), ([], []))
+
+
+def running(folder):
+    """The processes whose words name a folder."""
+    found = []
+    for path in Path("/proc").glob("[0-9]*/cmdline"):
+        try:
+            found += [path] if folder.encode() in path.read_bytes() else []
+        except OSError:
+            pass  # it has ended
+    return found
 
 
 if __name__ == "__main__":

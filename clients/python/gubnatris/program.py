@@ -5,6 +5,7 @@ from __future__ import annotations
 import contextlib
 import os
 import shutil
+import signal
 import socket
 import subprocess
 import tempfile
@@ -23,6 +24,7 @@ STATUSES = {
     4: "it couldn't write its answer",
     5: "there was no memory",
 }
+INTERRUPTS = (signal.SIGHUP, signal.SIGINT, signal.SIGTERM)
 ENDS_WITHIN = 5.0  # seconds that a program has to end by itself
 PORTS_TRIED = 5
 
@@ -85,14 +87,26 @@ class Program:
 
     @contextlib.contextmanager
     def _begun(self, *words: str, errors: Optional[int] = None) -> Iterator[subprocess.Popen[bytes]]:
+        """The program while it runs; it is ended where this is left. A signal that comes while it is begun waits, so that it isn't lost sight of."""
+        process = None
         try:
-            process = subprocess.Popen([self.path, *words], stdin=subprocess.DEVNULL, stdout=subprocess.PIPE, stderr=errors)
-        except OSError as failure:
-            raise NoProgram(f"{self.path} can't be run: {failure.strerror}") from failure
-        try:
+            held = signal.pthread_sigmask(signal.SIG_BLOCK, INTERRUPTS)
+            try:
+                process = subprocess.Popen(
+                    [self.path, *words],
+                    stdin=subprocess.DEVNULL,
+                    stdout=subprocess.PIPE,
+                    stderr=errors,
+                    preexec_fn=lambda: signal.pthread_sigmask(signal.SIG_SETMASK, held),
+                )
+            except OSError as failure:
+                raise NoProgram(f"{self.path} can't be run: {failure.strerror}") from failure
+            finally:
+                signal.pthread_sigmask(signal.SIG_SETMASK, held)
             yield process
         finally:
-            _end(process)
+            if process:
+                _end(process)
 
     @contextlib.contextmanager
     def _serving(self) -> Iterator[Server]:

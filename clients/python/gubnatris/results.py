@@ -49,9 +49,11 @@ class Result:
     `status`: `optimal`, `infeasible`, `unbounded`, `bestSoFar` or `unsure`. `values`: one number for each variable, and `objective`,
     what they are worth, where there is a point: with `optimal`, `unbounded` and `bestSoFar`. `ray`: with `unbounded`, the direction
     in which the objective gets better without end. `cause`: with `bestSoFar` and `unsure`, what ended the search, as
-    `nodeLimit 10000`. `tree`: with `optimal` and `infeasible`, the nodes of the tree of cases, in preorder; where there are several
-    objectives, `level L` and the nodes of the next tree. `document`: the text. `objectives`: where there is a point, what it is worth by
-    each objective, in order; `objective` is the first of them. `source`: the instance, where it is known; what needs it says so.
+    `nodeLimit 10000`. `tree`: with `optimal`, `infeasible` and a bound of a search that ended early, the nodes of the tree of cases, in
+    preorder; where there are several objectives, `level L` and the nodes of the next tree. `document`: the text. `objectives`: where there is
+    a point, what it is worth by each objective, in order; `objective` is the first of them. `bound`: a number that no point's first
+    objective is better than: with `optimal` the objective, with `bestSoFar` and `unsure` what the document has, or None. `source`: the
+    instance, where it is known; what needs it says so.
     """
 
     status: str
@@ -62,6 +64,7 @@ class Result:
     tree: Optional[tuple[str, ...]]
     document: str
     objectives: Optional[tuple[Fraction, ...]] = None
+    bound: Optional[Fraction] = None
     source: Optional[Source] = field(default=None, compare=False, repr=False)
 
     def of(self, instance: Given) -> Result:
@@ -80,14 +83,12 @@ class Result:
         }
 
     @property
-    def bound(self) -> Optional[Fraction]:
-        """A value that no feasible point's first objective is better than: with `optimal` the objective. Of `bestSoFar` none is told."""
-        return self.objective if self.status == "optimal" else None
-
-    @property
     def gap(self) -> Optional[Fraction]:
-        """How far the objective may be from the best one, in parts of itself: 0 with `optimal`, None where no bound is told."""
-        return Fraction(0) if self.status == "optimal" else None
+        """How far the objective may be from the best one, in parts of itself; None where no bound is told, and where the objective is 0."""
+        if self.objective is None or self.bound is None:
+            return None
+        off = abs(self.objective - self.bound)
+        return off / abs(self.objective) if self.objective else None if off else Fraction(0)
 
     @cached_property
     def names(self) -> Optional[tuple[str, ...]]:
@@ -308,13 +309,22 @@ def read_of_job(document: str, job: str, source: Optional[Source] = None) -> Res
     if values == ():
         raise NoReply("no item where there is one for each objective", came)
     cause = _one(items["cause"], came) if "cause" in items else None
-    found = Result(status, values[0] if values else None, point, ray, cause, items.get("tree"), document, values)
+    bound = values[0] if values and status == "optimal" else None
+    if "cause" in items and _parts_named(solutions[0], "bound"):
+        bound = _ratios((_one(_items(solutions[0], "bound", came), came),), came)[0]
+        items["tree"] = _items(solutions[0], "tree", came)
+    found = Result(status, values[0] if values else None, point, ray, cause, items.get("tree"), document, values, bound)
     return scaled(found, source) if source else found
+
+
+def _parts_named(solution: ElementTree.Element, name: str) -> list[ElementTree.Element]:
+    """The parts of the certificate that have this name."""
+    return [it for it in below(solution, "otherSolutionResults", "otherSolutionResult") if it.get("name") == CERTIFICATE + name]
 
 
 def _items(solution: ElementTree.Element, name: str, came: bytes) -> tuple[str, ...]:
     """The items of one part of the certificate."""
-    parts = [it for it in below(solution, "otherSolutionResults", "otherSolutionResult") if it.get("name") == f"os_cert.{name}"]
+    parts = _parts_named(solution, name)
     if len(parts) != 1:
         raise NoReply(f"{len(parts)} parts os_cert.{name}", came)
     return tuple(text_in(item, came) for item in below(parts[0], "item"))
@@ -339,9 +349,11 @@ def _ratios(items: tuple[str, ...], came: bytes) -> tuple[Fraction, ...]:
 
 def scaled(result: Result, source: Source) -> Result:
     """A result as one of this instance, its objectives in the numbers that were meant."""
-    values = result.objectives
-    if values and source.goal_scales:
-        if len(values) != len(source.goal_scales):
-            raise NoReply(f"{len(values)} objectives where there are {len(source.goal_scales)}", result.document.encode())
-        values = tuple(value / scale for value, scale in zip(values, source.goal_scales))
-    return dataclasses.replace(result, objective=values[0] if values else result.objective, objectives=values, source=source)
+    values, bound, scales = result.objectives, result.bound, source.goal_scales
+    if values and scales:
+        if len(values) != len(scales):
+            raise NoReply(f"{len(values)} objectives where there are {len(scales)}", result.document.encode())
+        values = tuple(value / scale for value, scale in zip(values, scales))
+    if bound is not None and scales:
+        bound /= scales[0]
+    return dataclasses.replace(result, objective=values[0] if values else result.objective, objectives=values, bound=bound, source=source)
