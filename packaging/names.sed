@@ -1,7 +1,7 @@
 # What stands in texts and scripts of the checkout, as it is called where the package is installed.
 s|/usr/local/lib/gubnatris/README\.md|/usr/share/doc/gubnatris/README.md|g
 s|/usr/local/lib/gubnatris|/usr/lib/gubnatris|g
-s|\./os |gubnatris |g
+/\.\/os try/!s|\./os |gubnatris |g
 s|`\./os`|`gubnatris`|g
 s|"\./os "|"gubnatris "|g
 s|'os: |'gubnatris: |g

@@ -76,7 +76,8 @@ function end(text) {
 
 function documentOf(text, root) {
   const read = new DOMParser().parseFromString(text, "text/xml"), top = read.documentElement;
-  if (!top || top.localName !== root) throw new Complaint(`it isn't ${root === "osil" ? "OSiL" : `a document of ${root}`}`);
+  const isBroken = read.getElementsByTagNameNS("http://www.w3.org/1999/xhtml", "parsererror").length > 0;
+  if (isBroken || !top || top.localName !== root) throw new Complaint(`it isn't ${root === "osil" ? "OSiL" : `a document of ${root}`}`);
   return top;
 }
 

@@ -142,11 +142,11 @@ def is_worth(text, value):
 
 def fact(page, name):
     """What stands behind a name in the list of facts of the result."""
-    pairs = page.driver.execute_script("return [...document.querySelectorAll('#result dt')].map(it => [it.innerText, it.nextElementSibling.innerText])")
-    return dict(map(tuple, pairs)).get(name, "")
+    return dict(map(tuple, facts_of(page))).get(name, "")
 
 
 def facts_of(page):
+    """The names and texts of that list."""
     return page.driver.execute_script("return [...document.querySelectorAll('#result dt')].map(it => [it.innerText, it.nextElementSibling.innerText])")
 
 
@@ -283,8 +283,9 @@ def parity(count, factor):
     )
 
 
-def shows_long_results(page, client):
+def shows_long_results(page, machines):
     """A result of nearly 4 MiB, of a job that was sent elsewhere, is opened; with its instance it has names."""
+    client = ProxyClient(machines)
     limits = "".join(f'<solverOption name="{name}" value="{limit}"/>' for name, limit in (("nodeLimit", 10**6), ("pivotLimit", 10**8)))
     number = int(returned(client.post(envelope("getJobID"))[1])[3:])
     osil, osol = parity(16, 2000), options(number).replace("</osol>", f"<optimization><solverOptions>{limits}</solverOptions></optimization></osol>")
@@ -293,6 +294,7 @@ def shows_long_results(page, client):
     while "<status>finished<" not in text:
         text = returned(client.post(envelope("retrieve", osol=options(number)))[1])
         time.sleep(0.2)
+    client.close()
     page.check("its bytes", LONGEST * 0.9 < len(text) < LONGEST)
     before, begun = page.processor_seconds(), time.monotonic()
     page.driver.execute_script("location.hash = arguments[0]", name)
@@ -307,10 +309,12 @@ def shows_long_results(page, client):
     page.picture("long")
 
 
-def shows_many_jobs(page, client):
+def shows_many_jobs(page, machines):
     """2,000 jobs, over all servers, are shown within a second of the page's processor time, from the start of its loading."""
+    client = ProxyClient(machines)
     for _ in range(MANY):
         client.post(envelope("getJobID"))
+    client.close()
     page.driver.execute_cdp_cmd("Page.addScriptToEvaluateOnNewDocument", {"source": WHEN_SHOWN})
     page.driver.get("about:blank")
     before = page.processor_seconds()
@@ -338,15 +342,15 @@ def meets_a_server_that_is_down(page, machines):
     page.check("it is back", page.wait("it is told", lambda: re.search(r"two: (idle|busy)", page.text("#servers")) is not None))
 
 
-def is_guarded(page, client):
+def is_guarded(page, machines):
     """Its policy lets nothing else in, a call from another page is refused, and it is small."""
+    client = ProxyClient(machines)
     page.check("its bytes", sum((PAGE / name).stat().st_size for name in ("index.html", "page.js", "page.css")) < MOST_BYTES)
     said = page.driver.execute_script("const it = await fetch('/page/'); return it.headers.get('content-security-policy')")
     page.check("its policy", said.startswith("default-src 'none'; script-src 'self'; style-src 'self'; connect-src 'self'"))
-    field = client.field
-    client.field = b"\r\nSec-Fetch-Site: cross-site" + field
+    client.field = b"\r\nSec-Fetch-Site: cross-site" + client.field
     page.check("a call from another page", client.post(envelope("knock"))[0], 403)
-    client.field = field
+    client.close()
     wrong = [entry["message"] for entry in page.driver.get_log("browser") if entry["level"] == "SEVERE" and "503" not in entry["message"]]
     page.check("what the browser complains of", wrong, [])
 
@@ -355,14 +359,10 @@ def main():
     folder = Path(sys.argv[1] if len(sys.argv) > 1 else "out/page")
     folder.mkdir(parents=True, exist_ok=True)
     with Machines() as machines, Page(machines, folder) as page:
-        client = ProxyClient(machines)
         for tried in (sends_examples, shows_slacks, shows_names_as_text, tells_refusals, stops_and_gives_up, is_used_by_keyboard, folds_trees):
             tried(page)
-        shows_long_results(page, client)
-        meets_a_server_that_is_down(page, machines)
-        shows_many_jobs(page, client)
-        is_guarded(page, client)
-        client.close()
+        for tried in (shows_long_results, meets_a_server_that_is_down, shows_many_jobs, is_guarded):
+            tried(page, machines)
     print(f"{page.passed} passed, {page.failed} failed")
     return page.failed > 0
 
