@@ -18,6 +18,7 @@ import lp_reader
 import mps_reader
 import result_text
 from linear_program import Complaint, Unread, osil, read_bytes, read_text, write_whole
+from gubnatris import instances
 
 HERE = os.path.dirname(os.path.abspath(__file__))
 CORE_FOLDER = f"{HERE}/certify_core/out"
@@ -26,7 +27,7 @@ SHARE = 0.2  # of the seconds that are left, for each of these solvers
 LEAST_SECONDS = 1.0
 PARTS = ("point", "value", "ray", "bound", "rounds", "tree", "cause")
 # The checker reads no bound of a claim that is best so far. Once it does, such a claim carries one, with its rounds and its tree.
-BOUND_IS_READ = False
+BOUND_IS_READ = True
 
 
 class Wanting(Exception):
@@ -119,7 +120,7 @@ def named_point(path, instance):
         if len(words) != 2 or words[0] not in numbers:
             raise Complaint(f"line {k} isn't the name of a variable and its value")
         try:
-            point[numbers[words[0]]] = float(job_documents.decimal(words[1], f"the value in line {k}") if "/" not in words[1] else fractions.Fraction(words[1]))
+            point[numbers[words[0]]] = float(instances.decimal(words[1], f"the value in line {k}") if "/" not in words[1] else fractions.Fraction(words[1]))
         except (ValueError, ZeroDivisionError) as error:
             raise Complaint(f"the value in line {k} is {words[1][:40]!r}, which is no number") from error
     return point

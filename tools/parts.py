@@ -8,7 +8,7 @@ import fractions
 import re
 from typing import NamedTuple, Optional
 
-from job_documents import Column, Instance
+from gubnatris.instances import Column, Instance
 
 ZERO = fractions.Fraction(0)
 WIDEST = 2**127 - 1
