@@ -26,8 +26,6 @@ FIRST_WORK = 2e7  # of the core before other solvers are asked, in its own measu
 SHARE = 0.2  # of the seconds that are left, for each of these solvers
 LEAST_SECONDS = 1.0
 PARTS = ("point", "value", "ray", "bound", "rounds", "tree", "cause")
-# The checker reads no bound of a claim that is best so far. Once it does, such a claim carries one, with its rounds and its tree.
-BOUND_IS_READ = True
 
 
 class Wanting(Exception):
@@ -212,11 +210,7 @@ class Certifying:
 
     def accepted(self, claim, parts):
         """What the checker accepts of a claim, or less of it."""
-        if claim == "bestSoFar" and BOUND_IS_READ and "bound" in parts:
-            answer = self.checked(claim, parts)
-            if answer.startswith("accepted"):
-                return f"{answer} within {abs(fractions.Fraction(parts['value'][0]) - fractions.Fraction(parts['bound'][0]))}"
-        if claim not in ("bestSoFar", "unsure"):
+        if claim not in ("bestSoFar", "unsure") or "bound" in parts:
             answer = self.checked(claim, parts)
             if answer.startswith("accepted"):
                 return answer
