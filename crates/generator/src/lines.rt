@@ -1,10 +1,10 @@
 //! Says in a line how a generated instance was solved.
 
 ghost use Rattle.std.specs.Prelude.{◌≡◌, ◌++◌, IfOk, OnOk};
-ghost use Rattle.certificate.specs.Nodes.{certs_of};
+ghost use Rattle.certificate.specs.Nodes.{cert_of, certs_of};
 ghost use Rattle.generator.specs.Lines.{status_word, first_value, value_word, first_count, check_word, summary};
 
-use certificate::{Cert, Claim};
+use certificate::{Cert, Claim, ProvedBound};
 use decimal_text::write_ratio;
 use fraction::Frac;
 use itoa::Buffer;
@@ -56,6 +56,16 @@ fn count_first(certs: &[Cert]) -> usize
     certs[0].nodes.len()
 }
 
+/// How many nodes a bound's certificate has.
+fn count_bound(bound: &Option<ProvedBound>) -> usize
+    ensures { result ≡ first_count (cert_of bound.now) }
+{
+    match bound {
+        Some(bound) => bound.cert.nodes.len(),
+        None => 0,
+    }
+}
+
 /// How many nodes the claim's first certificate has.
 fn count_nodes(claim: &Claim) -> usize
     ensures { result ≡ first_count (certs_of claim.now) }
@@ -64,7 +74,7 @@ fn count_nodes(claim: &Claim) -> usize
         Claim::Optimal { certs, .. } => count_first(certs.as_slice()),
         Claim::Infeasible { cert } => cert.nodes.len(),
         Claim::Unbounded { certs, .. } => count_first(certs.as_slice()),
-        _ => 0,
+        Claim::BestSoFar { bound, .. } | Claim::Unsure { bound, .. } => count_bound(bound),
     }
 }
 
