@@ -2,9 +2,10 @@
 
     python3 tools/certify_tables.py [random N] [models | peers] [inputs] [vipr]
 
-Without words it tries all, with 1,000 programs of each kind. *Random* compares what `check` accepts of small programs with what `solve`
-says of them. *Models* are GLPK's own, of those within the limits; *peers* times `solve`, `glpsol` and `cbc` beside. *Inputs* are bad ones, and solvers that lie, write rubbish, hang or
-aren't there. *Vipr* reads the files of certificates by a checker that knows nothing of this project.
+Without words it tries all but *peers*, with 1,000 programs of each kind. *Random* compares what `check` accepts of small programs with what
+`solve` says of them. *Models* are GLPK's own, of those within the limits; *peers* times `solve`, `glpsol` and `cbc` beside. *Inputs* are bad
+ones, and solvers that lie, write rubbish, hang or aren't there. *Vipr* reads the files of certificates by a checker that knows nothing of
+this project.
 """
 
 import concurrent.futures
@@ -28,6 +29,7 @@ import convert_peers
 import float_solvers
 import job_documents
 import programs
+import result_text
 import vipr_checking
 import vipr_text
 
@@ -358,6 +360,7 @@ def try_vipr():
             check(answer.startswith("verified"), name, answer)
             try_spoilt(name, text)
         try_made_vipr(folder)
+        try_bounds(folder)
     print("VIPR files of the examples, spoilt ones, and files of certificates that are made: tried", flush=True)
 
 
@@ -374,6 +377,25 @@ def try_made_vipr(folder):
         for level in range(max(1, text.count("<item>level ") + 1)):
             verdict = vipr_checking.verdict(vipr_of(osil, osrl, level))
             check(verdict.startswith("verified infeasible" if answer == "accepted infeasible" else "verified range"), f"VIPR of {program.name}, level {level + 1}", verdict)
+
+
+def try_bounds(folder):
+    """The bound of a search that is ended early is shown by its rounds and its tree, which are read as those of an optimum."""
+    for program in (programs.knapsack(30, 3), programs.cover(40), programs.fixed_charge(6, 8), programs.general_assignment(5, 25)):
+        osil = put(folder, "osil", programs.osil(program))
+        run = certifying.Certifying(osil, 20, SEED, set(), None)
+        run.begin(folder)
+        claim, parts = run.core_claim([[0.0] * len(program.variables)], 20, 3e5)
+        if "bound" not in parts:
+            check(claim != "bestSoFar", f"{program.name} has a bound", claim)
+            continue
+        (bound,) = parts.pop("bound")
+        osrl = put(folder, "osrl", result_text.osrl("optimal", parts))
+        promise = f"RTP range -inf {bound}" if program.maximise else f"RTP range {bound} inf"
+        text = vipr_of(osil, osrl).replace(f" {parts['value'][0]} OBJ ", f" {bound} OBJ ")
+        answer = vipr_checking.verdict(re.sub("^RTP .*$", promise, text, count=1, flags=re.M))
+        check(answer == promise.replace("RTP", "verified"), f"the bound of {program.name}", answer)
+        print(f"{program.name}: {parts['value'][0]}, and none beyond {bound}", flush=True)
 
 
 def main():
