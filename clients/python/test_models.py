@@ -14,9 +14,11 @@ import os
 import random
 import re
 import signal
+import socket
 import subprocess
 import sys
 import tempfile
+import threading
 import time
 import unittest
 from decimal import Decimal
@@ -24,7 +26,7 @@ from fractions import Fraction
 from pathlib import Path
 
 from gubnatris import (
-    BadModel, Error, Model, NoProgram, NotInstance, NotOffered, NotSent, Program, ProgramFailed, Refused, Server, names, read_result, solver,
+    BadModel, Error, Model, NoProgram, NoReply, NotInstance, NotOffered, NotSent, Program, ProgramFailed, Refused, Server, names, read_result, solver,
 )  # fmt: skip
 from gubnatris.instances import read_instance
 
@@ -270,6 +272,24 @@ class Programs(unittest.TestCase):
                 Program().solve(instance)
         with self.assertRaises(Refused):
             Program().solve(DIET, node_limit=0)
+
+    def test_files_that_cant_be_written(self):
+        before, tempfile.tempdir = tempfile.tempdir, "/none"
+        try:
+            with self.assertRaisesRegex(NotSent, "no file can be written for the program"):
+                Program().solve(DIET)
+        finally:
+            tempfile.tempdir = before
+        with self.assertRaisesRegex(NotSent, "no file can be written for the program"):
+            Program().solve("<osil>\ud800</osil>")
+
+    def test_a_server_that_ends_within_a_call(self):
+        with socket.create_server(("127.0.0.1", 0)) as listener:
+            thread = threading.Thread(target=lambda: listener.accept()[0].close())
+            thread.start()
+            with self.assertRaises(NoReply):
+                Server(f"http://127.0.0.1:{listener.getsockname()[1]}", seconds=20).solve(DIET)
+            thread.join()
 
     def test_where_it_is(self):
         kept = dict(os.environ)

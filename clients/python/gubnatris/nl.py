@@ -97,13 +97,12 @@ class TextFeed:
 
     def key(self) -> Optional[str]:
         """The letter that begins the next segment, or none at the end."""
-        if not any(line.split("#", 1)[0].strip() for line in self.lines[self.at : self.at + 1]) and self.is_over():
+        while self.at < len(self.lines) and not self.lines[self.at].split("#", 1)[0].strip():
+            self.at += 1
+        if self.at == len(self.lines):
             return None
         self.line()
         return self.letter()
-
-    def is_over(self) -> bool:
-        return not any(line.split("#", 1)[0].strip() for line in self.lines[self.at :])
 
     def letter(self) -> str:
         """The first letter of the line's first word, which is taken off."""

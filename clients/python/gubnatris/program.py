@@ -10,9 +10,9 @@ import socket
 import subprocess
 import tempfile
 from pathlib import Path
-from typing import Iterator, Optional, Union
+from typing import Callable, Iterator, Optional, Union
 
-from .errors import NoProgram, NotReached, ProgramFailed
+from .errors import NoProgram, NotReached, NotSent, ProgramFailed
 from .options import find_not_offered, options_text
 from .results import Result, read_of_job
 from .server import Server
@@ -24,7 +24,7 @@ STATUSES = {
     4: "it couldn't write its answer",
     5: "there was no memory",
 }
-INTERRUPTS = (signal.SIGHUP, signal.SIGINT, signal.SIGTERM)
+INTERRUPTS = [getattr(signal, name) for name in ("SIGHUP", "SIGINT", "SIGTERM") if hasattr(signal, name)]
 ENDS_WITHIN = 5.0  # seconds that a program has to end by itself
 PORTS_TRIED = 5
 
@@ -90,23 +90,20 @@ class Program:
         """The program while it runs; it is ended where this is left. A signal that comes while it is begun waits, so that it isn't lost sight of."""
         process = None
         try:
-            held = signal.pthread_sigmask(signal.SIG_BLOCK, INTERRUPTS)
-            try:
+            with _held_signals() as let_go:
                 process = subprocess.Popen(
-                    [self.path, *words],
-                    stdin=subprocess.DEVNULL,
-                    stdout=subprocess.PIPE,
-                    stderr=errors,
-                    preexec_fn=lambda: signal.pthread_sigmask(signal.SIG_SETMASK, held),
+                    [self.path, *words], stdin=subprocess.DEVNULL, stdout=subprocess.PIPE, stderr=errors, preexec_fn=let_go
                 )
-            except OSError as failure:
-                raise NoProgram(f"{self.path} can't be run: {failure.strerror}") from failure
-            finally:
-                signal.pthread_sigmask(signal.SIG_SETMASK, held)
-            yield process
-        finally:
+        except OSError as failure:
+            raise NoProgram(f"{self.path} can't be run: {failure.strerror}") from failure
+        except BaseException:
             if process:
                 _end(process)
+            raise
+        try:
+            yield process
+        finally:
+            _end(process)
 
     @contextlib.contextmanager
     def _serving(self) -> Iterator[Server]:
@@ -153,10 +150,27 @@ def _found(path: Union[str, Path, None]) -> str:
 @contextlib.contextmanager
 def _files(**texts: str) -> Iterator[str]:
     """A folder with these texts, while it is used."""
-    with tempfile.TemporaryDirectory(prefix="gubnatris-") as folder:
-        for name, text in texts.items():
-            Path(folder, name).write_text(text, encoding="utf-8", newline="")
+    with contextlib.ExitStack() as stack:
+        try:
+            folder = stack.enter_context(tempfile.TemporaryDirectory(prefix="gubnatris-"))
+            for name, text in texts.items():
+                Path(folder, name).write_text(text, encoding="utf-8", newline="")
+        except (OSError, UnicodeEncodeError) as failure:
+            raise NotSent(f"no file can be written for the program: {failure}") from failure
         yield folder
+
+
+@contextlib.contextmanager
+def _held_signals() -> Iterator[Optional[Callable[[], object]]]:
+    """While this is used signals wait; what it gives lets them go, for a child that would inherit that. Nothing waits where signals can't."""
+    if not hasattr(signal, "pthread_sigmask"):
+        yield None
+        return
+    before = signal.pthread_sigmask(signal.SIG_BLOCK, INTERRUPTS)
+    try:
+        yield lambda: signal.pthread_sigmask(signal.SIG_SETMASK, before)
+    finally:
+        signal.pthread_sigmask(signal.SIG_SETMASK, before)
 
 
 def _end(process: subprocess.Popen[bytes]) -> None:
