@@ -1,4 +1,4 @@
-# shellcheck shell=sh disable=SC2034 # the script that reads it uses what is set here
+# shellcheck shell=sh disable=SC2034,SC2154 # the script that reads it has set, and uses, what stands here
 # Read by the command of the package in the place of tools/os_build.sh: the program is there, and is never built.
 program=/usr/lib/gubnatris/os_main
 

@@ -9,11 +9,6 @@ listed=tools/outside.txt
 logs=$PWD/out/outside
 child=
 
-# Ends the script that runs, with all that it started.
-stop() {
-    [ -z "$child" ] || kill -s TERM "$child"
-    exit 130
-}
 
 # The names of the list, in its order.
 all_names() {
@@ -77,6 +72,18 @@ HEAD
     printf '\n| script | outcome | checks | seconds | commit | day | program | shows |\n|---|---|---|---|---|---|---|---|\n%s\n' "$rows"
 }
 
+# Writes what was seen.
+keep_table() {
+    table >"$logs/OUTSIDE.md" && cp "$logs/OUTSIDE.md" docs/OUTSIDE.md
+}
+
+# Ends the script that runs, with all that it started, and keeps what was seen of those before it.
+stop() {
+    [ -z "$child" ] || kill -s TERM "$child"
+    keep_table
+    exit 130
+}
+
 trap stop HUP INT TERM
 [ $# -gt 0 ] || mapfile -t names < <(all_names)
 [ $# -eq 0 ] || names=("$@")
@@ -91,6 +98,6 @@ passed=0
 for name in "${names[@]}"; do
     try "$name"
 done
-table >"$logs/OUTSIDE.md" && cp "$logs/OUTSIDE.md" docs/OUTSIDE.md || exit 2
+keep_table || exit 2
 echo "$passed passed, $((${#names[@]} - passed)) failed"
 [ "$passed" -eq "${#names[@]}" ]
