@@ -14,6 +14,7 @@ status=1 # of that process
 . "$here/tools/os_build.sh"
 
 # Hands a signal on. It goes as TERM, since what a script starts behind itself ignores INT and QUIT.
+# shellcheck disable=SC2317 # a trap calls it
 hand_on() {
     caught=$1
     [ -z "$child" ] || kill -s TERM "$child" 2>/dev/null

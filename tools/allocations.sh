@@ -1,11 +1,11 @@
-#!/bin/sh
-# Refuses each allocation of a session in turn: getJobID, send, knock and retrieve of one small job, by the program that ./os builds or
-# another one that is named. Where one is refused, the answers that were written are those of the session in which none is, up to a
+#!/usr/bin/env bash
+# Refuses each allocation of a session in turn: getJobID, send, knock and retrieve of one small job, by the program that ./os builds, or
+# another one that OS_PROGRAM names. Where one is refused, the answers that were written are those of the session in which none is, up to a
 # request that gets 503 in place of its answer, with the status 5; or all of them, of which the last may say that the job is finished
 # and that nothing is claimed, for want of memory. Prints each run that wrote something else, and in one line how many were tried.
-#   sh tools/allocations.sh [PROGRAM]
-top=$(CDPATH='' cd -- "$(dirname -- "$0")/.." && pwd) || exit 2
-program=${1:-$top/crates/os_main/out/os_main}
+#   bash tools/allocations.sh
+. "$(dirname "$0")/program.sh"
+program=$OS_PROGRAM
 room=$(mktemp -d) || exit 2
 trap 'rm -rf "$room"' EXIT
 LC_ALL=C

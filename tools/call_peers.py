@@ -11,7 +11,7 @@ import threading
 import xml.etree.ElementTree as tree
 from xml.sax.saxutils import escape
 
-PROGRAM = os.path.abspath("crates/os_main/out/os_main")
+PROGRAM = os.path.abspath(os.environ.get("OS_PROGRAM", "crates/os_main/out/os_main"))
 HOST = "127.0.0.1"
 OSIL = '<osil><instanceData><variables><var/></variables><objectives><obj><coef idx="0">1</coef></obj></objectives></instanceData></osil>'
 SOAP = "http://schemas.xmlsoap.org/soap/envelope/"

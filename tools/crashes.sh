@@ -4,5 +4,5 @@
 # written again. Before that, journals with each of their bytes changed, and a file that may grow no longer. OS_PROGRAM names another
 # program than the one that is built here.
 #   bash tools/crashes.sh [TIMES]
-cd "$(dirname "$0")/.." || exit 1
-{ [ "${OS_PROGRAM:-}" ] || ./os session </dev/null; } && PYTHONDONTWRITEBYTECODE=1 exec python3 tools/crashes.py "$@"
+. "$(dirname "$0")/program.sh"
+exec python3 tools/crashes.py "$@"

@@ -29,6 +29,7 @@ lines() {
 # gate wants no second crates.txt, and the folder .git makes it the top of a repository, wherever it stands.
 lay_out() {
     room=$(mktemp -d) && mkdir "$room/crates" "$room/.git" && lines >"$room/crates.txt" && cp "$here/HANDLES" "$room" || return 1
+    # shellcheck disable=SC2013 # a name has no space
     for listed in $(sed 's/[ :].*//' "$room/crates.txt"); do
         mkdir "$room/crates/$listed" || return 1
         for part in "$here/crates/$listed"/*; do

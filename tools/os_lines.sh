@@ -15,6 +15,7 @@ mkdir -p tools docs bin
 cp "$top/os" "$top/crates.txt" "$top/HANDLES" .
 cp "$top/tools/os_words.sh" "$top/tools/os_build.sh" tools
 cp "$top/docs/commands.txt" "$top/docs/WORKING.md" docs
+# shellcheck disable=SC2013 # a name has no space
 for name in $(sed -n 's/^\([a-z][a-z0-9_]*\):.*/\1/p' crates.txt); do
     mkdir -p "crates/$name/src"
     echo "// $name" >"crates/$name/src/lib.rt"
@@ -91,6 +92,7 @@ says_no_command './os check OSIL OSRL' help check
 says_no_command 'os: there is no command fly' help fly
 says_no_command 'os: there is no command fly; ./os help lists those that there are' fly away
 says_no_command 'os: there is no command -x; ./os help lists those that there are' -x
+# shellcheck disable=SC2013 # a name has no space
 for command in $(sed -n 's/^command //p' docs/commands.txt); do
     ./os help "$command" >/dev/null 2>err
     for part in takes gives ends example; do
@@ -182,6 +184,7 @@ expect 'what was changed is proved' "$(grep -c '^// changed' seen)" 1
 expect 'a crate that the program needs is proved' "$(grep -c '^// os_app$' seen)" 1
 expect 'no other crate is proved' "$(grep -c '^// try_runs$' seen)" 0
 expect 'no edits are tried' "$(cat left)" ''
+# shellcheck disable=SC2012 # no other names are there
 expect 'what a build makes' "$(ls crates/os_main/out | tr '\n' ' ')" 'crates.log lock os_main '
 expect 'first line of a build' "$(sed -n 's/ about .*//p' err | head -n 1 | sed 's/^os: [0-9]* /os: N /')" "os: N of $count crates proved, 0 min gone,"
 expect 'last lines of a build' "$(sed 's/about [0-9]* min/about N min/' err | tail -n 2)" "os: $count of $count crates proved, 0 min gone, about N min left

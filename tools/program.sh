@@ -9,12 +9,5 @@ if [ -z "${OS_PROGRAM-}" ]; then
 fi
 export OS_PROGRAM PYTHONDONTWRITEBYTECODE=1
 [ -x "$OS_PROGRAM" ] || { echo "$OS_PROGRAM isn't a program" >&2; exit 1; }
-
-# Installs those of these packages that aren't there.
-install_packages() {
-    local package missing=()
-    for package in "$@"; do
-        dpkg -s "$package" >/dev/null 2>&1 || missing+=("$package")
-    done
-    [ "${#missing[@]}" -eq 0 ] || { apt-get update -q && apt-get install -y -q --no-install-recommends "${missing[@]}"; } >/dev/null || exit
-}
+# shellcheck source=tools/packages.sh
+. tools/packages.sh
