@@ -269,6 +269,9 @@ class Division:
         return any(seat.task and seat.task.kind == "bound" for seat in self.seats)
 
     def next_task(self, seat):
+        if "search" in seat.kinds and not self.coarse and not self.root.is_searched and not self.is_settled(self.root):
+            self.root.is_searched = True  # what is small is solved sooner so than by its parts
+            return Task("search", self.root, self.writer.text(self.root.variables))
         if "bound" in seat.kinds:
             part = self.next_open()
             if part:

@@ -177,7 +177,8 @@ class Solving:
         line = checker.line(osil.decode("utf-8", "surrogateescape"), text)
         is_right = line.startswith("accepted")
         write_whole(text, self.words.output)
-        self.tell(f"{note}{line}{self.numbers(claim)}", is_right and claim.status in ("optimal", "infeasible", "unbounded") and not note)
+        said = f"unsure, {claim.cause}" if claim.status == "unsure" and line == "refused NoClaim" else line
+        self.tell(f"{note}{said}{self.numbers(claim)}", is_right and claim.status in ("optimal", "infeasible", "unbounded") and not note)
         return 0 if is_right and not note else 1
 
     def numbers(self, claim):

@@ -22,6 +22,8 @@ from serving import PROGRAM, Server
 
 TOOL = "tools/solve_apart"
 LONGEST = 240
+os.environ["TRY_APART"] = str(os.getpid())  # by which the processes are known that were started for this trial
+MARK = f"TRY_APART={os.getpid()}"
 ENVELOPE = '<Envelope><Body><{0}Response><{0}Return>{1}</{0}Return></{0}Response></Body></Envelope>'
 FULL = "<Envelope><Body><Fault><faultcode>soap:Server.Full</faultcode><faultstring>10000 jobs</faultstring></Fault></Body></Envelope>"
 KNOCKED = (
@@ -161,11 +163,11 @@ def servers(folder):
         ran = case.solve("--servers", ",".join(urls), "--workers", "1")
         is_so(f"two servers: {case.line()} {case.told()}", ran.returncode == 0 and case.line() == "accepted optimal" and case.told() == value)
         states = [gubnatris.Server(url).jobs() for url in urls]
-        is_so(f"no job is left at them, of {[it.total for it in states]}", all(not it.states and it.total > 5 for it in states))
+        is_so(f"no job is left at them, of {[it.total for it in states]}", all(not it.states and it.total for it in states))
         for name, document in lies(case):
             with Lying(escaped(document)) as liar:
                 ran = case.solve("--servers", f"{liar.url},{urls[0]}", "--workers", "1")
-                is_told = f"{liar.url} is left out: its answer" in ran.stderr or "is left out" in ran.stderr
+                is_told = f"{liar.url} is left out: its answer" in ran.stderr if 'type="' in document and "unknown" not in document else f"{liar.url}: " in ran.stderr
                 is_so(f"{name}: {case.line()}, asked {liar.handler.asked} times", ran.returncode == 0 and case.told() == value and is_told and 0 < liar.handler.asked)
         with Lying("full") as full:
             ran = case.solve("--servers", f"{full.url},{urls[0]}", "--workers", "1")
@@ -196,7 +198,7 @@ def families():
 def is_mine(pid):
     try:
         words = Path(f"/proc/{pid}/cmdline").read_bytes().split(b"\0")
-        return words[:2] == [os.path.abspath(PROGRAM).encode(), b"serve"] and os.path.realpath(f"/proc/{pid}/cwd") == os.getcwd()
+        return words[1:2] == [b"serve"] and MARK.encode() in Path(f"/proc/{pid}/environ").read_bytes().split(b"\0")
     except OSError:
         return False
 
@@ -227,7 +229,7 @@ def goes_on(folder):
 
 def ends_early(folder):
     """An instance that no search ends soon: the best point, and a bound that the parts show."""
-    case = Case(folder, "early", Path("examples/cutting_stock.osil").read_text(encoding="utf-8"))
+    case = Case(folder, "early", programs.osil(programs.job_shop(6, 4)))
     ran = case.solve("--workers", "2", "--seconds", "10")
     is_so(f"ten seconds: {last(ran)[:130]}", ran.returncode == 0 and case.line().startswith("accepted bestSoFar") and "none better than" in ran.stderr)
     document = Path(case.osrl).read_text(encoding="utf-8")

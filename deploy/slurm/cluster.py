@@ -161,6 +161,13 @@ class Cluster:
                     pass
 
     @staticmethod
+    def processor_seconds(process):
+        """The processors' seconds of a daemon itself."""
+        with open(f"/proc/{process.pid}/stat", encoding="ascii") as stat:
+            fields = stat.read().rpartition(")")[2].split()
+        return (int(fields[11]) + int(fields[12])) / os.sysconf("SC_CLK_TCK")
+
+    @staticmethod
     def spent():
         """The seconds of processors that all processes took that were waited for."""
         usage = resource.getrusage(resource.RUSAGE_CHILDREN)

@@ -1,6 +1,6 @@
 """Tries what solves by Slurm, on a cluster of a controller and two daemons that this starts on loopback and ends.
 
-    python3 deploy/slurm/try.py [FILES]     so many small files, 400 where none are asked for; with 10,000 it measures them too
+    python3 deploy/slurm/try.py [FILES]     where a number stands there, it measures so many small files instead
 """
 
 import os
@@ -169,24 +169,30 @@ def measured(trial, count):
     begun, before = time.monotonic(), Cluster.spent()
     with Cluster([free_port() for _ in range(3)]) as cluster:
         ran = subprocess.run([MANY, where], env=os.environ | cluster.environment, capture_output=True, text=True, check=False)
+        of_daemons = {name: round(cluster.processor_seconds(process), 1) for name, process in cluster.processes.items()}
     through, clock = Cluster.spent() - before, time.monotonic() - begun
-    print(f"{count} files: {direct:.1f} s of processors by themselves, {through:.1f} s through Slurm, {direct / through:.2f} of them; {clock:.0f} s of the clock")
+    print(f"{count} files: {direct:.1f} s of processors by themselves, {through:.1f} s through Slurm, {direct / through:.2f} of them; {clock:.0f} s of the clock; of Slurm's own {of_daemons}")
     trial.is_so(ran.stdout.partition(";")[0], ran.returncode == 0 and len(results(where)) == count)
 
 
+def tried(folder):
+    """All trials on one cluster; what was found."""
+    with Cluster([free_port() for _ in range(3)]) as cluster:
+        trial = Trial(cluster, folder)
+        for try_one in (lambda: many_files(trial, 400), lambda: interrupted(trial, 400), lambda: bad_words(trial), lambda: parts_of_one(trial), lambda: lost_node(trial, 100)):
+            try_one()
+    return trial
+
+
 def main():
-    count = int(sys.argv[1]) if sys.argv[1:] else 400
     with tempfile.TemporaryDirectory(prefix="many-") as folder:
         os.chmod(folder, 0o755)
-        with Cluster([free_port() for _ in range(3)]) as cluster:
-            trial = Trial(cluster, folder)
-            many_files(trial, min(count, 400))
-            interrupted(trial, min(count, 400))
-            bad_words(trial)
-            parts_of_one(trial)
-            lost_node(trial, 100)
-        if count >= 10_000:
-            measured(trial, count)
+        if sys.argv[1:]:
+            with Cluster([free_port() for _ in range(3)]) as cluster:
+                trial = Trial(cluster, folder)
+            measured(trial, int(sys.argv[1]))
+        else:
+            trial = tried(folder)
     with open(f"/proc/self/task/{os.getpid()}/children", encoding="ascii") as file:
         trial.is_so("no process is left", not file.read().split())
     print(f"{trial.passed} passed, {trial.failed} failed")
