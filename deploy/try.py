@@ -25,7 +25,8 @@ from serving import Client, envelope, free_port, options, returned
 CLIENTS = 24
 LONGEST = 4_194_304
 NOBODYS = 900_000_000
-FEW_ADDRESSES = 25_000_000
+ADDRESSES = 25_000_000  # bytes within which a server answers each call
+FEW_ADDRESSES = 12_000_000  # and within which it has none for long ones
 SHORT_CALLS = 200  # of each server, which has 64 seats
 TRIES = 40  # how often a server is asked that may be taken for down, twice a second
 
@@ -403,10 +404,10 @@ def by_the_python_client(machines):
     return objectives == ["42", "30", "6147/40"] and list(told_of.values()) == ["Status 401", "NotReached", "Status 503"]
 
 
-def short_of_memory(_):
-    """A server within few addresses answers 503 to calls for which they aren't enough, and goes on."""
+def answers_within(addresses):
+    """The statuses of three long calls and a short one behind them, from a server within so many addresses, and whether it goes on."""
     port = free_port()
-    with subprocess.Popen(["prlimit", f"--as={FEW_ADDRESSES}", "deploy/serve", "1", str(port)], stdout=subprocess.PIPE) as server:
+    with subprocess.Popen(["prlimit", f"--as={addresses}", "deploy/serve", "1", str(port)], stdout=subprocess.PIPE) as server:
         server.stdout.readline()
         statuses = []
         for osil in ["<a>" + "<b/>" * 380_000 + "</a>"] * 3 + ["<a/>"]:
@@ -415,8 +416,14 @@ def short_of_memory(_):
             client.close()
         ended = server.poll()
         server.kill()
-    print(f"a server within {FEW_ADDRESSES} bytes answers {', '.join(map(str, statuses[:3]))} to long calls, and {statuses[3]} to a short one behind them")
-    return 503 in statuses[:3] and statuses[3] == 200 and ended is None
+    print(f"a server within {addresses} bytes answers {', '.join(map(str, statuses[:3]))} to long calls, and {statuses[3]} to a short one behind them")
+    return statuses, ended is None
+
+
+def short_of_memory(_):
+    """A server within some addresses answers long calls; within fewer it answers 503 to calls for which they aren't enough, and goes on."""
+    enough, few = answers_within(ADDRESSES), answers_within(FEW_ADDRESSES)
+    return enough == ([200] * 4, True) and 503 in few[0][:3] and few[0][3] == 200 and few[1]
 
 
 def none_left(machines):
