@@ -105,7 +105,8 @@ def waited(client, wanted):
 
 
 def kill_a_job(client):
-    """Has a job run, and kills and reads it. It may be over before, for want of memory."""
+    """Has a job run, and kills and reads it. It may be over before: for want of memory, or because no worker could be started, so that it was run
+    behind an answer up to its limit."""
     for call, parts, wanted in (("getJobID", {}, "os-1"), ("send", {"osil": NO_END, "osol": LONG}, "true")):
         told = posted(client, call, **parts)
         if told is None:
@@ -113,14 +114,14 @@ def kill_a_job(client):
         if told != wanted:
             raise Other(f"{call} returned {told!r}")
     state = waited(client, ("running", "finished"))
-    cause = "memory"
+    causes = ["memory", "nodeLimit 1000000"]
     if state == "running":
         told = posted(client, "kill", osol=serving.options(1))
         if told is None or waited(client, ("finished", "none")) != "finished":
             return
-        cause = "killed" if state_of(told) == "running" else "memory"
+        causes = ["memory", "killed"] if state_of(told) == "running" else causes
     told = posted(client, "retrieve", osol=serving.options(1)) if state else None
-    if told is not None and f'os_cert.cause"><item>{cause}</item>' not in told and 'os_cert.cause"><item>memory</item>' not in told:
+    if told is not None and not any(f'os_cert.cause"><item>{cause}</item>' in told for cause in causes):
         raise Other(f"the job ended otherwise: {told[-300:]!r}")
 
 
@@ -145,7 +146,7 @@ def serve_once(at, shim, errors):
     server = subprocess.Popen(words, stdout=subprocess.PIPE, stderr=errors, env=os.environ | {"REFUSE_AT": str(at), "LD_PRELOAD": shim})
     try:
         if server.stdout.readline() != b"listening\n":
-            return None if server.wait(20) == 5 else f"it ended with {server.returncode}"
+            return None if server.wait(20) in (5, 6) else f"it ended with {server.returncode}"  # 6: the system found none to listen
         why = talk(int(words[3]))
         return why or (None if server.wait(60) in (0, 5) else f"it ended with {server.returncode}")
     except subprocess.TimeoutExpired:
