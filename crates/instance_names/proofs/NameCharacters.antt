@@ -9,7 +9,7 @@ use Rattle.document_tags.specs.Characters.{AttributesOfCharacters, NodesOfCharac
 use Rattle.document_tags.specs.Elements.{value_of, named, children_named}
 use Rattle.document_tags.specs.OneChild.{only_one, only_child}
 use Rattle.document_tags.specs.Rests.{child_elements}
-use Rattle.osrl_writing.specs.declared.names.Names.{Names}
+use Rattle.osrl_writing.specs.declared.told_names.NameLists.{NameLists}
 use Rattle.osrl_writing.specs.Labels.{Labels, name_at, AreXmlLabels, AreXmlNames}
 use Rattle.instance_names.specs.Reading.{is_single, name_of, names_in, part_names, document_names, GivesNames}
 
@@ -75,5 +75,5 @@ root_xml root h =
     let data = child_of root (codes "instanceData") h in
     record { variables = part_xml (codes "variables") (codes "var") _ data; rows = part_xml (codes "constraints") (codes "con") _ data }
 
-pub given_xml : ((bytes : List ℕ) (root : Element) → Doc bytes root → IsOfCharacters root) → (bytes : List ℕ) (ns : Names) → GivesNames bytes ns → AreXmlNames ns
+pub given_xml : ((bytes : List ℕ) (root : Element) → Doc bytes root → IsOfCharacters root) → (bytes : List ℕ) (ns : NameLists) → GivesNames bytes ns → AreXmlNames ns
 given_xml of_characters bytes ns h = subst AreXmlNames (sym h.is) (root_xml h.root (of_characters bytes h.root h.document.document))

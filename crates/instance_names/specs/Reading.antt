@@ -6,7 +6,7 @@ use Rattle.document_tags.specs.Documents.{OfDocument}
 use Rattle.document_tags.specs.Elements.{value_of, children_named}
 use Rattle.document_tags.specs.OneChild.{only_child}
 use Rattle.document_tags.specs.Texts.{IsDocument}
-use Rattle.osrl_writing.specs.declared.names.Names.{Names}
+use Rattle.osrl_writing.specs.declared.told_names.NameLists.{NameLists}
 use Rattle.osrl_writing.specs.Labels.{Labels}
 
 -- no multiple is told, or that it is one
@@ -37,15 +37,15 @@ part_names part item None = []
 part_names part item (Some data) = names_in item (only_child data part)
 
 -- the names of the variables and of the rows of the document with this root
-abbrev pub document_names : Element → Names
+abbrev pub document_names : Element → NameLists
 document_names root =
     let data : Option Element = only_child root (codes "instanceData") in
     record { variables = part_names (codes "variables") (codes "var") data; rows = part_names (codes "constraints") (codes "con") data }
 
 -- the bytes are a document that gives these names
-abbrev pub GivesNames : List ℕ → Names → Type 0
+abbrev pub GivesNames : List ℕ → NameLists → Type 0
 GivesNames bytes ns = OfDocument (λ root ms. ms ≡ document_names root) bytes ns
 
 -- if the bytes are a document, it gives these names
-abbrev pub MayGiveNames : List ℕ → Names → Type 0
+abbrev pub MayGiveNames : List ℕ → NameLists → Type 0
 MayGiveNames bytes ns = (root : Element) → IsDocument bytes root → ns ≡ document_names root

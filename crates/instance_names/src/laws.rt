@@ -1,7 +1,7 @@
 //! What the definitions say together.
 
 ghost use Rattle.std.specs.Prelude.{ℕ, List};
-ghost use Rattle.osrl_writing.specs.declared.names.Names.{Names as NameLists};
+ghost use Rattle.osrl_writing.specs.declared.told_names.NameLists.{NameLists};
 ghost use Rattle.osrl_writing.specs.Labels.{AreXmlNames};
 ghost use Rattle.instance_names.specs.Reading.{GivesNames};
 

@@ -12,7 +12,7 @@ use document_tags::{Spot, only_child};
 use element_tree::Tree;
 use items::Items;
 use os_io::{MOST_BYTES, Memory, Text};
-use osrl_writing::Names;
+use osrl_writing::NameLists;
 use std::alloc::{AllocError, Global};
 
 /// Whether an element stands for one variable or row.
@@ -82,27 +82,27 @@ fn part_names(
 }
 
 /// The names that a document gives.
-fn document_names(alloc: Global, tree: &Tree) -> Result<Names, Memory>
+fn document_names(alloc: Global, tree: &Tree) -> Result<NameLists, Memory>
     ensures { (e : Element) → tree.now ≡ events e → IfOk result (λ ns. ns ≡ names.document_names e) }
 {
     let Some(root) = Spot::root(tree) else {
-        return Ok(Names::none(alloc));
+        return Ok(NameLists::none(alloc));
     };
     let data = only_child(alloc, root, b"instanceData")?;
     let variables = part_names(alloc, data, b"variables", b"var")?;
     let rows = part_names(alloc, data, b"constraints", b"con")?;
-    Ok(Names { variables, rows })
+    Ok(NameLists { variables, rows })
 }
 
 /// The names that the document of an instance gives: those of its variables, in the order of the `var` elements, and those of
 /// its rows, in that of the `con` elements. Where an element of one of the two lists stands for several by its `mult`, that
 /// list has no names. Bytes that are no document give none.
-pub fn read_names(alloc: Global, bytes: &[u8]) -> Result<Names, Memory>
+pub fn read_names(alloc: Global, bytes: &[u8]) -> Result<NameLists, Memory>
     ensures { IfOk result (MayGiveNames bytes.now) }
 {
     match read(alloc, bytes, MOST_BYTES) {
         Ok(tree) => document_names(alloc, &tree),
         Err(TreeFault::Memory) => Err(AllocError),
-        Err(_) => Ok(Names::none(alloc)),
+        Err(_) => Ok(NameLists::none(alloc)),
     }
 }

@@ -5,7 +5,7 @@ ghost use Rattle.document_tags.specs.Texts.{document_limit};
 ghost use Rattle.osrl_writing.specs.declared.report.Report.{Report};
 ghost use Rattle.osrl_grammar.specs.declared.fault.OsrlFault.{OsrlFault};
 ghost use Rattle.osrl_grammar.specs.declared.fault.OsrlFault.TheVariants.{Memory};
-ghost use Rattle.osrl_writing.specs.declared.names.Names.{Names as NameLists};
+ghost use Rattle.osrl_writing.specs.declared.told_names.NameLists.{NameLists};
 ghost use Rattle.osrl_writing.specs.Labels.{AreXmlNames};
 ghost use Rattle.osrl_writing.specs.Writing.{report_text, told_text};
 ghost use Rattle.osrl_grammar.specs.Reading.{IsReportText, DecodeFails};

@@ -1,7 +1,7 @@
 -- The names of variables and of rows, by their indices.
-use Rattle.std.specs.Prelude.{ℕ, Option, option_and_then, slice_get, IfSome, List, []}
+use Rattle.std.specs.Prelude.{ℕ, Option, None, get_or, IfSome, List, []}
 use Rattle.tree_grammar.specs.Characters.{IsXmlText}
-use Rattle.osrl_writing.specs.declared.names.Names.{Names}
+use Rattle.osrl_writing.specs.declared.told_names.NameLists.{NameLists}
 
 -- a name or none for each index
 abbrev pub Labels : Type 0
@@ -9,10 +9,10 @@ Labels = List (Option (List ℕ))
 
 -- the name at this index, if there is one
 abbrev pub name_at : Labels → ℕ → Option (List ℕ)
-name_at ls j = option_and_then (λ name. name) (slice_get ls j)
+name_at ls j = get_or ls j None
 
 -- no names
-abbrev pub no_names : Names
+abbrev pub no_names : NameLists
 no_names = record { variables = []; rows = [] }
 
 -- characters of XML, where there is a name
@@ -20,6 +20,6 @@ abbrev pub AreXmlLabels : Labels → Type 0
 AreXmlLabels ls = (j : ℕ) → IfSome (name_at ls j) IsXmlText
 
 -- all names are of characters of XML
-pub record AreXmlNames (ns : Names) : Type 0 where
+pub record AreXmlNames (ns : NameLists) : Type 0 where
   pub variables : AreXmlLabels ns.variables
   pub rows : AreXmlLabels ns.rows

@@ -17,7 +17,7 @@ use Rattle.certificate.specs.declared.causes.Cause.TheVariants as causes
 use Rattle.certificate.specs.declared.claims.ProvedBound.{ProvedBound}
 use Rattle.certificate.specs.declared.claims.Claim.{Claim}
 use Rattle.certificate.specs.declared.claims.Claim.TheVariants.{Optimal, Infeasible, Unbounded, BestSoFar, Unsure}
-use Rattle.osrl_writing.specs.declared.names.Names.{Names}
+use Rattle.osrl_writing.specs.declared.told_names.NameLists.{NameLists}
 use Rattle.osrl_writing.specs.declared.report.JobStatus.{JobStatus}
 use Rattle.osrl_writing.specs.declared.report.Report.{Report}
 use Rattle.osrl_writing.specs.Cuts.{cut_text}
@@ -158,7 +158,7 @@ bound_parts (Some b) = certificate_part parts.Bound (fraction_texts (b.number �
 abbrev pub solution : Claiming → (certificate : Nodes) → (values : Nodes → Nodes) → Nodes
 solution c certificate values = typed (codes "status") (claiming_text c) (values (group (codes "otherSolutionResults") certificate none))
 
-abbrev pub claim_nodes : Names → Claim → Nodes
+abbrev pub claim_nodes : NameLists → Claim → Nodes
 claim_nodes ns (Optimal x vs cs) = solution claiming.Optimal (point_parts x vs (trees_parts cs)) (λ more. point_values ns.variables x vs (dual_values ns.rows (length x) vs cs more))
 claim_nodes ns (Infeasible c) = solution claiming.Infeasible (tree_parts c []) (λ more. more)
 claim_nodes ns (Unbounded x vs cs r) = solution claiming.Unbounded (point_parts x vs (ray_part r (trees_parts cs))) (point_values ns.variables x vs)
@@ -171,7 +171,7 @@ leaf_of name None more = more
 leaf_of name (Some text) more = leaf name text more
 
 -- the claim's solution, if there is one
-abbrev pub optimization : Names → Option Claim → Nodes
+abbrev pub optimization : NameLists → Option Claim → Nodes
 optimization ns None = none
 optimization ns (Some c) = group (codes "optimization") (group (codes "solution") (claim_nodes ns c) none) none
 
@@ -188,11 +188,11 @@ abbrev pub status_nodes : JobStatus → Nodes → Nodes
 status_nodes status more = group (codes "job") (leaf (codes "status") (status_text status) none) more
 
 -- the root that a report is written as with these names
-abbrev pub named_element : Names → Report → Element
+abbrev pub named_element : NameLists → Report → Element
 named_element ns r = rooted (codes "osrl") (group (codes "general") (general_nodes r) (status_nodes r.status (optimization ns r.claim)))
 
 -- the text of a report with these names
-abbrev pub named_text : Names → Report → List ℕ
+abbrev pub named_text : NameLists → Report → List ℕ
 named_text ns r = written (named_element ns r)
 
 -- the root that a report is written as
@@ -204,5 +204,5 @@ abbrev pub report_text : Report → List ℕ
 report_text r = written (report_element r)
 
 -- what is told of a report where these are its names: its text with them, or without any where that would be too long
-abbrev pub told_text : Names → Report → List ℕ
+abbrev pub told_text : NameLists → Report → List ℕ
 told_text ns r = cond (nat_le (length (named_text ns r)) document_limit) (named_text ns r) (report_text r)

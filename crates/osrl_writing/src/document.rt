@@ -12,7 +12,7 @@ ghost use Rattle.document_tags.specs.Telling.{Told, whole_element};
 use crate::certificates::{
     tell_bound, tell_cause, tell_certs, tell_numbers, tell_point, tell_trees,
 };
-use crate::names::Names;
+use crate::told_names::NameLists;
 use crate::parts::{Claiming, Part};
 use crate::report::{JobStatus, Report};
 use crate::values::{tell_dual_values, tell_point_values};
@@ -44,7 +44,7 @@ fn tell_status(b: &mut TreeBuilder, claiming: Claiming) -> Result<(), Memory>
 fn tell_optimal(
     alloc: Global,
     b: &mut TreeBuilder,
-    names: &Names,
+    names: &NameLists,
     point: &[Frac],
     values: &[Frac],
     certs: &[Cert],
@@ -83,7 +83,7 @@ fn tell_infeasible(alloc: Global, b: &mut TreeBuilder, cert: &Cert) -> Result<()
 fn tell_unbounded(
     alloc: Global,
     b: &mut TreeBuilder,
-    names: &Names,
+    names: &NameLists,
     point: &[Frac],
     values: &[Frac],
     certs: &[Cert],
@@ -105,7 +105,7 @@ fn tell_unbounded(
 fn tell_best_so_far(
     alloc: Global,
     b: &mut TreeBuilder,
-    names: &Names,
+    names: &NameLists,
     point: &[Frac],
     values: &[Frac],
     cause: Cause,
@@ -144,7 +144,7 @@ fn tell_unsure(
 fn tell_claim(
     alloc: Global,
     b: &mut TreeBuilder,
-    names: &Names,
+    names: &NameLists,
     claim: &Claim,
 ) -> Result<(), Memory>
     requires { b.old.attributes ≡ [] }
@@ -200,7 +200,7 @@ fn tell_claim(
 fn tell_optimization(
     alloc: Global,
     b: &mut TreeBuilder,
-    names: &Names,
+    names: &NameLists,
     claim: &Option<Claim>,
 ) -> Result<(), Memory>
     requires { b.old.attributes ≡ [] }
@@ -258,7 +258,7 @@ fn tell_job(b: &mut TreeBuilder, status: JobStatus) -> Result<(), Memory>
 fn tell_report(
     alloc: Global,
     b: &mut TreeBuilder,
-    names: &Names,
+    names: &NameLists,
     report: &Report,
 ) -> Result<(), Memory>
     requires { b.old.attributes ≡ [] }
@@ -274,7 +274,7 @@ fn tell_report(
 }
 
 /// The text of a report with these names, however long it is.
-fn write_named(alloc: Global, names: &Names, report: &Report) -> Result<Text, Memory>
+fn write_named(alloc: Global, names: &NameLists, report: &Report) -> Result<Text, Memory>
     ensures { IfOk result (λ text. text ≡ writing.named_text names.now report.now) }
 {
     let mut b = TreeBuilder::new(alloc);
@@ -288,13 +288,13 @@ fn write_named(alloc: Global, names: &Names, report: &Report) -> Result<Text, Me
 pub fn encode(alloc: Global, report: &Report) -> Result<Text, Memory>
     ensures { IfOk result (λ text. text ≡ writing.report_text report.now) }
 {
-    write_named(alloc, &Names::none(alloc), report)
+    write_named(alloc, &NameLists::none(alloc), report)
 }
 
 /// The text of a report, as [`encode`] writes it, with these names: the value of a variable has its name, and the dual value
 /// of a row has the row's, as an attribute `name` behind `idx`. Where that would be longer than a document may be, the text is
 /// that without names.
-pub fn encode_named(alloc: Global, names: &Names, report: &Report) -> Result<Text, Memory>
+pub fn encode_named(alloc: Global, names: &NameLists, report: &Report) -> Result<Text, Memory>
     ensures { IfOk result (λ text. text ≡ writing.told_text names.now report.now) }
 {
     let text = write_named(alloc, names, report)?;

@@ -26,14 +26,24 @@ fn cut_text(alloc: Global, value: Frac) -> Result<Text, Memory>
     Ok(text)
 }
 
-/// Tells the name at an index, as an attribute of the element that begins next, if there is one.
-fn tell_name(b: &mut TreeBuilder, names: &[Option<Text>], at: usize) -> Result<(), Memory>
+/// Tells a name, as an attribute of the element that begins next, if there is one.
+fn tell_name(b: &mut TreeBuilder, name: &Option<Text>) -> Result<(), Memory>
+    ensures { OnOk result (ToldAttributes b.old b.new (writing.name_attribute name.now)) }
+{
+    match name {
+        Some(name) => attribute(b, b"name", name.as_slice()),
+        None => Ok(()),
+    }
+}
+
+/// Tells the name at an index, if there is one.
+fn tell_name_at(b: &mut TreeBuilder, names: &[Option<Text>], at: usize) -> Result<(), Memory>
     ensures { OnOk result (ToldAttributes b.old b.new (writing.name_attribute (name_at names.now at))) }
 {
-    match names.get(at) {
-        Some(Some(name)) => attribute(b, b"name", name.as_slice()),
-        Some(None) | None => Ok(()),
+    if at >= names.len() {
+        return Ok(());
     }
+    tell_name(b, &names[at])
 }
 
 /// Tells an element with an index, and with the name at a place of these, that holds a cut number.
@@ -51,7 +61,7 @@ fn tell_indexed(
 {
     let text = cut_text(alloc, value)?;
     attribute(b, b"idx", index)?;
-    tell_name(b, names, at)?;
+    tell_name_at(b, names, at)?;
     leaf_after(b, element, text.as_slice())
 }
 

@@ -30,7 +30,7 @@ use Rattle.osol_grammar.specs.Texts as options_texts
 use Rattle.osil_grammar.specs.declared.fault.OsilFault.{OsilFault}
 use Rattle.osil_grammar.specs.Reading.{IsInstanceText}
 use Rattle.osil_grammar.specs.Reading as instances
-use Rattle.osrl_writing.specs.declared.names.Names.{Names}
+use Rattle.osrl_writing.specs.declared.told_names.NameLists.{NameLists}
 use Rattle.osrl_writing.specs.declared.report.Report.{Report}
 use Rattle.solve_run.specs.declared.document.Document.{Document}
 use Rattle.solve_run.specs.Judging.{IsShownClaim, AreFewRounds, HasFewRounds, IsFinal, IsJudged, checked}
@@ -81,7 +81,7 @@ memory_killed (Some f) = refl
 abbrev clock_after : (turns n : ℕ) (killed : Bool) → Clock
 clock_after turns n killed = record { turns = turns; looks = looks_after 0 n killed }
 
-module _ (osil osol : List ℕ) (o : Options) (p : Parts) (valid : IsValid p) (options_text : IsOptionsText osol o) (name : IsNameOrNone o.job) (instance_text : IsInstanceText osil p) (ns : Names) (due : AreDueNames osil o ns) where
+module _ (osil osol : List ℕ) (o : Options) (p : Parts) (valid : IsValid p) (options_text : IsOptionsText osol o) (name : IsNameOrNone o.job) (instance_text : IsInstanceText osil p) (ns : NameLists) (due : AreDueNames osil o ns) where
   abbrev given : AreJobTexts osil osol
   given = record { options = o; options_text = options_text; parts = p; valid = valid; instance_text = instance_text }
 
@@ -144,7 +144,7 @@ untold osil osol n killed job doc whose is = record {
 }
 
 -- the run of an instance
-pub ran : {E : Type 0} (Came : List Bool → Type 0) (osil osol : List ℕ) (o : Options) (p : Parts) (ns : Names) (found : Claim) (turns n : ℕ) (oc : Outcome) (result : Result Document E)
+pub ran : {E : Type 0} (Came : List Bool → Type 0) (osil osol : List ℕ) (o : Options) (p : Parts) (ns : NameLists) (found : Claim) (turns n : ℕ) (oc : Outcome) (result : Result Document E)
     → IsValid p → IsNameOrNone o.job → IsOptionsText osol o → IsInstanceText osil p → AreDueNames osil o ns → ClaimTells found oc → IsShown (problem p) oc
     → Came (answers n (is_killed oc))
     → ((stop : Option ℕ) → Agrees stop 0 n (is_killed oc) → IsSearchAnswer (problem p) (job_terms o stop) oc (clock_after turns n (is_killed oc)))

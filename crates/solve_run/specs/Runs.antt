@@ -8,7 +8,7 @@ use Rattle.certificate.specs.declared.claims.Claim.TheVariants.{Optimal, Infeasi
 use Rattle.simplex_rules.specs.Looks.{answers, looks_after, stop_after}
 use Rattle.search_rules.specs.Search.{Outcome, IsSearchAnswer}
 use Rattle.osrl_writing.specs.declared.report.Report.{Report}
-use Rattle.osrl_writing.specs.declared.names.Names.{Names}
+use Rattle.osrl_writing.specs.declared.told_names.NameLists.{NameLists}
 use Rattle.osrl_writing.specs.Labels.{no_names}
 use Rattle.osrl_writing.specs.Writing.{report_text, told_text}
 use Rattle.instance_names.specs.Reading.{MayGiveNames}
@@ -42,7 +42,7 @@ pub record IsDocumentOf (r : Report) (doc : Document) : Type 0 where
   pub error : doc.is_error ≡ r.error
 
 -- the same with these names
-pub record IsNamedDocument (ns : Names) (r : Report) (doc : Document) : Type 0 where
+pub record IsNamedDocument (ns : NameLists) (r : Report) (doc : Document) : Type 0 where
   pub text : doc.text ≡ told_text ns r
   pub error : doc.is_error ≡ r.error
 
@@ -52,7 +52,7 @@ pub record IsAnswer (osil osol : List ℕ) (r : Report) (doc : Document) : Type 
   pub error : doc.is_error ≡ r.error
 
 -- the names that the result of a job with these options is told with: those that the instance's document gives where they are asked for, and else none
-pub record AreDueNames (osil : List ℕ) (o : Options) (ns : Names) : Type 0 where
+pub record AreDueNames (osil : List ℕ) (o : Options) (ns : NameLists) : Type 0 where
   pub asked : o.names ≡ 1 → MayGiveNames osil ns
   pub unasked : (o.names ≡ 1 → ⊥) → ns ≡ no_names
 
@@ -95,11 +95,11 @@ abbrev pub IsErrorDocument : {E : Type 0} → (job : Option (List ℕ)) → (mes
 IsErrorDocument {E} job message doc = ((m : List ℕ) × (message ≡ Ok m) × IsDocumentOf (error_report job m) doc) ⊎ IsMemoryDocument job doc
 
 -- the same with these names
-abbrev pub IsNamedTextOf : Names → Report → Document → Type 0
+abbrev pub IsNamedTextOf : NameLists → Report → Document → Type 0
 IsNamedTextOf ns r doc = IsNamedDocument ns r doc ⊎ IsMemoryDocument r.job doc
 
 -- the document of a report with this claim, or with what is told of it where that is too long, with these names, or memory was wanting
-abbrev pub IsFittedDocument : Names → (job : Option (List ℕ)) → Claim → Document → Type 0
+abbrev pub IsFittedDocument : NameLists → (job : Option (List ℕ)) → Claim → Document → Type 0
 IsFittedDocument ns job c doc = ((told : Claim) × IsFitted job c told × IsNamedDocument ns (claim_report job told) doc) ⊎ IsMemoryDocument job doc
 
 -- the numbers of a claim's cause are those of their types
@@ -111,12 +111,12 @@ HasCauses (BestSoFar x vs c b) = CauseComesBack c
 HasCauses (Unsure c b) = CauseComesBack c
 
 -- what is told of a claim that was found, closed, with these names
-pub record ClosesClaim (p : Parts) (ns : Names) (job : Option (List ℕ)) (turns : ℕ) (found : Claim) (doc : Document) : Type 0 where
+pub record ClosesClaim (p : Parts) (ns : NameLists) (job : Option (List ℕ)) (turns : ℕ) (found : Claim) (doc : Document) : Type 0 where
   pub told : Claim
   pub closed : IsToldOf p job turns found told
   pub numbers : ClaimComesBack (Some told)
   pub is : IsNamedDocument ns (claim_report job told) doc
 
 -- the document tells what was found, or memory was wanting
-abbrev pub IsClaimTold : (p : Parts) (ns : Names) (job : Option (List ℕ)) (turns : ℕ) (found : Claim) → Document → Type 0
+abbrev pub IsClaimTold : (p : Parts) (ns : NameLists) (job : Option (List ℕ)) (turns : ℕ) (found : Claim) → Document → Type 0
 IsClaimTold p ns job turns found doc = ClosesClaim p ns job turns found doc ⊎ IsMemoryDocument job doc

@@ -16,16 +16,16 @@ use instance_names::read_names;
 use os_io::{Memory, Text, Watch};
 use osil_grammar::OsilFault;
 use osol_grammar::{Options, OsolFault, options_have_names, read_options_come_back};
-use osrl_writing::Names;
+use osrl_writing::NameLists;
 use search_rules::answers_are_shown;
 use std::alloc::Global;
 
 /// The names that a job's result is told with: those of its instance's document, where its options ask for them.
-fn due_names(alloc: Global, osil: &[u8], options: &Options) -> Result<Names, Memory>
+fn due_names(alloc: Global, osil: &[u8], options: &Options) -> Result<NameLists, Memory>
     ensures { IfOk result (AreDueNames osil.now options.now) }
 {
     if options.names != 1 {
-        return Ok(Names::none(alloc));
+        return Ok(NameLists::none(alloc));
     }
     read_names(alloc, osil)
 }
@@ -34,7 +34,7 @@ fn due_names(alloc: Global, osil: &[u8], options: &Options) -> Result<Names, Mem
 fn run_instance<W: Watch>(
     alloc: Global,
     instance: &Instance,
-    names: &Names,
+    names: &NameLists,
     options: Options,
     watch: &mut W,
 ) -> Result<Document, Memory>

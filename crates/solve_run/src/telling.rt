@@ -14,7 +14,7 @@ use crate::document::Document;
 use certificate::{Cause, Claim};
 use instance::Instance;
 use os_io::{MOST_BYTES, Memory, Text};
-use osrl_writing::{JobStatus, Names, Report, encode, encode_named};
+use osrl_writing::{JobStatus, NameLists, Report, encode, encode_named};
 use std::alloc::Global;
 
 /// A finished job's report with a claim.
@@ -71,7 +71,7 @@ fn document_or_memory(alloc: Global, mut report: Report) -> Result<Document, Mem
 /// The document of a report with these names, or for want of memory of one that claims nothing of the same job.
 fn named_or_memory(
     alloc: Global,
-    names: &Names,
+    names: &NameLists,
     mut report: Report,
 ) -> Result<Document, Memory>
     ensures { IfOk result (IsNamedTextOf names.now report) }
@@ -113,7 +113,7 @@ fn shortened(mut report: Report) -> Report
 /// longer than one may be.
 fn fitted(
     alloc: Global,
-    names: &Names,
+    names: &NameLists,
     job: Option<Text>,
     claim: Claim,
 ) -> Result<Document, Memory>
@@ -162,7 +162,7 @@ fn read_causes(claim: &Claim)
 pub fn found_document(
     alloc: Global,
     instance: &Instance,
-    names: &Names,
+    names: &NameLists,
     job: Option<Text>,
     found: Claim,
     turns: u64,

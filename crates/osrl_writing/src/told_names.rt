@@ -5,21 +5,21 @@ use os_io::Text;
 use std::alloc::Global;
 
 /// The names of variables and of rows, by their indices. Who stands behind the end of a list has no name.
-pub struct Names {
+pub struct NameLists {
     pub variables: Items<Option<Text>>,
     pub rows: Items<Option<Text>>,
 }
 
-impl Drop for Names {
+impl Drop for NameLists {
     fn drop(self) {
-        let Names {
+        let NameLists {
             variables: _,
             rows: _,
         } = self;
     }
 }
 
-impl Names {
+impl NameLists {
     ghost use Rattle.std.specs.Prelude.{◌≡◌, ◌↔◌, IsTrue};
     ghost use Rattle.osrl_writing.specs.Labels.{no_names};
 
@@ -27,7 +27,7 @@ impl Names {
     pub fn none(alloc: Global) -> Self
         ensures { result ≡ no_names }
     {
-        Names {
+        NameLists {
             variables: Items::new(alloc),
             rows: Items::new(alloc),
         }
