@@ -68,12 +68,12 @@ in_xml item (Some e) h = let es = children_named item e in singles_xml (list_all
 
 part_xml : (part item : List ℕ) (o : Option Element) → IfSome o IsOfCharacters → AreXmlLabels (part_names part item o)
 part_xml part item None h = none_xml
-part_xml part item (Some data) h = in_xml item (only_child data part) (child_of data part h)
+part_xml part item (Some all) h = in_xml item (only_child all part) (child_of all part h)
 
 root_xml : (root : Element) → IsOfCharacters root → AreXmlNames (document_names root)
 root_xml root h =
-    let data = child_of root (codes "instanceData") h in
-    record { variables = part_xml (codes "variables") (codes "var") _ data; rows = part_xml (codes "constraints") (codes "con") _ data }
+    let holder = child_of root (codes "instanceData") h in
+    record { variables = part_xml (codes "variables") (codes "var") _ holder; rows = part_xml (codes "constraints") (codes "con") _ holder }
 
 pub given_xml : ((bytes : List ℕ) (root : Element) → Doc bytes root → IsOfCharacters root) → (bytes : List ℕ) (ns : NameLists) → GivesNames bytes ns → AreXmlNames ns
 given_xml of_characters bytes ns h = subst AreXmlNames (sym h.is) (root_xml h.root (of_characters bytes h.root h.document.document))

@@ -34,13 +34,13 @@ names_in item (Some part) = single_names (children_named item part)
 -- the names of the items of the one part of this name, if there is one
 abbrev pub part_names : (part item : List ℕ) → Option Element → Labels
 part_names part item None = []
-part_names part item (Some data) = names_in item (only_child data part)
+part_names part item (Some all) = names_in item (only_child all part)
 
 -- the names of the variables and of the rows of the document with this root
 abbrev pub document_names : Element → NameLists
 document_names root =
-    let data : Option Element = only_child root (codes "instanceData") in
-    record { variables = part_names (codes "variables") (codes "var") data; rows = part_names (codes "constraints") (codes "con") data }
+    let holder : Option Element = only_child root (codes "instanceData") in
+    record { variables = part_names (codes "variables") (codes "var") holder; rows = part_names (codes "constraints") (codes "con") holder }
 
 -- the bytes are a document that gives these names
 abbrev pub GivesNames : List ℕ → NameLists → Type 0

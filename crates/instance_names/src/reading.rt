@@ -55,7 +55,7 @@ fn names_in(
     part: Option<Spot<'_>>,
     item: &[u8],
 ) -> Result<Items<Option<Text>>, Memory>
-    ensures { (o : Option Element) → IsSpot part o → IfOk result (λ ls. ls ≡ names.names_in item.now o) }
+    ensures { (o : Option Element) → IsSpot part.entry o → IfOk result (λ ls. ls ≡ names.names_in item.now o) }
 {
     let Some(part) = part else {
         return Ok(Items::new(alloc));
@@ -68,16 +68,16 @@ fn names_in(
 /// The names of the items of the one part of this name, if there is one.
 fn part_names(
     alloc: Global,
-    data: Option<Spot<'_>>,
+    held: Option<Spot<'_>>,
     part: &[u8],
     item: &[u8],
 ) -> Result<Items<Option<Text>>, Memory>
-    ensures { (o : Option Element) → IsSpot data o → IfOk result (λ ls. ls ≡ names.part_names part.now item.now o) }
+    ensures { (o : Option Element) → IsSpot held.entry o → IfOk result (λ ls. ls ≡ names.part_names part.now item.now o) }
 {
-    let Some(data) = data else {
+    let Some(spot) = held else {
         return Ok(Items::new(alloc));
     };
-    let part = only_child(alloc, data, part)?;
+    let part = only_child(alloc, spot, part)?;
     names_in(alloc, part, item)
 }
 
@@ -88,9 +88,9 @@ fn document_names(alloc: Global, tree: &Tree) -> Result<NameLists, Memory>
     let Some(root) = Spot::root(tree) else {
         return Ok(NameLists::none(alloc));
     };
-    let data = only_child(alloc, root, b"instanceData")?;
-    let variables = part_names(alloc, data, b"variables", b"var")?;
-    let rows = part_names(alloc, data, b"constraints", b"con")?;
+    let held = only_child(alloc, root, b"instanceData")?;
+    let variables = part_names(alloc, held, b"variables", b"var")?;
+    let rows = part_names(alloc, held, b"constraints", b"con")?;
     Ok(NameLists { variables, rows })
 }
 
