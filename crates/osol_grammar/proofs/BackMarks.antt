@@ -77,6 +77,7 @@ all_said job amounts = by_both (not (amounts Rounds == 0)) (not (amounts Names =
   where
     with_rounds : ℕ → ℕ → Options
     with_rounds r n = let o : Options = record (made job amounts) { rounds = r; names = n } in o
+
     by_both : (b c : Bool) → not (amounts Rounds == 0) ≡ b → not (amounts Names == 0) ≡ c → made job amounts ≡ with_amounts (record no_options { job = job }) (made job amounts) (told_limits (made job amounts))
     by_both true true told names = rw (told, names) refl
     by_both true false told none = rw (told, none) (ap (λ (n : ℕ). with_rounds (amounts Rounds) n) (sym (untold (amounts Names) none)))

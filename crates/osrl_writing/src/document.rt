@@ -12,9 +12,9 @@ ghost use Rattle.document_tags.specs.Telling.{Told, whole_element};
 use crate::certificates::{
     tell_bound, tell_cause, tell_certs, tell_numbers, tell_point, tell_trees,
 };
-use crate::told_names::NameLists;
 use crate::parts::{Claiming, Part};
 use crate::report::{JobStatus, Report};
+use crate::told_names::NameLists;
 use crate::values::{tell_dual_values, tell_point_values};
 use crate::words::Worded;
 use certificate::{Cause, Cert, Claim, ProvedBound};
@@ -54,14 +54,7 @@ fn tell_optimal(
 {
     tell_status(b, Claiming::Optimal)?;
     tell_point_values(alloc, b, names.variables.as_slice(), point, values)?;
-    tell_dual_values(
-        alloc,
-        b,
-        names.rows.as_slice(),
-        point.len(),
-        values,
-        certs,
-    )?;
+    tell_dual_values(alloc, b, names.rows.as_slice(), point.len(), values, certs)?;
     open(b, b"otherSolutionResults")?;
     tell_point(alloc, b, point, values)?;
     tell_certs(alloc, b, certs)?;

@@ -16,7 +16,7 @@ mod values;
 mod words;
 
 pub use document::{encode, encode_named};
-pub use told_names::NameLists;
 pub use parts::{Claiming, Part, part_name};
 pub use report::{JobStatus, Report};
+pub use told_names::NameLists;
 pub use words::Worded;

@@ -50,6 +50,25 @@ fn run_instance<W: Watch>(
     found_document(alloc, instance, names, options.job, claim, turns)
 }
 
+/// Runs a job whose options and instance are read.
+fn run_read<W: Watch>(
+    alloc: Global,
+    osil: &[u8],
+    instance: &Instance,
+    options: Options,
+    watch: &mut W,
+) -> Result<Document, Memory>
+    requires valid { IsValid instance.now }
+    requires rounds { AreFewRounds options.rounds }
+    requires stops { W.stops watch.old < 2 ^ 64 - 1 }
+    ensures { (osol : List ℕ) → IsOptionsText osol options → IsInstanceText osil.now instance.now → Ran (W.came watch.old watch.new) osil.now osol (TellsDocument osil.now osol result) }
+{
+    match due_names(alloc, osil, &options) {
+        Ok(names) => run_instance(alloc, instance, &names, options, watch),
+        Err(_) => memory_document(alloc, options.job),
+    }
+}
+
 /// Runs a job whose options are read.
 fn run_options<W: Watch>(
     alloc: Global,
@@ -62,10 +81,7 @@ fn run_options<W: Watch>(
     ensures { (osol : List ℕ) → IsOptionsText osol options → Ran (W.came watch.old watch.new) osil.now osol (TellsDocument osil.now osol result) }
 {
     match osil_grammar::decode(alloc, osil) {
-        Ok(instance) => match due_names(alloc, osil, &options) {
-            Ok(names) => run_instance(alloc, &instance, &names, options, watch),
-            Err(_) => memory_document(alloc, options.job),
-        },
+        Ok(instance) => run_read(alloc, osil, &instance, options, watch),
         Err(OsilFault::Memory) => memory_document(alloc, options.job),
         Err(fault) => {
             let message = osil_grammar::refusal_text(alloc, &fault);

@@ -69,11 +69,7 @@ fn document_or_memory(alloc: Global, mut report: Report) -> Result<Document, Mem
 }
 
 /// The document of a report with these names, or for want of memory of one that claims nothing of the same job.
-fn named_or_memory(
-    alloc: Global,
-    names: &NameLists,
-    mut report: Report,
-) -> Result<Document, Memory>
+fn named_or_memory(alloc: Global, names: &NameLists, mut report: Report) -> Result<Document, Memory>
     ensures { IfOk result (IsNamedTextOf names.now report) }
 {
     match encode_named(alloc, names, &report) {

@@ -23,5 +23,5 @@ returns-then-is_none c =
 
 pub returns : goal.returns
 returns c =
-    IfOk-weaker c.named_or_memory.result _ _ (λ doc told. fitted_named _ _ _ _ c.in-Ok.text doc c.claim_report-report.ensures c.in-Ok.ensures
-    (omega (arith, c.if-len-gt-MOST_BYTES.false, c.len.ensures)) told) c.named_or_memory.ensures
+    IfOk-weaker c.named_or_memory-2.result _ _ (λ doc told. fitted_named _ _ _ _ c.in-Ok.text doc c.claim_report-report.ensures c.in-Ok.ensures
+    (omega (arith, c.if-len-gt-MOST_BYTES.false, c.len.ensures)) told) c.named_or_memory-2.ensures
