@@ -13,8 +13,8 @@ use Rattle.simplex_rules.proofs.LeastIndices.{run_on, run_back, basis_on, basis_
 use Rattle.search_rules.specs.Branching.{Case}
 use Rattle.search_rules.specs.Cuts.{Trial, NoCut, WideCut, Cut}
 use Rattle.search_rules.specs.Search as Plain
-use Rattle.search_rules.specs.Search.{SearchMoment, NextOfSearch, Outcome, To, Out, GoesFromTrial, GoesFromBest, GoesFrom, IsVisit, IsNextInSearch, ComesInSearch, Search}
-use Rattle.search_rules.specs.RuleSearch.{MomentBy, NextBy, On, Off, with_basis, best_value, bland_search, TriedBy, BestBy, GoesBy, IsVisitBy, IsNextBy, ComesBy, begins, goes_on, SearchBy}
+use Rattle.search_rules.specs.Search.{SearchMoment, NextOfSearch, Outcome, To, Out, GoesFromTrial, GoesFromBest, GoesFrom, IsVisit, IsNextInSearch, ComesInSearch, Search, IsCaseRun, IsSearchAnswer}
+use Rattle.search_rules.specs.RuleSearch.{MomentBy, NextBy, On, Off, with_basis, best_value, bland_search, TriedBy, BestBy, GoesBy, IsVisitBy, IsNextBy, ComesBy, begins, goes_on, SearchBy, IsRunOfCase, IsAnswerBy, searched, given_up, given_up_after}
 
 module _ (P : Problem) (t : Terms) where
   tried_on : (g : Given) (C : Case) (rest : List Case) (m : SearchMoment) (x : List Ratio) (trial : Trial) (a : NextOfSearch) → GoesFromTrial P t C rest m x trial a → TriedBy bland_search P t g C rest m x trial a
@@ -147,3 +147,21 @@ module _ (P : Problem) (t : Terms) where
           let r : d ≡ c = cc in
           let x' = subst (λ p. IsNextInSearch P t s.last.moment (Out p d)) q x in
           record { last = s.last.moment; comes = comes_back s.last s.comes; ends = subst (λ d. IsNextInSearch P t s.last.moment (Out o d)) r x' }
+
+  -- and where memory is wanting
+  pub answer_on : (o : Outcome) (c : Clock) → IsSearchAnswer P t o c → IsAnswerBy bland_search P t o c
+  answer_on o c (Plain.searched s) = searched (search_on o c s)
+  answer_on o c (Plain.given_up {m} k) = let r = comes_on m k in given_up {m = held m r.0} r.1
+  answer_on o c (Plain.given_up_after {m} {e} {c = d} k v) =
+      let C = v.case in
+      let r = comes_on m k in
+      let n = run_on C.program (is_some C.ray) t r.0 (best_value m.level m.best) (looked_once m.clock) e d v.run in
+      given_up_after {m = held m r.0} {f = Ends e} {h = n.0} r.1 (record { case = C; rest = v.rest; is = v.is; begins = v.begins; run = n.1 })
+
+  pub answer_back : (o : Outcome) (c : Clock) → IsAnswerBy bland_search P t o c → IsSearchAnswer P t o c
+  answer_back o c (searched s) = Plain.searched (search_back o c s)
+  answer_back o c (given_up {m} k) = Plain.given_up {m = m.moment} (comes_back m k)
+  answer_back o c (given_up_after {m} {f} {c = d} {h} k v) =
+      let C = v.case in
+      let r = run_back C.program (is_some C.ray) t m.basis h (best_value m.moment.level m.moment.best) (looked_once m.moment.clock) f d v.run in
+      Plain.given_up_after {m = m.moment} {e = r.0} (comes_back m k) (record { case = C; rest = v.rest; is = v.is; begins = v.begins; run = r.2 })
