@@ -14,3 +14,4 @@ pub mod Slots
 pub mod Programs
 pub mod Reached
 pub mod Settled
+pub mod Words
