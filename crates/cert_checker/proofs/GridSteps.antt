@@ -19,6 +19,7 @@ use Rattle.evidence.specs.Instance.{Instance, IsInstance, Variable, no_variable,
 use Rattle.evidence.specs.Cases.{Multiplier, low_sum, IsGrid}
 use Rattle.evidence.specs.Width.{TermFits, LowFits, LeafFits, StepsFit}
 use Rattle.evidence.proofs.Numbers.{◌≈◌, ◌≲◌, ≈-refl, ≈-sym, ◌⊙◌, ≲-from, ≲-trans, product-≈, product-number, sum-number}
+use Rattle.evidence.proofs.Columns.{none-number}
 use Rattle.evidence.proofs.Duality.{minimising-number}
 use Rattle.evidence.proofs.Inverses.{inverse-number}
 use Rattle.evidence.proofs.UniqueRows.{one_ceiling}
@@ -149,6 +150,9 @@ module _ (I : Instance) (good : IsInstance I) (step : Frac) (up : pos 0 <ℤ ste
             let a : ratio aim ≲ sum (minimising I I.goal.constant) (product (whole k) (ratio step)) = record { left = aim.above; right = near.right; is = subst (λ n. IsAtMost (ratio aim) (sum (minimising I I.goal.constant) (product (whole n) (ratio step)))) e r.reaches } in
             let b = ≲-trans a (≲-from (≈-sym near_value)) in
             w b.is
+
+zero-none : (x : Ratio) → IsNumber x → x.num ≡ pos 0 → x ≈ none
+zero-none x p e = record { left = p; right = none-number; is = ap (λ z. z *ℤ pos 1) e ∙ zero-*ℤ (pos 1) ∙ sym (zero-*ℤ (pos x.den)) }
 
 none_num : (x : Ratio) → IsSame x none → x.num ≡ pos 0
 none_num x e = sym (one_times x.num) ∙ *ℤ_comm (pos 1) x.num ∙ e ∙ zero-*ℤ (pos x.den)

@@ -25,7 +25,7 @@ pub record IsFirstOff (I : Instance) (g : Ratio) (j : ℕ) : Type 0 where
 
 -- the step isn't above 0, which is told past all variables, or isn't one of the goal
 abbrev pub StepRefuses : Instance → Ratio → ℕ → Unshown → Type 0
-StepRefuses I g node r = ((IsBelow none g → ⊥) × (r ≡ Step node (width I))) ⊎ (IsBelow none g × (j : ℕ) × IsFirstOff I g j × (r ≡ Step node j))
+StepRefuses I g node r = ((IsBelow none g → ⊥) × (r ≡ Step node (width I))) ⊎ (IsBelow none g × ((j : ℕ) × IsFirstOff I g j × (r ≡ Step node j)))
 
 -- the low sum, rounded up to a whole number of steps, reaches z
 pub record ReachesInSteps (I : Instance) (g : Ratio) (ms : List Multiplier) (z : Ratio) : Type 0 where

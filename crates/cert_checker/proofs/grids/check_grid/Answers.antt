@@ -35,7 +35,7 @@ returns-in-Some-first_off-clause-err c =
     let w = width_is c.args.program.now c.args.cuts.now in
     let up : pos 0 <ℤ c.args.step.numer = (let t = c.if-step-le0.false in omega (arith, ints)) in
     let forms = subst (FormsBelow J (multipliers c.args.mults.now) (Some (ratio c.args.aim))) (sym w) c.in_ok-check_forms.ensures.ok in
-    inr (inr (inl (c.in_default.ensures, forms, inr (above_to (ratio c.args.step) up, c.in-Some-first_off.col, c.in-Some-first_off.ensures, refl))))
+    inr (inr (inl (c.in_default.ensures, forms, inr (above_to (ratio c.args.step) up, (c.in-Some-first_off.col, c.in-Some-first_off.ensures, refl)))))
 
 pub returns-clause-ok : goal.returns-clause-ok
 returns-clause-ok c =
