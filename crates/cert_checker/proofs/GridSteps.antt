@@ -1,5 +1,5 @@
 -- A bound on the goal's grid: steps, multiples of them, and the low sum rounded up.
-use Rattle.std.proofs.Common.{◌≡◌, ◌⊎◌, inl, inr, ◌↔◌, ℕ, zero, suc, ◌+◌, ◌*◌, ◌/◌, ◌%◌, ◌<◌, Bool, true, false, nat_eq, ℤ, pos, negsuc, ◌+ℤ◌, ◌*ℤ◌, ◌<ℤ◌, ◌≤ℤ◌, neg_ℤ, Some, IsTrue, List, length, slice_index_or, lit<, arith, refl, sym, ◌∙◌, ap, ap₂, subst, mul_comm, mul_assoc}
+use Rattle.std.proofs.Common.{◌≡◌, ◌↔◌, ℕ, suc, ◌*◌, ◌/◌, ◌%◌, ◌<◌, true, false, nat_eq, ℤ, pos, negsuc, ◌*ℤ◌, ◌<ℤ◌, neg_ℤ, IsTrue, List, length, slice_index_or, lit<, arith, refl, sym, ◌∙◌, ap, ap₂, subst, mul_comm, mul_assoc}
 use Rattle.std.specs.Prelude.{unsigned_abs, Result, Ok, Err, OnOk}
 use Rattle.std.specs.Int.{IsGcd, ◌∣◌}
 use Rattle.std.proofs.Math.Nat.{dvd-mul_left, dvd-mul_right, div-mul_cancel}
@@ -20,7 +20,6 @@ use Rattle.evidence.specs.Cases.{Multiplier, low_sum, IsGrid}
 use Rattle.evidence.specs.Width.{TermFits, LowFits, LeafFits, StepsFit}
 use Rattle.evidence.proofs.Numbers.{◌≈◌, ◌≲◌, ≈-refl, ≈-sym, ◌⊙◌, ≲-from, ≲-trans, product-≈, product-number, sum-number}
 use Rattle.evidence.proofs.Columns.{none-number}
-use Rattle.evidence.proofs.Duality.{minimising-number}
 use Rattle.evidence.proofs.Inverses.{inverse-number}
 use Rattle.evidence.proofs.UniqueRows.{one_ceiling}
 use Rattle.evidence.proofs.Fits.{reduced_same}

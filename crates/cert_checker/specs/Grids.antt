@@ -1,5 +1,5 @@
 -- Which refusal of a leaf on the goal's grid is the first.
-use Rattle.std.specs.Prelude.{◌≡◌, ℕ, ◌<◌, ◌⊎◌, ℤ, pos, Option, None, Some, IsTrue, List}
+use Rattle.std.specs.Prelude.{◌≡◌, ℕ, ◌<◌, ◌⊎◌, ℤ, Option, None, Some, IsTrue, List}
 use Rattle.rational.specs.Ratio.{Ratio, whole, sum, product, quotient, IsSame, IsBelow, IsAtMost}
 use Rattle.evidence.specs.Sums.{none, IsCeiling, IsMultiple}
 use Rattle.evidence.specs.Instance.{Instance, width, variable_at, cost_at, minimising}

@@ -1,5 +1,5 @@
-use Rattle.std.proofs.Common.{◌≡◌, ℤ, inl, inr, refl, sym, subst, IsTrue, false}
-use Rattle.rational.specs.Ratio.{Ratio, IsSame, sum, product, whole}
+use Rattle.std.proofs.Common.{inl, inr, refl, sym, subst, IsTrue, false}
+use Rattle.rational.specs.Ratio.{Ratio, IsSame, sum, product}
 use Rattle.fraction.specs.Frac.{ratio}
 use Rattle.evidence.specs.Cases.{low_sum}
 use Rattle.evidence.specs.Width.{LowFits, TermFits}

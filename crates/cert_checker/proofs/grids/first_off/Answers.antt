@@ -1,11 +1,10 @@
-use Rattle.std.proofs.Common.{◌≡◌, ◌<◌, length, arith, refl, ap, below_more}
+use Rattle.std.proofs.Common.{◌<◌, length, arith, refl, ap, below_more}
 use Rattle.std.proofs.lemmas.List.{length-map}
 use Rattle.fraction.specs.Frac.{ratio}
 use Rattle.instance.specs.Program.{variable}
 use Rattle.case_tree.specs.Cuts.{cut}
 use Rattle.cert_checker.specs.Grids.{GoesInSteps}
 use Rattle.cert_checker.proofs.GridSteps.{step_at}
-use Rattle.cert_checker.proofs.Widths.{width_is}
 use Rattle.cert_checker.proofs.grids.first_off.Goals as goal
 
 pub loop-j-preserved : goal.loop-j-preserved

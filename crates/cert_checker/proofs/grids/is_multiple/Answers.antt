@@ -3,7 +3,7 @@ use mir.Syntax.{w128}
 use Rattle.std.specs.Prelude.{unsigned_abs}
 use Rattle.std.proofs.Math.Facts.{to_z-of_z}
 use Rattle.std.proofs.lemmas.Bool.{eq-eqb, ne_eqb}
-use Rattle.std.proofs.Common.{rules, ◌≡◌, ◌∙◌, ℤ, ap}
+use Rattle.std.proofs.Common.{rules, ◌≡◌, ◌∙◌, ap}
 use Rattle.cert_checker.proofs.GridSteps.{both_tests, first_test}
 use Rattle.cert_checker.proofs.grids.is_multiple.Goals as goal
 

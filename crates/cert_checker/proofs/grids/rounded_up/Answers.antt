@@ -1,7 +1,7 @@
 use mir.Val.{SFits, of_z, to_z}
 use mir.Syntax.{w128}
 use Rattle.std.proofs.Math.Facts.{to_z-of_z}
-use Rattle.std.proofs.Common.{rules, ◌≡◌, ◌∙◌, ℤ, ap}
+use Rattle.std.proofs.Common.{rules, ◌≡◌, ◌∙◌, ap}
 use Rattle.rational.specs.Ratio.{whole}
 use Rattle.cert_checker.proofs.grids.rounded_up.Goals as goal
 
