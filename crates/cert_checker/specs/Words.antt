@@ -3,7 +3,7 @@ use Rattle.std.specs.Prelude.{ℕ, List, [], ◌∷◌, ◌++◌, cond, nat_eq, 
 use Rattle.cert_checker.specs.declared.refused.Refused.{Refused}
 use Rattle.cert_checker.specs.declared.refused.Refused.TheVariants.{NotFeasible, WidePoint, Value, Round, WideRound, Levels, Level, NoClaim}
 use Rattle.cert_checker.specs.declared.refused.Unshown.{Unshown}
-use Rattle.cert_checker.specs.declared.refused.Unshown.TheVariants.{Tree, Sign, Form, Sum, Direction, Wide}
+use Rattle.cert_checker.specs.declared.refused.Unshown.TheVariants.{Tree, Sign, Form, Step, Sum, Direction, Wide}
 
 -- a name with a number, and with two; one space between
 abbrev pub numbered : List ℕ → ℕ → List ℕ
@@ -17,6 +17,7 @@ abbrev pub unshown_words : Unshown → List ℕ
 unshown_words (Tree n) = numbered (codes "Tree") n
 unshown_words (Sign n c) = placed (codes "Sign") n c
 unshown_words (Form n c) = placed (codes "Form") n c
+unshown_words (Step n c) = placed (codes "Step") n c
 unshown_words (Sum n) = numbered (codes "Sum") n
 unshown_words (Direction c) = numbered (codes "Direction") c
 unshown_words (Wide n) = numbered (codes "Wide") n

@@ -8,12 +8,15 @@ use thiserror::Error;
 #[derive(Clone, Copy, PartialEq, Eq, Debug, Drop, Error)]
 pub enum Unshown {
     /// The list of nodes ends before this one, or has ended; or the node is a split of no whole variable or at no number
-    /// that has a next one, a zero of a variable that may not be 0, or a bound where no value is claimed.
+    /// that has a next one, a zero of a variable that may not be 0, or a bound, on a grid or not, where no value is claimed.
     Tree { node: u32 },
     /// There is no such column, or it isn't after the one before; or its multiplier is 0 or has no finite end on its side.
     Sign { node: u32, col: u32 },
     /// The sum of the columns has another value at this variable than it should.
     Form { node: u32, col: u32 },
+    /// The goal doesn't go in the node's steps at this variable: its cost isn't a whole multiple of the step, or isn't 0 where the
+    /// variable isn't whole; or, past all variables, the step isn't above 0.
+    Step { node: u32, col: u32 },
     /// The sum of the ends doesn't reach what it should, or the ends don't exclude each other.
     Sum { node: u32 },
     /// The direction has another number of movements than there are variables, and the column is the lesser of both
@@ -59,6 +62,7 @@ impl fmt::Display for Unshown {
             Unshown::Tree { node } => write!(f, "Tree {node}"),
             Unshown::Sign { node, col } => write!(f, "Sign {node} {col}"),
             Unshown::Form { node, col } => write!(f, "Form {node} {col}"),
+            Unshown::Step { node, col } => write!(f, "Step {node} {col}"),
             Unshown::Sum { node } => write!(f, "Sum {node}"),
             Unshown::Direction { col } => write!(f, "Direction {col}"),
             Unshown::Wide { node } => write!(f, "Wide {node}"),

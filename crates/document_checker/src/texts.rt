@@ -76,6 +76,7 @@ fn put_unshown(text: &mut Text, why: Unshown) -> Result<(), Memory>
         Unshown::Tree { node } => put_numbered(text, b"Tree", node as u64),
         Unshown::Sign { node, col } => put_placed(text, b"Sign", node, col),
         Unshown::Form { node, col } => put_placed(text, b"Form", node, col),
+        Unshown::Step { node, col } => put_placed(text, b"Step", node, col),
         Unshown::Sum { node } => put_numbered(text, b"Sum", node as u64),
         Unshown::Direction { col } => put_numbered(text, b"Direction", col as u64),
         Unshown::Wide { node } => put_numbered(text, b"Wide", node as u64),

@@ -170,6 +170,7 @@ module _ (s : State) (type : Option (List ℕ)) where
   tree_passes n [] (nodes.Zero j ∷ ns) = λ more z behind. behind
   tree_passes n [] (nodes.Clash c ∷ ns) = λ more z behind. behind
   tree_passes n [] (nodes.Farkas ms ∷ ns) = λ more z behind. behind
+  tree_passes n [] (nodes.Grid g ms ∷ ns) = λ more z behind. behind
   tree_passes n [] (nodes.Bound ms ∷ []) = rows_pass (row_values n ms)
   tree_passes n [] (nodes.Bound ms ∷ m ∷ ns) = λ more z behind. behind
 
