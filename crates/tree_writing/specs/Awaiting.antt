@@ -6,13 +6,13 @@ use Rattle.tree_grammar.specs.WrittenText.{written_attributes, written_events}
 use Rattle.tree_writing.specs.declared.text_writer.TextWriter.{TextWriter}
 
 -- the text is what was kept and then the rest; or it is known to be longer than a document may be
-abbrev pub IsBefore : (passed : Bool) → (kept rest text : List ℕ) → Type 0
-IsBefore false kept rest text = (text ≡ kept ++ rest) × (length kept ≤ most_bytes)
-IsBefore true kept rest text = most_bytes < length text
+abbrev pub IsFront : (passed : Bool) → (kept rest text : List ℕ) → Type 0
+IsFront false kept rest text = (text ≡ kept ++ rest) × (length kept ≤ most_bytes)
+IsFront true kept rest text = most_bytes < length text
 
 -- with these events still to come it becomes this text
 abbrev pub Awaits : TextWriter → List Event → List ℕ → Type 0
-Awaits w events text = IsBefore w.passed w.out.text (written_events w.is_open events) text
+Awaits w events text = IsFront w.passed w.out.text (written_events w.is_open events) text
 
 -- a start tag is open, unless the text is too long already
 abbrev pub IsInTag : (passed is_open : Bool) → Type 0
@@ -21,11 +21,11 @@ IsInTag true is_open = Unit {0}
 
 -- with these attributes of the open start tag, and these events behind them, it becomes this text
 abbrev pub AwaitsInTag : TextWriter → List Attribute → List Event → List ℕ → Type 0
-AwaitsInTag w attributes events text = IsInTag w.passed w.is_open × IsBefore w.passed w.out.text (written_attributes attributes (written_events true events)) text
+AwaitsInTag w attributes events text = IsInTag w.passed w.is_open × IsFront w.passed w.out.text (written_attributes attributes (written_events true events)) text
 
 -- this event was written, whatever comes behind it
-abbrev pub Writes : (old new : TextWriter) → Event → Type 0
-Writes old new event = (events : List Event) (text : List ℕ) → Awaits old (event ∷ events) text → Awaits new events text
+abbrev pub WritesEvent : (old new : TextWriter) → Event → Type 0
+WritesEvent old new event = (events : List Event) (text : List ℕ) → Awaits old (event ∷ events) text → Awaits new events text
 
 -- an element was begun, whatever its attributes are
 abbrev pub BeginsTag : (old new : TextWriter) → List ℕ → Type 0

@@ -4,7 +4,7 @@ ghost use Rattle.std.specs.Prelude.{◌≡◌, ◌<◌, ◌≤◌, ◌++◌, [],
 ghost use Rattle.os_io.specs.Limits.{most_bytes};
 ghost use Rattle.tree_grammar.specs.Elements.{Attribute, Element, Chars, Close, events};
 ghost use Rattle.tree_grammar.specs.WrittenText.{written};
-ghost use Rattle.tree_writing.specs.Awaiting.{IsBefore, Awaits, Writes, BeginsTag, AddsAttributes};
+ghost use Rattle.tree_writing.specs.Awaiting.{IsFront, Awaits, WritesEvent, BeginsTag, AddsAttributes};
 
 use crate::writing::{DECLARATION, Growing, put_attribute, put_chars, put_element_end, put_tag};
 use os_io::{Failed, MOST_BYTES, Memory, Text};
@@ -60,7 +60,7 @@ impl TextWriter {
     /// Looks whether the text is too long now.
     fn look(&mut self)
         ensures same { self.new ≡ record self.old { passed = self.new.passed } }
-        ensures before { (rest text : List ℕ) → text ≡ self.old.out.text ++ rest → IsBefore self.new.passed self.old.out.text rest text }
+        ensures before { (rest text : List ℕ) → text ≡ self.old.out.text ++ rest → IsFront self.new.passed self.old.out.text rest text }
     {
         self.passed = self.out.text.len() as u64 > MOST_BYTES;
     }
@@ -92,7 +92,7 @@ impl TextWriter {
 
     /// Writes characters.
     pub fn chars(&mut self, text: &[u8]) -> Result<(), Memory>
-        ensures { OnOk result (Writes self.old self.new (Chars text.now)) }
+        ensures { OnOk result (WritesEvent self.old self.new (Chars text.now)) }
     {
         if self.passed {
             return Ok(());
@@ -105,7 +105,7 @@ impl TextWriter {
 
     /// Ends an element of this name.
     pub fn end(&mut self, name: &[u8]) -> Result<(), Memory>
-        ensures { OnOk result (Writes self.old self.new (Close name.now)) }
+        ensures { OnOk result (WritesEvent self.old self.new (Close name.now)) }
     {
         if self.passed {
             return Ok(());

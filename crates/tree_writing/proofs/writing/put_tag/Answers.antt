@@ -1,4 +1,4 @@
-use Rattle.std.proofs.Common.{[], ◌∷◌, ◌++◌, ◌∙◌, sym, ap}
+use Rattle.std.proofs.Common.{[], ◌∷◌}
 use Rattle.os_io.proofs.Pieces.{writes_same, writes_then, writes_part}
 use Rattle.tree_writing.proofs.Texts.{open_text}
 use Rattle.tree_writing.proofs.writing.put_tag.Goals as goal
