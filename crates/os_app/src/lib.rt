@@ -20,6 +20,6 @@ mod solving;
 mod statuses;
 mod stored;
 
-pub use command::{exit_code, run};
+pub use command::{Waits, exit_code, run, run_at_once};
 pub use command_line::{commands_have_their_words, numbers_are_within_their_ends};
 pub use laws::safe_solves_stay_within_turns;
