@@ -6,7 +6,7 @@ ghost use Rattle.os_io.specs.Files.{Held};
 ghost use Rattle.os_io.specs.Streams.{SameInput, SameOutput, Tells};
 ghost use Rattle.command_answers.specs.Outputs.{IsTold};
 ghost use Rattle.command_line.specs.Words.{AsksForNoLink, NamesNoFile, asks, meant, usage};
-ghost use Rattle.os_app.specs.AtOnce.{asked_by};
+ghost use Rattle.os_app.specs.AtOnce.{IsAskedFor, asked_by};
 ghost use Rattle.os_app.specs.Ends.{AnswerEnds, from_memory};
 ghost use Rattle.os_app.specs.Grounds.{AnswersAreOne};
 ghost use Rattle.os_app.specs.ProgramRuns.{NamesNoJournal, setup_of, stores_run};
@@ -134,6 +134,7 @@ pub fn run_at_once<'w, F: Files, K: Stores, O: Sink, N: Listener>(
       net_after = N.tells net.new;
     }) (stores_run K.held K.back K.opened K.faults stores.old stores.new)) }
     ensures waits { IfErr result (λ it. asks (map string_bytes words.now) ≡ Some (meant (asked_by it))) }
+    ensures asked { IfErr result IsAskedFor }
     ensures untouched { OnErr result ((files.new ≡ files.old) × (stores.new ≡ stores.old) × (output.new ≡ output.old) × (net.new ≡ net.old)) }
     ensures input_of_output { SameInput (O.tells output.old) (O.tells output.new) }
     ensures held { F.held files.new ≡ F.held files.old }
@@ -183,8 +184,8 @@ fn serve_for<K: Stores, I: Source, O: Sink, N: Listener, R: Threads + Wait + Syn
 where
     N::Conn: Send + Drop,
     K::Store: Send + Sync,
-    requires asked { (words : List (List ℕ)) × (asks words ≡ Some (meant (asked_by waits))) }
-    ensures runs { (words : List (List ℕ)) (held : List ℕ → Held) (faults : ℕ) → asks words ≡ Some (meant (asked_by waits)) → Runs K.Store.Disk (stores.new ≡ stores.old) result (record {
+    requires { IsAskedFor waits }
+    ensures runs { (words : List (List ℕ)) (held : List ℕ → Held) (faults : ℕ) → asks words ≡ Some (meant (asked_by waits.entry)) → Runs K.Store.Disk (stores.new ≡ stores.old) result (record {
       words = words;
       held = held;
       file_faults = faults;
@@ -198,8 +199,8 @@ where
     }) (stores_run K.held K.back K.opened K.faults stores.old stores.new) }
     ensures output_of_input { SameOutput (I.tells input.old) (I.tells input.new) }
     ensures input_of_output { SameInput (O.tells output.old) (O.tells output.new) }
-    ensures unlinked { (words : List (List ℕ)) → asks words ≡ Some (meant (asked_by waits)) → AsksForNoLink words → net.new ≡ net.old }
-    ensures unkept { (words : List (List ℕ)) → asks words ≡ Some (meant (asked_by waits)) → NamesNoJournal words → stores.new ≡ stores.old }
+    ensures unlinked { (words : List (List ℕ)) → asks words ≡ Some (meant (asked_by waits.entry)) → AsksForNoLink words → net.new ≡ net.old }
+    ensures unkept { (words : List (List ℕ)) → asks words ≡ Some (meant (asked_by waits.entry)) → NamesNoJournal words → stores.new ≡ stores.old }
 {
     match waits {
         Waits::Session { journal } => match journal {

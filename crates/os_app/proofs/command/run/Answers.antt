@@ -34,6 +34,3 @@ returns-in-Err-clause-unlinked g c = λ none. c.serve_for.ensures.unlinked _ c.i
 
 pub returns-in-Err-clause-unkept : goal.returns-in-Err-clause-unkept
 returns-in-Err-clause-unkept g c = λ none. c.serve_for.ensures.unkept _ c.in-Err.ensures.waits none ∙ c.in-Err.ensures.untouched.1
-
-pub serve_for-requires : goal.serve_for-requires
-serve_for-requires g c = record { asked = (_, c.in-Err.ensures.waits) }

@@ -73,3 +73,9 @@ returns-in-Ok-Some-Session-clause-waits g c = asks_it _ _ _ (c.in-Ok-Some-Sessio
 
 pub returns-in-Ok-Some-Serve-clause-waits : goal.returns-in-Ok-Some-Serve-clause-waits
 returns-in-Ok-Some-Serve-clause-waits g c = asks_it _ _ _ (c.in-Ok-Some-Serve.field-0-is ∙ ap Some c.in-Ok-Some-Serve.field-0-0-is) c.in-Ok-Some-Serve.ensures
+
+pub returns-in-Ok-Some-Session-clause-asked : goal.returns-in-Ok-Some-Session-clause-asked
+returns-in-Ok-Some-Session-clause-asked g c = record { words = _; asked = asks_it _ _ _ (c.in-Ok-Some-Session.field-0-is ∙ ap Some c.in-Ok-Some-Session.field-0-0-is) c.in-Ok-Some-Session.ensures }
+
+pub returns-in-Ok-Some-Serve-clause-asked : goal.returns-in-Ok-Some-Serve-clause-asked
+returns-in-Ok-Some-Serve-clause-asked g c = record { words = _; asked = asks_it _ _ _ (c.in-Ok-Some-Serve.field-0-is ∙ ap Some c.in-Ok-Some-Serve.field-0-0-is) c.in-Ok-Some-Serve.ensures }

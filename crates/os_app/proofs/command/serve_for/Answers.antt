@@ -39,19 +39,19 @@ pub returns-in-Some-journal-clause-unlinked : goal.returns-in-Some-journal-claus
 returns-in-Some-journal-clause-unlinked g c = λ words asks none. absurd (links_none _ _ (asks ∙ ap (λ w. Some (meant (asked_by w))) c.in-Serve.is) refl none)
 
 pub serve-requires-clause-servers : goal.serve-requires-clause-servers
-serve-requires-clause-servers g c κs lives = set_within c.in-Serve.to _ c.setup_of-setup.ensures (λ s. 1 ≤ s.limits.servers) ((c.numbers_are_within_their_ends.ensures _ _ (c.requires.asked.1 ∙ ap (λ w. Some (meant (asked_by w))) c.in-Serve.is)).2.0)
+serve-requires-clause-servers g c κs lives = set_within c.in-Serve.to _ c.setup_of-setup.ensures (λ s. 1 ≤ s.limits.servers) ((c.numbers_are_within_their_ends.ensures _ _ (c.requires.asked ∙ ap (λ w. Some (meant (asked_by w))) c.in-Serve.is)).2.0)
 
 pub serve-requires-clause-first : goal.serve-requires-clause-first
-serve-requires-clause-first g c κs lives = set_within c.in-Serve.to _ c.setup_of-setup.ensures (λ s. 1 ≤ s.first) ((c.numbers_are_within_their_ends.ensures _ _ (c.requires.asked.1 ∙ ap (λ w. Some (meant (asked_by w))) c.in-Serve.is)).5.0)
+serve-requires-clause-first g c κs lives = set_within c.in-Serve.to _ c.setup_of-setup.ensures (λ s. 1 ≤ s.first) ((c.numbers_are_within_their_ends.ensures _ _ (c.requires.asked ∙ ap (λ w. Some (meant (asked_by w))) c.in-Serve.is)).5.0)
 
 pub serve-requires-clause-fits : goal.serve-requires-clause-fits
-serve-requires-clause-fits g c κs lives = set_within c.in-Serve.to _ c.setup_of-setup.ensures (λ s. s.first ≤ most_first) ((c.numbers_are_within_their_ends.ensures _ _ (c.requires.asked.1 ∙ ap (λ w. Some (meant (asked_by w))) c.in-Serve.is)).5.1)
+serve-requires-clause-fits g c κs lives = set_within c.in-Serve.to _ c.setup_of-setup.ensures (λ s. s.first ≤ most_first) ((c.numbers_are_within_their_ends.ensures _ _ (c.requires.asked ∙ ap (λ w. Some (meant (asked_by w))) c.in-Serve.is)).5.1)
 
 pub keep_server-requires-clause-servers : goal.keep_server-requires-clause-servers
-keep_server-requires-clause-servers g c κs lives = set_within c.in-Serve.to _ c.setup_of-setup.ensures (λ s. 1 ≤ s.limits.servers) ((c.numbers_are_within_their_ends.ensures _ _ (c.requires.asked.1 ∙ ap (λ w. Some (meant (asked_by w))) c.in-Serve.is)).2.0)
+keep_server-requires-clause-servers g c κs lives = set_within c.in-Serve.to _ c.setup_of-setup.ensures (λ s. 1 ≤ s.limits.servers) ((c.numbers_are_within_their_ends.ensures _ _ (c.requires.asked ∙ ap (λ w. Some (meant (asked_by w))) c.in-Serve.is)).2.0)
 
 pub keep_server-requires-clause-first : goal.keep_server-requires-clause-first
-keep_server-requires-clause-first g c κs lives = set_within c.in-Serve.to _ c.setup_of-setup.ensures (λ s. 1 ≤ s.first) ((c.numbers_are_within_their_ends.ensures _ _ (c.requires.asked.1 ∙ ap (λ w. Some (meant (asked_by w))) c.in-Serve.is)).5.0)
+keep_server-requires-clause-first g c κs lives = set_within c.in-Serve.to _ c.setup_of-setup.ensures (λ s. 1 ≤ s.first) ((c.numbers_are_within_their_ends.ensures _ _ (c.requires.asked ∙ ap (λ w. Some (meant (asked_by w))) c.in-Serve.is)).5.0)
 
 pub keep_server-requires-clause-fits : goal.keep_server-requires-clause-fits
-keep_server-requires-clause-fits g c κs lives = set_within c.in-Serve.to _ c.setup_of-setup.ensures (λ s. s.first ≤ most_first) ((c.numbers_are_within_their_ends.ensures _ _ (c.requires.asked.1 ∙ ap (λ w. Some (meant (asked_by w))) c.in-Serve.is)).5.1)
+keep_server-requires-clause-fits g c κs lives = set_within c.in-Serve.to _ c.setup_of-setup.ensures (λ s. s.first ≤ most_first) ((c.numbers_are_within_their_ends.ensures _ _ (c.requires.asked ∙ ap (λ w. Some (meant (asked_by w))) c.in-Serve.is)).5.1)
