@@ -41,10 +41,10 @@ def ratio(text):
 
 class Node:
     """A node of a tree of cases: a split (its variable, the value, the two cases), a zero (its variable), a clash (its column), a farkas or
-    a bound (their multipliers by columns). The number is its place in its tree, from 1."""
+    a bound (their multipliers by columns), or a grid (its step too). The number is its place in its tree, from 1."""
 
-    def __init__(self, number, kind, column=None, value=None, multipliers=()):
-        self.number, self.kind, self.column, self.value, self.multipliers = number, kind, column, value, list(multipliers)
+    def __init__(self, number, kind, column=None, value=None, multipliers=(), step=None):
+        self.number, self.kind, self.column, self.value, self.multipliers, self.step = number, kind, column, value, list(multipliers), step
 
 
 def column_of(text, most, where):
@@ -56,6 +56,13 @@ def column_of(text, most, where):
 def pairs_of(pieces, most, where):
     pairs = [piece.partition(":") for piece in pieces]
     return [(column_of(c, most, where), ratio(m)) for c, _, m in pairs]
+
+
+def step_of(text, where):
+    step = ratio(text)
+    if step <= 0:
+        raise Complaint(f"{where} has the step {text[:20]!r}, which isn't above 0")
+    return step
 
 
 def node_of(text, number, variables, columns):
@@ -70,6 +77,8 @@ def node_of(text, number, variables, columns):
         return Node(number, kind, column_of(pieces[0], columns, where))
     if kind in ("farkas", "bound"):
         return Node(number, kind, multipliers=pairs_of(pieces, columns, where))
+    if kind == "grid" and pieces:
+        return Node(number, kind, multipliers=pairs_of(pieces[1:], columns, where), step=step_of(pieces[0], where))
     raise Complaint(f"{where} is {text[:40]!r}, which is none")
 
 

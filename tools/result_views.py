@@ -58,8 +58,8 @@ def at_end(column, value):
 
 
 def only_leaf(instance, result):
-    """The multipliers of an optimum's certificate that is one leaf, or none; they are of one objective, and of the instance's own rows."""
-    is_leaf = len(instance.goals) == 1 and len(result.nodes) == 1 and not result.rounds
+    """The multipliers of an optimum's certificate that is one bound, or none; they are of one objective, and of the instance's own rows."""
+    is_leaf = len(instance.goals) == 1 and [node.kind for node in result.nodes] == ["bound"] and not result.rounds
     return dict(result.nodes[0].multipliers) if is_leaf and result.claim == "optimal" else None
 
 
@@ -200,6 +200,8 @@ def notes(instance, result):
         lines.append(f"Rows that were rounded: {len(result.rounds)}; each holds at every feasible point.")
     if result.claim == "optimal" and len(result.nodes) > 1:
         lines.append("The proof has cases, and each its own multipliers, so there are no duals and no reduced costs.")
+    if result.claim == "optimal" and [node.kind for node in result.nodes] == ["grid"]:
+        lines.append("The proof rounds to the next value that the objective may have, so there are no duals and no reduced costs.")
     if result.claim == "infeasible" and len(result.nodes) == 1 and result.nodes[0].kind == "farkas":
         total = low_sum(columns_at(instance, result, 0), result.nodes[0].multipliers)
         if total is not None:
@@ -237,7 +239,9 @@ def said_of(node, goal, held):
         return f"no point: {', '.join(names)}{' ..' if len(node.multipliers) > 3 else ''} can't hold together"
     total = low_sum(held, node.multipliers)
     if total is None:
-        return "bound"
+        return node.kind
+    if node.kind == "grid":
+        total = math.ceil(total / node.step) * node.step
     best = goal.constant - total if goal.maximise else goal.constant + total
     return f"no better than {shown(best)}"
 

@@ -114,6 +114,8 @@ class Writing:
                 derived = self.false_leaf([(node.column, fractions.Fraction(1)), (node.column, fractions.Fraction(-1))])
             elif node.kind in ("farkas", "bound"):
                 derived = self.false_leaf(node.multipliers) if node.kind == "farkas" else self.bound_leaf(node.multipliers)
+            elif node.kind == "grid":
+                raise Complaint("its tree has a leaf on a grid, which isn't written in the format")
             else:
                 raise Complaint("the format has no variables that may be 0 besides their range")
             while open_splits:

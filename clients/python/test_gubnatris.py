@@ -272,6 +272,11 @@ class Peers(unittest.TestCase):
             self.assertEqual((result.objective, result.objectives), (Fraction(-3), (Fraction(-3), Fraction(1, 2))))
             self.assertEqual(result.tree, ("bound", "level 2", "bound"))
 
+    def test_a_leaf_on_a_grid_is_taken(self):
+        with Peer(response(returns("retrieve", solved("optimal", **{**POINT, "tree": "<item>grid 1/2 0:-1</item>"})))) as server:
+            result = server.result("os-7")
+            self.assertEqual((result.status, result.tree), ("optimal", ("grid 1/2 0:-1",)))
+
     def test_a_bound_is_taken(self):
         parts = {"cause": "<item>killed</item>", "bound": "<item>5/2</item>", "tree": "<item>bound 1:-1/2</item>"}
         for status, more, objective in (("unsure", {}, None), ("bestSoFar", {"point": "<item>2</item>", "value": "<item>2</item>"}, 2)):

@@ -12,8 +12,8 @@ use Rattle.cert_checker.specs.declared.at_hand.Added.{Added}
 use Rattle.cert_checker.specs.Programs.{with_rows, AreUncut}
 use Rattle.cert_checker.proofs.Widths.{cut_is}
 use Rattle.cert_checker.proofs.HandRows.{rows_variables, rows_width, rows_height}
+use Rattle.simplex_rules.specs.Statuses.{IsPlaced}
 use Rattle.simplex_rules.specs.Ends.{End}
-use Rattle.simplex_rules.proofs.Soundness.{IsPlaced}
 use Rattle.simplex_rules.proofs.Moments.{comes_placed}
 use Rattle.simplex.specs.declared.work.Work.{Work}
 use Rattle.simplex.specs.Memory.{statuses_in}

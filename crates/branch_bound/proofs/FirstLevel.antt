@@ -8,16 +8,20 @@ use Rattle.instance.proofs.Numbers.{program-instance}
 use Rattle.cert_checker.specs.Programs.{with_rows}
 use Rattle.simplex_rules.specs.Ends.{Terms}
 use Rattle.simplex.specs.declared.cuts.Added.{Added}
+use Rattle.simplex.specs.declared.answer.Turns.{Turns}
 use Rattle.simplex.specs.Cuts.{Cutting}
 use Rattle.search_rules.specs.Search.{begins, begun_at, first}
 use Rattle.branch_bound.specs.declared.found.Found as Best
 use Rattle.branch_bound.specs.declared.level.Level.{Level}
 use Rattle.branch_bound.specs.declared.relaxation.Relaxation.{Relaxation}
+use Rattle.branch_bound.specs.declared.limits.Limits.{Limits}
+use Rattle.branch_bound.specs.declared.state.SearchState.{SearchState}
 use Rattle.branch_bound.specs.declared.walk.Walk.{Walk}
 use Rattle.branch_bound.specs.Walks.{best}
 use Rattle.branch_bound.specs.Levels.{level, moment, IsGiven, IsAtLevel}
 use Rattle.branch_bound.specs.Trials.{IsFreshWalk}
 use Rattle.branch_bound.specs.Cases.{HasSize, SuitsLevel, StandsIn, clock_at}
+use Rattle.branch_bound.specs.States.{IsUnderWay, IsBegun}
 use Rattle.branch_bound.proofs.GivenRows.{given_first}
 use Rattle.branch_bound.proofs.NextGoal.{fresh_moment}
 
@@ -66,3 +70,20 @@ module _ {M : _} {G : _} (p : Parts) (r : Relaxation M G) (ks : List Cert) (rs :
       comes = begins;
       stands = record { program = program p; cut = program p; at = begun_at_level; is = is_first };
     }
+
+-- of the state before the first step
+module _ {M : _} {G : _} (p : Parts) (l : Limits) (s : SearchState M G) (begun : IsBegun p l s) where
+  pub begun_state : IsUnderWay p l s
+  begun_state = record {
+    suits = subst (SuitsLevel p s.relaxation) (sym begun.level) (begun_suits p s.relaxation [] [] refl refl begun.beside begun.goal begun.rows begun.size);
+    most = ap (λ (t : Turns). t.most) begun.turns;
+    walk = begun.walk;
+    fresh = λ e. begun.fresh;
+    within = let n = ap length begun.fresh.nodes in let v = ap (λ (v : Level). v.before) begun.level in omega arith;
+    values = λ f e. let none = begun.best in absurd (cc);
+  }
+
+  pub begun_comes : (t : Terms) → StandsIn p t s.relaxation s.level s.walk (clock_at s.relaxation 0)
+  begun_comes t =
+      subst (λ (v : Level). StandsIn p t s.relaxation v s.walk (clock_at s.relaxation 0)) (sym begun.level)
+      (begun_stands p s.relaxation [] [] refl refl begun.beside begun.goal begun.rows t s.walk begun.fresh begun.ray begun.best (ap (λ (t : Turns). t.done) begun.turns))

@@ -15,10 +15,8 @@ use Rattle.bases.specs.Dictionary.{Entries}
 use Rattle.bases.specs.Program.{goal_column}
 use Rattle.simplex_rules.specs.declared.columns.Status.{Status}
 use Rattle.simplex_rules.specs.declared.columns.Status.TheVariants.{Basic, Lower, Upper, Zero}
-use Rattle.simplex_rules.specs.Statuses.{status_at, HasDictionary}
+use Rattle.simplex_rules.specs.Statuses.{status_at, HasDictionary, HasPlace, IsPlaced}
 use Rattle.simplex_rules.specs.Reports.{collected, one_of}
-use Rattle.simplex_rules.proofs.Facts.{HasPlace}
-use Rattle.simplex_rules.proofs.Soundness.{IsPlaced}
 use Rattle.simplex_rules.proofs.MultiplierLists.{collected_all, collected_ascending}
 use Rattle.simplex.proofs.ValueLists.{collected_alike}
 use Rattle.search_rules.specs.Cuts.{IsLessBy, IsLeftOver, LeftFits, AreLeftWithin, NoneIsLeftAtZero, AreCutMultipliers}

@@ -24,3 +24,4 @@ mod NextGoal
 mod CaseMoments
 mod FirstLevel
 mod Looks
+mod Changes

@@ -1,5 +1,5 @@
 -- What the code has suits each other after each of its steps.
-use Rattle.std.proofs.Common.{◌≡◌, ℕ, ◌⊎◌, ◌+◌, ◌-◌, ◌^◌, ◌<◌, ◌≤◌, inl, inr, Option, IfSome, Result, IfOk, Ok, Err, List, length, get_or, arith, refl, sym, ◌∙◌, ap, subst}
+use Rattle.std.proofs.Common.{◌≡◌, ℕ, ◌⊎◌, ◌+◌, ◌-◌, ◌^◌, ◌<◌, ◌≤◌, inl, inr, Option, Some, IfSome, Result, IfOk, Ok, Err, List, length, get_or, arith, refl, sym, ◌∙◌, ap, subst}
 use Rattle.std.proofs.lemmas.List.{length-map}
 use Rattle.certificate.specs.Meanings as Means
 use Rattle.instance.specs.Parts.{Parts}
@@ -27,6 +27,16 @@ at_walk n d w at = record {
   room = subst (λ (o : Option ℕ). IfSome o (λ d. d ≤ length w.branches.items)) (sym at.next) at.room;
   above = subst (λ (o : Option ℕ). IfSome o (λ d. AreBranches n w.branches.items d)) (sym at.next) at.above;
   ray = subst (λ (o : Option ℕ). IfSome o (λ d. IfSome w.ray (λ r. r.depth ≤ d))) (sym at.next) at.ray;
+}
+
+-- and a walk that is at a case is there
+pub walk_at : (n d : ℕ) (w : Walk) → IsWalk n w → w.next ≡ Some d → IsAt n w d
+walk_at n d w walk next = record {
+  width = walk.width;
+  next = next;
+  room = subst (λ (o : Option ℕ). IfSome o (λ d. d ≤ length w.branches.items)) next walk.room;
+  above = subst (λ (o : Option ℕ). IfSome o (λ d. AreBranches n w.branches.items d)) next walk.above;
+  ray = subst (λ (o : Option ℕ). IfSome o (λ d. IfSome w.ray (λ r. r.depth ≤ d))) next walk.ray;
 }
 
 -- one more node stands

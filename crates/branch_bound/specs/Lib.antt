@@ -11,4 +11,5 @@ pub mod Divisions
 pub mod Levels
 pub mod Trials
 pub mod Cases
+pub mod States
 pub mod Asking

@@ -1,5 +1,5 @@
 //! From a level whose cases are closed to the next goal.
-ghost use Rattle.std.specs.Prelude.{◌≡◌, ◌⊎◌, ℕ, ◌+◌, ◌<◌, ◌≤◌, ◌^◌, ◌-◌, Bool, Option, None, Some, List, [], length, map, get_or, IfOk, OnErr, MatchOption};
+ghost use Rattle.std.specs.Prelude.{◌≡◌, ◌⊎◌, ℕ, ◌+◌, ◌<◌, ◌≤◌, ◌^◌, ◌-◌, Bool, Option, None, Some, List, length, map, get_or, IfOk, OnErr, MatchOption};
 ghost use Rattle.rational.specs.Ratio.{negative};
 ghost use Rattle.rational.specs.Width.{SumFits};
 ghost use Rattle.fraction.specs.Frac.{ratio, ratios};
@@ -17,7 +17,8 @@ ghost use Rattle.branch_bound.specs.declared.found.Found as points;
 ghost use Rattle.branch_bound.specs.Walks.{best as best_of, IsWalk};
 ghost use Rattle.branch_bound.specs.Levels.{IsGiven, IsAtLevel};
 ghost use Rattle.branch_bound.specs.Trials.{IsFreshWalk};
-ghost use Rattle.branch_bound.specs.Cases.{terms, HasSize, SuitsLevel, outcome_of, was_killed, clock_at, is_killed_by, StartsFresh, AreNodesWithin, CarriesOn, HaveValues};
+ghost use Rattle.branch_bound.specs.Cases.{terms, HasSize, SuitsLevel, outcome_of, was_killed, clock_at, HaveValues};
+ghost use Rattle.branch_bound.specs.States.{IsUnderWay, Changes};
 ghost use Rattle.branch_bound.specs.Asking.{turned_by, EndsWide, HasBegunLevel};
 
 use crate::claims::give_up;
@@ -27,6 +28,7 @@ use crate::level::Level;
 use crate::limits::Limits;
 use crate::relaxation::{Relaxation, add_row};
 use crate::rounds::entries_of;
+use crate::state::SearchState;
 use crate::walk::Walk;
 use case_tree::{Cut, turned, uncut};
 use certificate::{Cause, Cert, Nodes, Place, Rounds, Step};
@@ -173,43 +175,52 @@ fn end_is_wide<W: Watch, L: Ledger>(
     )
 }
 
-/// Goes on to the next goal from a level whose cases are closed, with this value of its own goal.
-pub fn next_goal<W: Watch, L: Ledger>(
-    alloc: Global,
-    instance: &Instance,
-    limits: Limits,
-    relaxation: &mut Relaxation<L>,
-    level: &mut Level,
-    walk: &mut Walk,
-    value: Frac,
-    watch: &mut W,
-) -> Result<(), Ended>
-    requires suits { SuitsLevel instance.now relaxation.old level.old }
-    requires within { AreNodesWithin limits level.old walk.old }
-    requires later { level.old.goal + 1 < length instance.now.goals }
-    requires width { length walk.old.cuts.items ≡ length instance.now.vars }
-    requires closed { walk.old.next ≡ None }
-    requires value { (f : points.Found) × (walk.old.best ≡ Some f) × (value_at (ratios f.values) level.old.goal ≡ ratio value) }
-    requires stops { W.stops watch.old < 2 ^ 64 - 1 }
-    ensures suits { IfOk result (λ _. SuitsLevel instance.now relaxation.new level.new) }
-    ensures within { IfOk result (λ _. AreNodesWithin limits level.new walk.new) }
-    ensures fresh { IfOk result (λ _. StartsFresh instance.now walk.new) }
-    ensures goal { IfOk result (λ _. level.new.goal ≡ level.old.goal + 1) }
-    ensures turns { relaxation.new.turns ≡ relaxation.old.turns }
-    ensures best { IfOk result (λ _. walk.new.best ≡ walk.old.best) }
-    ensures walk { IfOk result (λ _. IsWalk (length instance.now.vars) walk.new) }
-    ensures moments { (n : ℕ) × (killed : Bool) × (is_killed_by result ≡ killed) × W.came watch.old watch.new (answers n killed) × CarriesOn instance.now limits relaxation.old level.old walk.old relaxation.new level.new walk.new n killed result }
-{
-    let goals = instance.goals();
-    let k = level.goal as usize;
-    let goal = &goals[k];
-    let end = match reached_end(goal, value) {
-        Ok(end) => end,
-        Err(_) => return Err(end_is_wide(limits, relaxation, level, walk, watch)),
-    };
-    match ask_next(alloc, instance, relaxation, level, walk, goal, end) {
-        Ok(()) => Ok(()),
-        Err(_) => Err(give_up(walk, Cause::Memory)),
+impl<L: Ledger> SearchState<L> {
+    /// Goes on to the next goal from a level whose cases are closed, with this value of its own goal.
+    pub fn next_goal<W: Watch>(
+        &mut self,
+        alloc: Global,
+        instance: &Instance,
+        limits: Limits,
+        value: Frac,
+        watch: &mut W,
+    ) -> Result<(), Ended>
+        requires state { IsUnderWay instance.now limits self.old }
+        requires later { self.old.level.goal + 1 < length instance.now.goals }
+        requires closed { self.old.walk.next ≡ None }
+        requires value { (f : points.Found) × (self.old.walk.best ≡ Some f) × (value_at (ratios f.values) self.old.level.goal ≡ ratio value) }
+        requires stops { W.stops watch.old < 2 ^ 64 - 1 }
+        ensures state { IfOk result (λ _. IsUnderWay instance.now limits self.new) }
+        ensures goal { IfOk result (λ _. self.new.level.goal ≡ self.old.level.goal + 1) }
+        ensures moments { Changes instance.now limits (W.came watch.old watch.new) self.old self.new result }
+    {
+        let goals = instance.goals();
+        let k = self.level.goal as usize;
+        let goal = &goals[k];
+        let end = match reached_end(goal, value) {
+            Ok(end) => end,
+            Err(_) => {
+                return Err(end_is_wide(
+                    limits,
+                    &self.relaxation,
+                    &self.level,
+                    &mut self.walk,
+                    watch,
+                ))
+            }
+        };
+        match ask_next(
+            alloc,
+            instance,
+            &mut self.relaxation,
+            &mut self.level,
+            &mut self.walk,
+            goal,
+            end,
+        ) {
+            Ok(()) => Ok(()),
+            Err(_) => Err(give_up(&mut self.walk, Cause::Memory)),
+        }
     }
 }
 

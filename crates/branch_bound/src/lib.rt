@@ -27,6 +27,7 @@ mod rays;
 mod relaxation;
 mod rounds;
 mod searching;
+mod state;
 mod values;
 mod visit;
 mod walk;

@@ -1,5 +1,5 @@
 //! The search, case by case.
-ghost use Rattle.std.specs.Prelude.{◌≡◌, ◌⊎◌, ℕ, ◌+◌, ◌-◌, ◌^◌, ◌<◌, ◌≤◌, Bool, false, Option, None, Some, [], length, map, IfOk};
+ghost use Rattle.std.specs.Prelude.{◌≡◌, ◌⊎◌, ℕ, ◌+◌, ◌-◌, ◌^◌, ◌<◌, ◌≤◌, Option, None, Some, [], length, map, IfOk};
 ghost use Rattle.fraction.specs.Frac.{ratio, ratios};
 ghost use Rattle.evidence.specs.Point.{value_at};
 ghost use Rattle.instance.specs.Program.{program, problem, variable};
@@ -11,17 +11,19 @@ ghost use Rattle.search_rules.specs.Search.{Outcome, IsSearchAnswer};
 ghost use Rattle.search_rules.specs.Outcomes.{IsPlain, HaveOneRange};
 ghost use Rattle.no_cycles.specs.Beginning.{BeginsFeasible};
 ghost use Rattle.branch_bound.specs.Claims.{ClaimTells, claimed_cause, is_killed};
-ghost use Rattle.branch_bound.specs.Walks.{IsWalk, IsAt};
+ghost use Rattle.branch_bound.specs.Walks.{IsWalk};
 ghost use Rattle.branch_bound.specs.Trials.{IsFreshWalk};
 ghost use Rattle.branch_bound.specs.declared.found.Found as points;
-ghost use Rattle.branch_bound.specs.Cases.{terms, HasSize, SuitsLevel, StartsFresh, AreNodesWithin, HasGoneOn, CarriesOn, clock_at, is_killed_by, HaveValues};
+ghost use Rattle.branch_bound.specs.Cases.{terms, HasSize, GoesFurther};
+ghost use Rattle.branch_bound.specs.States.{IsUnderWay, IsBegun, Changes};
 
-use crate::asking::{next_goal, value_to_reach};
+use crate::asking::value_to_reach;
 use crate::claims::{all_closed, claim_of, give_up};
 use crate::ended::Ended;
 use crate::level::Level;
 use crate::limits::Limits;
 use crate::relaxation::{Relaxation, make_work, run_case};
+use crate::state::SearchState;
 use crate::visit::visit;
 use crate::walk::Walk;
 use case_tree::{Cut, uncut};
@@ -48,198 +50,155 @@ fn is_stop(end: LpEnd) -> bool
     matches!(end, LpEnd::Stopped)
 }
 
-/// Searches the case at hand.
-fn step<W: Watch, L: Ledger>(
-    alloc: Global,
-    instance: &Instance,
-    limits: Limits,
-    relaxation: &mut Relaxation<L>,
-    level: &mut Level,
-    walk: &mut Walk,
-    depth: usize,
-    watch: &mut W,
-    steps: &mut Steps<L>,
-) -> Result<(), Ended>
-    requires suits { SuitsLevel instance.now relaxation.old level.old }
-    requires most { relaxation.old.turns.most ≡ limits.turns }
-    requires at { IsAt (length instance.now.vars) walk.old depth }
-    requires fresh { StartsFresh instance.now walk.old }
-    requires within { AreNodesWithin limits level.old walk.old }
-    requires stops { W.stops watch.old < 2 ^ 64 - 1 }
-    requires values { HaveValues instance.now walk.old.best }
-    ensures on { IfOk result (λ _. HasGoneOn instance.now limits level.old walk.old relaxation.new level.new walk.new) }
-    ensures most { relaxation.new.turns.most ≡ limits.turns }
-    ensures moments { (n : ℕ) × (killed : Bool) × (is_killed_by result ≡ killed) × W.came watch.old watch.new (answers n killed) × CarriesOn instance.now limits relaxation.old level.old walk.old relaxation.new level.new walk.new n killed result }
-    ensures counted { steps.old ≤ steps.new }
-{
-    if level.before + walk.nodes.len() >= limits.nodes as usize {
-        return Err(give_up(walk, Cause::NodeLimit(limits.nodes)));
+impl<L: Ledger> SearchState<L> {
+    /// Searches the case at hand.
+    fn step<W: Watch>(
+        &mut self,
+        alloc: Global,
+        instance: &Instance,
+        limits: Limits,
+        depth: usize,
+        watch: &mut W,
+        steps: &mut Steps<L>,
+    ) -> Result<(), Ended>
+        requires state { IsUnderWay instance.now limits self.old }
+        requires at { self.old.walk.next ≡ Some depth }
+        requires stops { W.stops watch.old < 2 ^ 64 - 1 }
+        ensures state { IfOk result (λ _. IsUnderWay instance.now limits self.new) }
+        ensures further { IfOk result (λ _. GoesFurther limits self.old.level self.new.level self.old.walk self.new.walk) }
+        ensures moments { Changes instance.now limits (W.came watch.old watch.new) self.old self.new result }
+        ensures counted { steps.old ≤ steps.new }
+    {
+        if self.level.before + self.walk.nodes.len() >= limits.nodes as usize {
+            return Err(give_up(&mut self.walk, Cause::NodeLimit(limits.nodes)));
+        }
+        if watch.look() {
+            return Err(give_up(&mut self.walk, Cause::Killed));
+        }
+        let zero_goal = self.walk.ray.is_some();
+        let end = run_case(
+            instance,
+            &mut self.relaxation,
+            self.walk.cuts.as_slice(),
+            zero_goal,
+            watch,
+            steps,
+        );
+        if is_stop(end) {
+            return Err(give_up(&mut self.walk, Cause::Killed));
+        }
+        visit(
+            alloc,
+            instance,
+            limits,
+            &mut self.relaxation,
+            &mut self.level,
+            end,
+            &mut self.walk,
+            depth,
+            steps,
+        )
     }
-    if watch.look() {
-        return Err(give_up(walk, Cause::Killed));
-    }
-    let zero_goal = walk.ray.is_some();
-    let end = run_case(
-        instance,
-        relaxation,
-        walk.cuts.as_slice(),
-        zero_goal,
-        watch,
-        steps,
-    );
-    if is_stop(end) {
-        return Err(give_up(walk, Cause::Killed));
-    }
-    visit(
-        alloc, instance, limits, relaxation, level, end, walk, depth, steps,
-    )
-}
 
-/// Searches the cases of a level, one after the other.
-fn search_level<W: Watch, L: Ledger>(
-    alloc: Global,
-    instance: &Instance,
-    limits: Limits,
-    relaxation: &mut Relaxation<L>,
-    level: &mut Level,
-    walk: &mut Walk,
-    watch: &mut W,
-    steps: &mut Steps<L>,
-) -> Result<(), Ended>
-    requires suits { SuitsLevel instance.now relaxation.old level.old }
-    requires most { relaxation.old.turns.most ≡ limits.turns }
-    requires walk { IsWalk (length instance.now.vars) walk.old }
-    requires fresh { StartsFresh instance.now walk.old }
-    requires within { AreNodesWithin limits level.old walk.old }
-    requires values { HaveValues instance.now walk.old.best }
-    requires stops { W.stops watch.old < 2 ^ 64 - 1 }
-    ensures suits { IfOk result (λ _. SuitsLevel instance.now relaxation.new level.new) }
-    ensures most { relaxation.new.turns.most ≡ limits.turns }
-    ensures walk { IfOk result (λ _. IsWalk (length instance.now.vars) walk.new) }
-    ensures closed { IfOk result (λ _. walk.new.next ≡ None) }
-    ensures values { IfOk result (λ _. HaveValues instance.now walk.new.best) }
-    ensures within { IfOk result (λ _. AreNodesWithin limits level.new walk.new) }
-    ensures goal { IfOk result (λ _. level.new.goal ≡ level.old.goal) }
-    ensures moments { (n : ℕ) × (killed : Bool) × (is_killed_by result ≡ killed) × W.came watch.old watch.new (answers n killed) × CarriesOn instance.now limits relaxation.old level.old walk.old relaxation.new level.new walk.new n killed result }
-    ensures counted { steps.old ≤ steps.new }
-{
-    while let Some(depth) = walk.next {
-        match step(
-            alloc, instance, limits, relaxation, level, walk, depth, watch, steps,
-        ) {
-            Ok(()) => {}
-            Err(ended) => return Err(ended),
+    /// Searches the cases of a level, one after the other.
+    fn search_level<W: Watch>(
+        &mut self,
+        alloc: Global,
+        instance: &Instance,
+        limits: Limits,
+        watch: &mut W,
+        steps: &mut Steps<L>,
+    ) -> Result<(), Ended>
+        requires state { IsUnderWay instance.now limits self.old }
+        requires stops { W.stops watch.old < 2 ^ 64 - 1 }
+        ensures state { IfOk result (λ _. IsUnderWay instance.now limits self.new) }
+        ensures closed { IfOk result (λ _. self.new.walk.next ≡ None) }
+        ensures goal { IfOk result (λ _. self.new.level.goal ≡ self.old.level.goal) }
+        ensures moments { Changes instance.now limits (W.came watch.old watch.new) self.old self.new result }
+        ensures counted { steps.old ≤ steps.new }
+    {
+        while let Some(depth) = self.walk.next {
+            match self.step(alloc, instance, limits, depth, watch, steps) {
+                Ok(()) => {}
+                Err(ended) => return Err(ended),
+            }
+        }
+        Ok(())
+    }
+
+    /// Asks the next goal, and searches its level.
+    fn search_next<W: Watch>(
+        &mut self,
+        alloc: Global,
+        instance: &Instance,
+        limits: Limits,
+        value: Frac,
+        watch: &mut W,
+        steps: &mut Steps<L>,
+    ) -> Result<(), Ended>
+        requires state { IsUnderWay instance.now limits self.old }
+        requires later { self.old.level.goal + 1 < length instance.now.goals }
+        requires closed { self.old.walk.next ≡ None }
+        requires value { (f : points.Found) × (self.old.walk.best ≡ Some f) × (value_at (ratios f.values) self.old.level.goal ≡ ratio value) }
+        requires stops { W.stops watch.old < 2 ^ 64 - 1 }
+        ensures state { IfOk result (λ _. IsUnderWay instance.now limits self.new) }
+        ensures closed { IfOk result (λ _. self.new.walk.next ≡ None) }
+        ensures goal { IfOk result (λ _. self.new.level.goal ≡ self.old.level.goal + 1) }
+        ensures moments { Changes instance.now limits (W.came watch.old watch.new) self.old self.new result }
+        ensures counted { steps.old ≤ steps.new }
+    {
+        match self.next_goal(alloc, instance, limits, value, watch) {
+            Ok(()) => self.search_level(alloc, instance, limits, watch, steps),
+            Err(ended) => Err(ended),
         }
     }
-    Ok(())
-}
 
-/// Asks the next goal, and searches its level.
-fn search_next<W: Watch, L: Ledger>(
-    alloc: Global,
-    instance: &Instance,
-    limits: Limits,
-    relaxation: &mut Relaxation<L>,
-    level: &mut Level,
-    walk: &mut Walk,
-    value: Frac,
-    watch: &mut W,
-    steps: &mut Steps<L>,
-) -> Result<(), Ended>
-    requires suits { SuitsLevel instance.now relaxation.old level.old }
-    requires most { relaxation.old.turns.most ≡ limits.turns }
-    requires within { AreNodesWithin limits level.old walk.old }
-    requires walk { IsWalk (length instance.now.vars) walk.old }
-    requires later { level.old.goal + 1 < length instance.now.goals }
-    requires closed { walk.old.next ≡ None }
-    requires value { (f : points.Found) × (walk.old.best ≡ Some f) × (value_at (ratios f.values) level.old.goal ≡ ratio value) }
-    requires values { HaveValues instance.now walk.old.best }
-    requires stops { W.stops watch.old < 2 ^ 64 - 1 }
-    ensures suits { IfOk result (λ _. SuitsLevel instance.now relaxation.new level.new) }
-    ensures most { relaxation.new.turns.most ≡ limits.turns }
-    ensures within { IfOk result (λ _. AreNodesWithin limits level.new walk.new) }
-    ensures walk { IfOk result (λ _. IsWalk (length instance.now.vars) walk.new) }
-    ensures closed { IfOk result (λ _. walk.new.next ≡ None) }
-    ensures values { IfOk result (λ _. HaveValues instance.now walk.new.best) }
-    ensures goal { IfOk result (λ _. level.new.goal ≡ level.old.goal + 1) }
-    ensures moments { (n : ℕ) × (killed : Bool) × (is_killed_by result ≡ killed) × W.came watch.old watch.new (answers n killed) × CarriesOn instance.now limits relaxation.old level.old walk.old relaxation.new level.new walk.new n killed result }
-    ensures counted { steps.old ≤ steps.new }
-{
-    match next_goal(
-        alloc, instance, limits, relaxation, level, walk, value, watch,
-    ) {
-        Ok(()) => search_level(
-            alloc, instance, limits, relaxation, level, walk, watch, steps,
-        ),
-        Err(ended) => Err(ended),
-    }
-}
-
-/// Searches the levels after one whose cases are closed, one after the other, up to the last or to one without a point.
-fn search_later<W: Watch, L: Ledger>(
-    alloc: Global,
-    instance: &Instance,
-    limits: Limits,
-    relaxation: &mut Relaxation<L>,
-    level: &mut Level,
-    walk: &mut Walk,
-    watch: &mut W,
-    steps: &mut Steps<L>,
-) -> Result<(), Ended>
-    requires suits { SuitsLevel instance.now relaxation.old level.old }
-    requires most { relaxation.old.turns.most ≡ limits.turns }
-    requires within { AreNodesWithin limits level.old walk.old }
-    requires walk { IsWalk (length instance.now.vars) walk.old }
-    requires closed { walk.old.next ≡ None }
-    requires values { HaveValues instance.now walk.old.best }
-    requires stops { W.stops watch.old < 2 ^ 64 - 1 }
-    ensures most { relaxation.new.turns.most ≡ limits.turns }
-    ensures closed { IfOk result (λ _. walk.new.next ≡ None) }
-    ensures last { IfOk result (λ _. walk.new.best ≡ None ⊎ length instance.now.goals < level.new.goal + 2) }
-    ensures moments { (n : ℕ) × (killed : Bool) × (is_killed_by result ≡ killed) × W.came watch.old watch.new (answers n killed) × CarriesOn instance.now limits relaxation.old level.old walk.old relaxation.new level.new walk.new n killed result }
-    ensures counted { steps.old ≤ steps.new }
-{
-    while let Some(value) = value_to_reach(instance, level, &walk.best) {
-        match search_next(
-            alloc, instance, limits, relaxation, level, walk, value, watch, steps,
-        ) {
-            Ok(()) => {}
-            Err(ended) => return Err(ended),
+    /// Searches the levels after one whose cases are closed, one after the other, up to the last or to one without a point.
+    fn search_later<W: Watch>(
+        &mut self,
+        alloc: Global,
+        instance: &Instance,
+        limits: Limits,
+        watch: &mut W,
+        steps: &mut Steps<L>,
+    ) -> Result<(), Ended>
+        requires state { IsUnderWay instance.now limits self.old }
+        requires closed { self.old.walk.next ≡ None }
+        requires stops { W.stops watch.old < 2 ^ 64 - 1 }
+        ensures closed { IfOk result (λ _. self.new.walk.next ≡ None) }
+        ensures last { IfOk result (λ _. self.new.walk.best ≡ None ⊎ length instance.now.goals < self.new.level.goal + 2) }
+        ensures moments { Changes instance.now limits (W.came watch.old watch.new) self.old self.new result }
+        ensures counted { steps.old ≤ steps.new }
+    {
+        while let Some(value) = value_to_reach(instance, &self.level, &self.walk.best) {
+            match self.search_next(alloc, instance, limits, value, watch, steps) {
+                Ok(()) => {}
+                Err(ended) => return Err(ended),
+            }
         }
+        Ok(())
     }
-    Ok(())
-}
 
-/// Searches the levels, from the first one on.
-fn search_levels<W: Watch, L: Ledger>(
-    alloc: Global,
-    instance: &Instance,
-    limits: Limits,
-    relaxation: &mut Relaxation<L>,
-    level: &mut Level,
-    walk: &mut Walk,
-    watch: &mut W,
-    steps: &mut Steps<L>,
-) -> Result<(), Ended>
-    requires suits { SuitsLevel instance.now relaxation.old level.old }
-    requires most { relaxation.old.turns.most ≡ limits.turns }
-    requires within { AreNodesWithin limits level.old walk.old }
-    requires walk { IsWalk (length instance.now.vars) walk.old }
-    requires fresh { StartsFresh instance.now walk.old }
-    requires values { HaveValues instance.now walk.old.best }
-    requires stops { W.stops watch.old < 2 ^ 64 - 1 }
-    ensures closed { IfOk result (λ _. walk.new.next ≡ None) }
-    ensures last { IfOk result (λ _. walk.new.best ≡ None ⊎ length instance.now.goals < level.new.goal + 2) }
-    ensures moments { (n : ℕ) × (killed : Bool) × (is_killed_by result ≡ killed) × W.came watch.old watch.new (answers n killed) × CarriesOn instance.now limits relaxation.old level.old walk.old relaxation.new level.new walk.new n killed result }
-    ensures counted { steps.old ≤ steps.new }
-{
-    match search_level(
-        alloc, instance, limits, relaxation, level, walk, watch, steps,
-    ) {
-        Ok(()) => search_later(
-            alloc, instance, limits, relaxation, level, walk, watch, steps,
-        ),
-        Err(ended) => Err(ended),
+    /// Searches the levels, from the first one on.
+    fn search_levels<W: Watch>(
+        &mut self,
+        alloc: Global,
+        instance: &Instance,
+        limits: Limits,
+        watch: &mut W,
+        steps: &mut Steps<L>,
+    ) -> Result<(), Ended>
+        requires state { IsUnderWay instance.now limits self.old }
+        requires stops { W.stops watch.old < 2 ^ 64 - 1 }
+        ensures closed { IfOk result (λ _. self.new.walk.next ≡ None) }
+        ensures last { IfOk result (λ _. self.new.walk.best ≡ None ⊎ length instance.now.goals < self.new.level.goal + 2) }
+        ensures moments { Changes instance.now limits (W.came watch.old watch.new) self.old self.new result }
+        ensures counted { steps.old ≤ steps.new }
+    {
+        match self.search_level(alloc, instance, limits, watch, steps) {
+            Ok(()) => self.search_later(alloc, instance, limits, watch, steps),
+            Err(ended) => Err(ended),
+        }
     }
 }
 
@@ -248,34 +207,38 @@ fn explore<W: Watch, L: Ledger>(
     alloc: Global,
     instance: &Instance,
     limits: Limits,
-    relaxation: &mut Relaxation<L>,
-    mut walk: Walk,
+    mut state: SearchState<L>,
     watch: &mut W,
     steps: &mut Steps<L>,
-) -> Claim
-    requires size { HasSize instance.now relaxation.old }
-    requires ends { relaxation.old.ends.rows ≡ [] }
-    requires goal { relaxation.old.ends.goal ≡ 0 }
-    requires rows { relaxation.old.rows.items ≡ [] }
-    requires turns { relaxation.old.turns ≡ record { done = 0; most = limits.turns } }
-    requires walk { IsWalk (length instance.now.vars) walk }
-    requires fresh { IsFreshWalk instance.now walk }
-    requires first { (walk.best ≡ None) × (walk.ray ≡ None) }
+) -> Searched
+    requires begun { IsBegun instance.now limits state }
     requires stops { W.stops watch.old < 2 ^ 64 - 1 }
-    ensures answer { (n : ℕ) × (o : Outcome) × ClaimTells result o × W.came watch.old watch.new (answers n (is_killed o)) × ((stop : Option ℕ) → AgreesWith stop 0 n (is_killed o) → IsSearchAnswer (problem instance.now) (terms limits stop) o (clock_at relaxation.new (looks_after 0 n (is_killed o)))) }
+    ensures answer { (n : ℕ) × (o : Outcome) × ClaimTells result.claim o × W.came watch.old watch.new (answers n (is_killed o)) × ((stop : Option ℕ) → AgreesWith stop 0 n (is_killed o) → IsSearchAnswer (problem instance.now) (terms limits stop) o (record { turns = result.turns; looks = looks_after 0 n (is_killed o) })) }
     ensures counted { steps.old ≤ steps.new }
 {
-    let mut level = Level {
-        goal: 0,
-        certs: Certs::new(alloc),
-        rounds: Rounds::new(alloc),
-        before: 0,
-    };
-    match search_levels(
-        alloc, instance, limits, relaxation, &mut level, &mut walk, watch, steps,
-    ) {
-        Ok(()) => all_closed(walk.best, walk.nodes, level),
-        Err(ended) => claim_of(ended, level.certs),
+    match state.search_levels(alloc, instance, limits, watch, steps) {
+        Ok(()) => {
+            let SearchState {
+                relaxation,
+                level,
+                walk,
+            } = state;
+            Searched {
+                turns: relaxation.turns.done,
+                claim: all_closed(walk.best, walk.nodes, level),
+            }
+        }
+        Err(ended) => {
+            let SearchState {
+                relaxation,
+                level,
+                walk: _,
+            } = state;
+            Searched {
+                turns: relaxation.turns.done,
+                claim: claim_of(ended, level.certs),
+            }
+        }
     }
 }
 
@@ -321,7 +284,7 @@ fn uncut_all(alloc: Global, vars: &[Var]) -> Result<Vec<Cut>, AllocError>
 }
 
 /// The walk before its first case, which is the instance itself.
-fn begin(alloc: Global, instance: &Instance) -> Result<Walk, AllocError>
+fn first_walk(alloc: Global, instance: &Instance) -> Result<Walk, AllocError>
     ensures walk { IfOk result (λ w. IsWalk (length instance.now.vars) w) }
     ensures fresh { IfOk result (λ w. IsFreshWalk instance.now w) }
     ensures first { IfOk result (λ w. (w.best ≡ None) × (w.ray ≡ None)) }
@@ -333,6 +296,27 @@ fn begin(alloc: Global, instance: &Instance) -> Result<Walk, AllocError>
         nodes: Nodes::new(alloc),
         best: None,
         ray: None,
+    })
+}
+
+/// The search before its first case.
+fn begin<L: Ledger>(
+    alloc: Global,
+    instance: &Instance,
+    limits: Limits,
+) -> Result<SearchState<L>, AllocError>
+    ensures { IfOk result (λ s. IsBegun instance.now limits s) }
+{
+    let level = Level {
+        goal: 0,
+        certs: Certs::new(alloc),
+        rounds: Rounds::new(alloc),
+        before: 0,
+    };
+    Ok(SearchState {
+        relaxation: relax(alloc, instance, limits.turns)?,
+        level,
+        walk: first_walk(alloc, instance)?,
     })
 }
 
@@ -358,33 +342,19 @@ pub fn search<W: Watch, L: Ledger>(
     ensures enough { length instance.now.goals ≡ 1 → IsPlain (program instance.now) → HaveOneRange (program instance.now) → BeginsFeasible (program instance.now) → 4 ^ (length instance.now.vars + length instance.now.rows) ≤ turns → (n : ℕ) → claimed_cause result.claim ≡ Some (causes.TurnLimit n) → ⊥ }
     ensures counted { steps.old ≤ steps.new }
 {
-    let cause = Cause::Memory;
     let limits = Limits {
         nodes,
         turns,
         rounds,
     };
-    let mut relaxation = match relax(alloc, instance, turns) {
-        Ok(relaxation) => relaxation,
+    match begin(alloc, instance, limits) {
+        Ok(state) => explore(alloc, instance, limits, state, watch, steps),
         Err(_) => {
-            return Searched {
+            let cause = Cause::Memory;
+            Searched {
                 claim: Claim::Unsure { cause, bound: None },
                 turns: 0,
             }
         }
-    };
-    let walk = match begin(alloc, instance) {
-        Ok(walk) => walk,
-        Err(_) => {
-            return Searched {
-                claim: Claim::Unsure { cause, bound: None },
-                turns: 0,
-            }
-        }
-    };
-    let claim = explore(alloc, instance, limits, &mut relaxation, walk, watch, steps);
-    Searched {
-        claim,
-        turns: relaxation.turns.done,
     }
 }

@@ -15,6 +15,7 @@ pub mod OnePoint
 pub mod OneRay
 pub mod Moves
 pub mod RoundRows
+pub mod GridSteps
 pub mod EachCert
 pub mod Values
 pub mod Refusals

@@ -1,5 +1,5 @@
 -- The values of a claim, one for each goal.
-use Rattle.std.proofs.Common.{◌≡◌, ℕ, ◌<◌, inl, inr, List, length, slice_index_or, arith, refl, sym, ◌∙◌, ap, subst}
+use Rattle.std.proofs.Common.{◌≡◌, ℕ, ◌<◌, inr, List, length, slice_index_or, arith, sym, ◌∙◌, ap, subst}
 use Rattle.std.proofs.lemmas.List.{length-map}
 use Rattle.rational.specs.Ratio.{IsNumber, IsSame, product}
 use Rattle.rational.proofs.Scaling.{IsSame-trans}
@@ -8,7 +8,6 @@ use Rattle.fraction.specs.declared.frac.Frac.{Frac}
 use Rattle.evidence.specs.Instance as Of
 use Rattle.evidence.specs.Instance.{asking, width, cost_at}
 use Rattle.evidence.specs.Point.{value_at, objective}
-use Rattle.evidence.specs.Width.{PointFits}
 use Rattle.evidence.specs.Levels.{HasGoalValues}
 use Rattle.evidence.proofs.Numbers.{product-number}
 use Rattle.evidence.proofs.Totals.{total-number}
@@ -21,7 +20,6 @@ use Rattle.instance.proofs.Search.{point-numbers}
 use Rattle.instance.proofs.Terms.{read, ratios-number}
 use Rattle.cert_checker.specs.Points.{ValuesBelow, ValueRefuses, ValuesRefuse}
 use Rattle.cert_checker.specs.declared.refused.Refused.{Refused}
-use Rattle.cert_checker.specs.declared.refused.Refused.TheVariants.{Value}
 use Rattle.cert_checker.proofs.HandRows.{goal-numbers-at}
 
 pub goals_count : (p : Parts) → IsValid p → length (Of.goals (problem p)) ≡ length p.goals

@@ -2,18 +2,19 @@
 use Rattle.std.proofs.Common.{◌≡◌, ℕ, ◌+◌, ◌<◌, length, drop, slice_index_or, ap₂, add-one, arith, ℤ, pos, ◌+ℤ◌, Option, None, Some, IfSome, List, [], ◌∷◌, refl, sym, ◌∙◌, ap, subst, inl, inr}
 use Rattle.std.proofs.Math.Seq.{drop-cons}
 use Rattle.std.proofs.lemmas.List.{get_or-map, length-map}
-use Rattle.rational.specs.Ratio.{Ratio}
+use Rattle.rational.specs.Ratio.{Ratio, IsNumber}
+use Rattle.fraction.specs.Frac.{ratio}
 use Rattle.fraction.specs.declared.frac.Frac.{Frac}
 use Rattle.evidence.specs.Sums.{none}
 use Rattle.evidence.specs.Instance.{Instance, minimising}
-use Rattle.evidence.specs.Cases.{Multiplier, Node, ClashAt, FarkasBy, BoundBy, SplitAt, ZeroAt, IsBranch, IsZeroBranch, IsFarkas, IsBound, at_most, at_least, at_zero, unless_zero}
+use Rattle.evidence.specs.Cases.{Multiplier, Node, ClashAt, FarkasBy, BoundBy, GridBy, SplitAt, ZeroAt, IsBranch, IsZeroBranch, IsFarkas, IsBound, at_most, at_least, at_zero, unless_zero}
 use Rattle.evidence.specs.Width.{LeafFits}
 use Rattle.evidence.specs.PendingNodes.{ShowsAll}
-use Rattle.evidence.proofs.PendingNodes.{clash_step, farkas_step, bound_step, split_step, zero_step}
+use Rattle.evidence.proofs.PendingNodes.{clash_step, farkas_step, bound_step, grid_step, split_step, zero_step}
 use Rattle.certificate.specs.Meanings as Means
 use Rattle.certificate.specs.declared.lists.Mult.{Mult}
 use Rattle.certificate.specs.declared.nodes.Node as Has
-use Rattle.certificate.specs.declared.nodes.Node.TheVariants.{Farkas, Bound}
+use Rattle.certificate.specs.declared.nodes.Node.TheVariants.{Farkas, Bound, Grid}
 use Rattle.cert_checker.specs.declared.refused.Unshown.{Unshown}
 use Rattle.case_tree.specs.declared.cuts.Cut.{Cut}
 use Rattle.case_tree.specs.declared.path.Branch.{Branch}
@@ -21,7 +22,9 @@ use Rattle.cert_checker.specs.declared.refused.Unshown.TheVariants.{Tree as Miss
 use Rattle.case_tree.specs.Cuts.{cases}
 use Rattle.cert_checker.specs.Cuts.{aim}
 use Rattle.cert_checker.specs.Leaves.{LeafHolds, LeafRefuses, ClashHolds}
+use Rattle.cert_checker.specs.Grids.{GridLeafHolds, GridLeafRefuses}
 use Rattle.cert_checker.specs.Trees.{TreeRefuses, LeadsThrough}
+use Rattle.cert_checker.proofs.GridSteps.{grid_is}
 
 pub farkas_of : (I : Instance) (ms : List Multiplier) → LeafHolds I ms None → IsFarkas I ms × LeafFits I none ms
 farkas_of I ms h = (
@@ -111,6 +114,25 @@ pub bound_refused : (I : Instance) (js : List Instance) (n : ℕ) (rest : List N
 bound_refused I js n rest x ms lent is le a ne r q =
     subst (λ y. TreeRefuses (I ∷ js) (y ∷ rest) (aim a) n r) (sym (ap Means.node is ∙ ap (λ l. BoundBy (Means.multipliers l)) (sym le)))
     (bound_refuses I js js n rest (Means.multipliers lent) a ne r q)
+
+module _ (I : Instance) (js after : List Instance) (n : ℕ) (rest : List Node) (g : Ratio) (ms : List Multiplier) where
+  grid_leads : (z : Option Ratio) → IsNumber g → GridLeafHolds I g ms z → after ≡ js → LeadsThrough (I ∷ js) (GridBy g ms ∷ rest) n after rest (n + 1) z
+  grid_leads None p h e = absurd h
+  grid_leads (Some z) p h e = record {
+    shown = λ s. let b = (grid_is I g ms z p).0 h in (grid_step I js g ms rest z).1 (b.0, (b.1, b.2), subst (λ l. ShowsAll l rest (Some z)) e s);
+    refused = λ r q. inr (h, subst (λ l. TreeRefuses l rest (Some z) (n + 1) r) e q);
+  }
+
+module _ (I : Instance) (js after : List Instance) (n : ℕ) (z : Option Ratio) (rest : List Node) (x : Has.Node) (g : Frac) (ms lent : List Mult) (is : x ≡ Grid g ms) (le : lent ≡ ms) where
+  grid_node : Means.node x ≡ GridBy (ratio g) (Means.multipliers lent)
+  grid_node = ap Means.node is ∙ ap (λ l. GridBy (ratio g) (Means.multipliers l)) (sym le)
+
+  pub grid_node_leads : GridLeafHolds I (ratio g) (Means.multipliers lent) z → after ≡ js → LeadsThrough (I ∷ js) (Means.node x ∷ rest) n after rest (n + 1) z
+  grid_node_leads h e = subst (λ y. LeadsThrough (I ∷ js) (y ∷ rest) n after rest (n + 1) z) (sym grid_node) (grid_leads I js after n rest (ratio g) (Means.multipliers lent) z g.above h e)
+
+pub grid_refused : (I : Instance) (js : List Instance) (n : ℕ) (z : Option Ratio) (rest : List Node) (x : Has.Node) (g : Frac) (ms lent : List Mult) (is : x ≡ Grid g ms) (le : lent ≡ ms) (r : Unshown) → GridLeafRefuses I (ratio g) (Means.multipliers lent) z n r → TreeRefuses (I ∷ js) (Means.node x ∷ rest) z n r
+grid_refused I js n z rest x g ms lent is le r q =
+    subst (λ y. TreeRefuses (I ∷ js) (y ∷ rest) z n r) (sym (ap Means.node is ∙ ap (λ l. GridBy (ratio g) (Means.multipliers l)) (sym le))) (inl q)
 
 pub leads_on : (Is Js Ks : List Instance) (a b c : List Node) (n m l : ℕ) (z : Option Ratio) → LeadsThrough Is a n Js b m z → LeadsThrough Js b m Ks c l z → LeadsThrough Is a n Ks c l z
 leads_on Is Js Ks a b c n m l z f g = record { shown = λ s. f.shown (g.shown s); refused = λ r q. f.refused r (g.refused r q) }

@@ -5,6 +5,7 @@ pub use Rattle.certificate.specs.Meanings
 pub mod Points
 pub mod Rays
 pub mod Leaves
+pub mod Grids
 pub mod Trees
 pub mod RoundRefusals
 pub mod LevelRefusals
@@ -14,3 +15,4 @@ pub mod Slots
 pub mod Programs
 pub mod Reached
 pub mod Settled
+pub mod Words

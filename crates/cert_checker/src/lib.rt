@@ -23,6 +23,7 @@ mod checking;
 mod clash;
 mod columns;
 mod forms;
+mod grids;
 mod laws;
 mod leaf;
 mod levels;

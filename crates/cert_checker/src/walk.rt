@@ -13,6 +13,7 @@ ghost use Rattle.cert_checker.specs.Trees.{TreeRefuses, LeadsThrough};
 
 use crate::at_hand::Program;
 use crate::clash::check_clash;
+use crate::grids::check_grid_leaf;
 use crate::leaf::check_leaf;
 use crate::refused::Unshown;
 use case_tree::{Branch, Cut, Division, back, enter, is_branch, is_zero_branch, uncut};
@@ -65,6 +66,9 @@ fn step(
                 return Err(Unshown::Tree { node: number });
             }
             check_leaf(program, cuts, slots, mults.as_slice(), aim, number)?
+        }
+        Node::Grid { step, mults } => {
+            check_grid_leaf(program, cuts, slots, mults.as_slice(), *step, aim, number)?
         }
     }
     Ok(back(cuts, branches, depth))

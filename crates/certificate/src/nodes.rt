@@ -2,6 +2,7 @@
 ghost use Rattle.std.specs.Prelude.{◌≡◌, [], IfOk};
 
 use crate::lists::Mults;
+use fraction::Frac;
 use items::{Items, TryCopy};
 use std::alloc::{AllocError, Global};
 
@@ -18,6 +19,8 @@ pub enum Node {
     Farkas(Mults),
     /// By these multipliers no point is better than the claimed value.
     Bound(Mults),
+    /// The same, where the goal's values go in such steps and the sum is rounded up to the next of them.
+    Grid { step: Frac, mults: Mults },
 }
 
 impl Drop for Node {
@@ -29,6 +32,7 @@ impl Drop for Node {
             Node::Clash { col: _ } => {}
             Node::Farkas(_) => {}
             Node::Bound(_) => {}
+            Node::Grid { step: _, mults: _ } => {}
         }
     }
 }
@@ -41,6 +45,10 @@ impl TryCopy for Node {
             Node::Clash { col } => Ok(Node::Clash { col: *col }),
             Node::Farkas(mults) => Ok(Node::Farkas(mults.try_copy(alloc)?)),
             Node::Bound(mults) => Ok(Node::Bound(mults.try_copy(alloc)?)),
+            Node::Grid { step, mults } => Ok(Node::Grid {
+                step: *step,
+                mults: mults.try_copy(alloc)?,
+            }),
         }
     }
 }

@@ -115,6 +115,18 @@ fn scaled(is_negative: bool, size: u128, up: u128, down: u128) -> Option<Frac>
     }
 }
 
+/// The digits of two texts, one behind the other, as one number: what stands before the zeros at its end, where that is within the width,
+/// and how many these are.
+fn significand_of(before: &[u8], after: &[u8]) -> (Option<u128>, u128)
+    requires before { AllDigits 10 before.now }
+    requires after { AllDigits 10 after.now }
+    ensures value { IsSignificand (digits_value 10 (before.now ++ after.now)) result.0 result.1 }
+    ensures zeros { result.1 ≤ length before.now + length after.now }
+{
+    let (kept, zeros) = significand(Some(0), 0, before);
+    significand(kept, zeros, after)
+}
+
 /// The value of a decimal's parts under a sign, where it fits.
 pub fn value(is_negative: bool, parts: Parts<'_>) -> Option<Frac>
     requires before { AllDigits 10 parts.before.now }
@@ -125,8 +137,7 @@ pub fn value(is_negative: bool, parts: Parts<'_>) -> Option<Frac>
         let written = powered is_negative size (cond parts.entry.is_down 0 power) (length parts.entry.after.now + cond parts.entry.is_down power 0) in
         MatchOption result (HasNoFit written) (λ x. HasFit written (ratio x)) }
 {
-    let (kept, zeros) = significand(Some(0), 0, parts.before);
-    let (kept, zeros) = significand(kept, zeros, parts.after);
+    let (kept, zeros) = significand_of(parts.before, parts.after);
     let size = kept?;
     if size == 0 {
         return Some(Frac::ZERO);

@@ -18,7 +18,7 @@ use Rattle.evidence.proofs.Numbers.{one_times}
 use Rattle.evidence.proofs.Fits.{whole-reduced}
 use Rattle.evidence.specs.Instance.{alone, Instance, asking, variable_at, row_at, cost_at, entry_at, coefficient_at, minimising}
 use Rattle.evidence.specs.Point.{value_at, activity, objective, IsBetween, IsZeroOr, IsFeasible, NeverLeaves, NeverLeavesZeroOr, IsRay}
-use Rattle.evidence.specs.Cases.{Multiplier, Tree, Clash, Farkas, Bound, Split, Zero, Node, SplitAt, BoundBy, AreLegal, form, end_of, preorder, at_most, at_least, IsBound, IsFarkas, IsBranch, Shows, multiplier_at, or_none}
+use Rattle.evidence.specs.Cases.{Multiplier, Tree, Clash, Farkas, Bound, Grid, Split, Zero, Node, SplitAt, BoundBy, AreLegal, form, end_of, preorder, at_most, at_least, IsBound, IsFarkas, IsBranch, Shows, multiplier_at, or_none}
 use Rattle.evidence.specs.Claim.{Accepts}
 use Rattle.evidence.specs.Examples.{times, halves, two, half_a_proof, slope_example, upwards}
 
@@ -178,6 +178,7 @@ listed_some : (t : Tree) → 1 ≤ length (preorder t)
 listed_some (Clash c) = omega arith
 listed_some (Farkas ms) = omega arith
 listed_some (Bound ms) = omega arith
+listed_some (Grid g ms) = omega arith
 listed_some (Split j k a b) = omega arith
 listed_some (Zero j a b) = omega arith
 
@@ -185,6 +186,7 @@ not_two : (t : Tree) (x y : Node) → x ∷ y ∷ [] ≡ preorder t → ⊥
 not_two (Clash c) x y e = let l = ap length e in omega arith
 not_two (Farkas ms) x y e = let l = ap length e in omega arith
 not_two (Bound ms) x y e = let l = ap length e in omega arith
+not_two (Grid g ms) x y e = let l = ap length e in omega arith
 not_two (Split j k a b) x y e = let l = ap length e in let m = length-append (preorder a) (preorder b) in let p = listed_some a in let q = listed_some b in omega arith
 not_two (Zero j a b) x y e = let l = ap length e in let m = length-append (preorder a) (preorder b) in let p = listed_some a in let q = listed_some b in omega arith
 

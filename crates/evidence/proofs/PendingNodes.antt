@@ -3,8 +3,8 @@ use Rattle.std.proofs.Common.{◌≡◌, ℕ, ◌+◌, ◌<◌, ℤ, pos, ◌+�
 use Rattle.rational.specs.Ratio.{Ratio}
 use Rattle.evidence.specs.Sums.{none}
 use Rattle.evidence.specs.Instance.{Instance, width, height, column_at, minimising}
-use Rattle.evidence.specs.Cases.{Multiplier, Tree, Clash, Farkas, Bound, Split, Zero, Node, ClashAt, FarkasBy, BoundBy, SplitAt, ZeroAt, preorder, Shows, IsEmpty, IsFarkas, IsBound, IsBranch, IsZeroBranch, at_most, at_least, at_zero, unless_zero}
-use Rattle.evidence.specs.Width.{LeafFits, TreeFits, ProvesWithin}
+use Rattle.evidence.specs.Cases.{Multiplier, Tree, Clash, Farkas, Bound, Grid, Split, Zero, Node, ClashAt, FarkasBy, BoundBy, GridBy, SplitAt, ZeroAt, preorder, Shows, IsEmpty, IsFarkas, IsBound, IsGrid, IsBranch, IsZeroBranch, at_most, at_least, at_zero, unless_zero}
+use Rattle.evidence.specs.Width.{LeafFits, StepsFit, TreeFits, ProvesWithin}
 use Rattle.evidence.specs.PendingNodes.{ShowsEach, ShowsAll}
 
 -- whatever more is known of the trees
@@ -13,6 +13,7 @@ module _ (known : Instance → Tree → Type 0) (I : Instance) (Is : List Instan
   none_read (Clash c, rest, e, s, w, o) = cc
   none_read (Farkas ms, rest, e, s, w, o) = cc
   none_read (Bound ms, rest, e, s, w, o) = cc
+  none_read (Grid g ms, rest, e, s, w, o) = cc
   none_read (Split j k a b, rest, e, s, w, o) = cc
   none_read (Zero j a b, rest, e, s, w, o) = cc
 
@@ -24,6 +25,7 @@ module _ (known : Instance → Tree → Type 0) (I : Instance) (Is : List Instan
         (subst (λ d. Shows I (Clash d) z) p s, subst (λ d. known I (Clash d)) p w, subst (λ r. ShowsEach known Is r z) q o)
     clash_read c (Farkas ms, others, e, s, w, o) = absurd (cc)
     clash_read c (Bound ms, others, e, s, w, o) = absurd (cc)
+    clash_read c (Grid h ns, others, e, s, w, o) = absurd (cc)
     clash_read c (Split j k a b, others, e, s, w, o) = absurd (cc)
     clash_read c (Zero j a b, others, e, s, w, o) = absurd (cc)
 
@@ -34,6 +36,7 @@ module _ (known : Instance → Tree → Type 0) (I : Instance) (Is : List Instan
         let q : others ≡ rest = cc in
         (subst (λ m. Shows I (Farkas m) z) p s, subst (λ m. known I (Farkas m)) p w, subst (λ r. ShowsEach known Is r z) q o)
     farkas_read ms (Bound ns, others, e, s, w, o) = absurd (cc)
+    farkas_read ms (Grid h ns, others, e, s, w, o) = absurd (cc)
     farkas_read ms (Split j k a b, others, e, s, w, o) = absurd (cc)
     farkas_read ms (Zero j a b, others, e, s, w, o) = absurd (cc)
 
@@ -44,8 +47,21 @@ module _ (known : Instance → Tree → Type 0) (I : Instance) (Is : List Instan
         let p : ns ≡ ms = cc in
         let q : others ≡ rest = cc in
         (subst (λ m. Shows I (Bound m) z) p s, subst (λ m. known I (Bound m)) p w, subst (λ r. ShowsEach known Is r z) q o)
+    bound_read ms (Grid h ns, others, e, s, w, o) = absurd (cc)
     bound_read ms (Split j k a b, others, e, s, w, o) = absurd (cc)
     bound_read ms (Zero j a b, others, e, s, w, o) = absurd (cc)
+
+    pub grid_read : (g : Ratio) (ms : List Multiplier) → ShowsEach known (I ∷ Is) (GridBy g ms ∷ rest) z → Shows I (Grid g ms) z × known I (Grid g ms) × ShowsEach known Is rest z
+    grid_read g ms (Clash d, others, e, s, w, o) = absurd (cc)
+    grid_read g ms (Farkas ns, others, e, s, w, o) = absurd (cc)
+    grid_read g ms (Bound ns, others, e, s, w, o) = absurd (cc)
+    grid_read g ms (Grid h ns, others, e, s, w, o) =
+        let p : h ≡ g = cc in
+        let q : ns ≡ ms = cc in
+        let r : others ≡ rest = cc in
+        (subst (λ h. Shows I (Grid h ms) z) p (subst (λ m. Shows I (Grid h m) z) q s), subst (λ h. known I (Grid h ms)) p (subst (λ m. known I (Grid h m)) q w), subst (λ l. ShowsEach known Is l z) r o)
+    grid_read g ms (Split j k a b, others, e, s, w, o) = absurd (cc)
+    grid_read g ms (Zero j a b, others, e, s, w, o) = absurd (cc)
 
     -- what is known of a tree is known of its two cases
     pub split_read : (j : ℕ) (k : ℤ) → ((a b : Tree) → known I (Split j k a b) → known (at_most I j k) a × known (at_least I j (k +ℤ pos 1)) b)
@@ -53,6 +69,7 @@ module _ (known : Instance → Tree → Type 0) (I : Instance) (Is : List Instan
     split_read j k inner (Clash d, others, e, s, w, o) = absurd (cc)
     split_read j k inner (Farkas ns, others, e, s, w, o) = absurd (cc)
     split_read j k inner (Bound ns, others, e, s, w, o) = absurd (cc)
+    split_read j k inner (Grid h ns, others, e, s, w, o) = absurd (cc)
     split_read j k inner (Zero i a b, others, e, s, w, o) = absurd (cc)
     split_read j k inner (Split i l a b, others, e, s, w, o) =
         let p : i ≡ j = cc in
@@ -72,6 +89,7 @@ module _ (known : Instance → Tree → Type 0) (I : Instance) (Is : List Instan
     zero_read j inner (Clash d, others, e, s, w, o) = absurd (cc)
     zero_read j inner (Farkas ns, others, e, s, w, o) = absurd (cc)
     zero_read j inner (Bound ns, others, e, s, w, o) = absurd (cc)
+    zero_read j inner (Grid h ns, others, e, s, w, o) = absurd (cc)
     zero_read j inner (Split i l a b, others, e, s, w, o) = absurd (cc)
     zero_read j inner (Zero i a b, others, e, s, w, o) =
         let p : i ≡ j = cc in
@@ -106,6 +124,12 @@ farkas_step I Is ms rest z = (λ s. farkas_read TreeFits I Is z rest ms s, λ (s
 
 pub bound_step : (I : Instance) (Is : List Instance) (ms : List Multiplier) (rest : List Node) (z : Ratio) → ShowsAll (I ∷ Is) (BoundBy ms ∷ rest) (Some z) ↔ (IsBound I ms z × LeafFits I (minimising I I.goal.constant) ms × ShowsAll Is rest (Some z))
 bound_step I Is ms rest z = (λ s. bound_read TreeFits I Is (Some z) rest ms s, λ (s, w, o). (Bound ms, rest, refl, s, w, o))
+
+pub grid_step : (I : Instance) (Is : List Instance) (g : Ratio) (ms : List Multiplier) (rest : List Node) (z : Ratio) → ShowsAll (I ∷ Is) (GridBy g ms ∷ rest) (Some z) ↔ (IsGrid I g ms z × (LeafFits I none ms × StepsFit I g ms) × ShowsAll Is rest (Some z))
+grid_step I Is g ms rest z = (λ s. grid_read TreeFits I Is (Some z) rest g ms s, λ (s, w, o). (Grid g ms, rest, refl, s, w, o))
+
+pub no_grid : (I : Instance) (Is : List Instance) (g : Ratio) (ms : List Multiplier) (rest : List Node) → ShowsAll (I ∷ Is) (GridBy g ms ∷ rest) None → ⊥
+no_grid I Is g ms rest s = (grid_read TreeFits I Is None rest g ms s).0
 
 pub no_bound : (I : Instance) (Is : List Instance) (ms : List Multiplier) (rest : List Node) → ShowsAll (I ∷ Is) (BoundBy ms ∷ rest) None → ⊥
 no_bound I Is ms rest s = (bound_read TreeFits I Is None rest ms s).0

@@ -1,58 +1,20 @@
 -- A rounding cut holds at each feasible point, and what a certificate with rounds shows holds of it.
-use Rattle.std.proofs.Common.{◌≡◌, ℕ, zero, suc, ◌<◌, ℤ, pos, negsuc, ◌+ℤ◌, ◌≤ℤ◌, Option, None, Some, IfSome, List, [], ◌∷◌, lit<, arith, refl}
-use Rattle.std.proofs.lemmas.Int.{ints, by_lt_z}
-use Rattle.rational.specs.Ratio.{Ratio, whole, sum, product, IsNumber, IsAtMost}
-use Rattle.rational.proofs.Integers.{more-times}
+use Rattle.std.proofs.Common.{ℕ, ◌<◌, ℤ, Option, None, Some, IfSome, List, [], ◌∷◌, lit<}
+use Rattle.rational.specs.Ratio.{Ratio, whole, product, IsNumber, IsAtMost}
 use Rattle.evidence.specs.Sums.{none, total, IsWhole}
 use Rattle.evidence.specs.OneDenominator.{number_at}
 use Rattle.evidence.specs.Instance.{Range, Instance, IsInstance, width, variable_at}
 use Rattle.evidence.specs.Point.{value_at, IsFeasible}
 use Rattle.evidence.specs.Cases.{Multiplier, Node, form, low_sum}
-use Rattle.evidence.specs.Rounds.{IsCeiling, IsRoundingCut, derive, ShowsAfter}
-use Rattle.evidence.proofs.Numbers.{◌≈◌, ◌≲◌, ≈-refl, ≲-is, ≲-from, ≲-trans, sum-≈, product-≈, product-number, product-none, none-sum}
+use Rattle.evidence.specs.Rounds.{IsRoundingCut, derive, ShowsAfter}
+use Rattle.evidence.proofs.Numbers.{◌≈◌, ◌≲◌, ≈-refl, ≲-is, ≲-from, ≲-trans, product-≈, product-number, none-sum}
 use Rattle.evidence.proofs.Totals.{total-number, total-≈}
 use Rattle.evidence.proofs.Columns.{by_bool, none-number, value-number}
 use Rattle.evidence.proofs.Duality.{weak, form-number}
 use Rattle.evidence.proofs.Branches.{Meets, shown, whole_at_least}
+pub use Rattle.evidence.proofs.WholeSums.{whole-number}
+use Rattle.evidence.proofs.WholeSums.{near_whole, total-whole, product-whole, no_product-whole, at_ceiling}
 use Rattle.evidence.proofs.AddedRows.{feasible_added, instance_added}
-
-pub whole-number : (n : ℤ) → IsNumber (whole n)
-whole-number n = lit< tt
-
-near_whole : (x : Ratio) → IsNumber x → (w : IsWhole x) → x ≈ whole w.number
-near_whole x p w = record { left = p; right = whole-number w.number; is = w.same }
-
--- a sum of whole numbers is whole
-sum-whole : (x y : Ratio) → IsNumber x → IsNumber y → IsWhole x → IsWhole y → IsWhole (sum x y)
-sum-whole x y p q v w =
-    let all : sum x y ≈ sum (whole v.number) (whole w.number) = sum-≈ (near_whole x p v) (near_whole y q w) in
-    let k : ℤ = (sum (whole v.number) (whole w.number)).num in
-    record { number = k; same = all.is }
-
-total-whole : (n : ℕ) (f : ℕ → Ratio) → ((j : ℕ) → IsNumber (f j)) → ((j : ℕ) → j < n → IsWhole (f j)) → IsWhole (total none n f)
-total-whole zero f p w = record { number = pos 0; same = refl }
-total-whole (suc n) f p w = sum-whole (total none n f) (f n) (total-number none n f none-number p) (p n) (total-whole n f p (λ j h. w j (omega arith))) (w n (omega arith))
-
-product-whole : (c : ℤ) (x : Ratio) → IsNumber x → IsWhole x → IsWhole (product (whole c) x)
-product-whole c x p w =
-    let C : whole c ≈ whole c = ≈-refl (whole-number c) in
-    let all : product (whole c) x ≈ product (whole c) (whole w.number) = product-≈ C (near_whole x p w) in
-    let k : ℤ = (product (whole c) (whole w.number)).num in
-    record { number = k; same = all.is }
-
-no_product-whole : (c : ℤ) (x : Ratio) → IsNumber x → c ≡ pos 0 → IsWhole (product (whole c) x)
-no_product-whole c x p e = rw e (let z = product-none x p in record { number = pos 0; same = z.is })
-
--- a whole number that isn't below x isn't below the next whole number
-at_ceiling : (x : Ratio) (k n : ℤ) → IsCeiling x k → x ≲ whole n → k ≤ℤ n
-at_ceiling x k n c h =
-    by_lt_z n k
-    (λ below.
-    let t = more-times n (k +ℤ negsuc 0) x.den (omega (arith, ints)) in
-    let up = h.is in
-    let low = c.low in
-    absurd (omega (arith, ints)))
-    (λ done. done)
 
 module _ (I : Instance) (good : IsInstance I) (ms : List Multiplier) (cs : List ℤ) (k : ℤ) (round : IsRoundingCut I ms cs k) where
   abbrev coefficient : ℕ → Ratio

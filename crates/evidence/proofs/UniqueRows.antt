@@ -54,7 +54,7 @@ not_above x k l c d =
     absurd (omega (arith, ints)))
     (λ done. done)
 
-one_ceiling : (x : Ratio) (k l : ℤ) → IsCeiling x k → IsCeiling x l → k ≡ l
+pub one_ceiling : (x : Ratio) (k l : ℤ) → IsCeiling x k → IsCeiling x l → k ≡ l
 one_ceiling x k l c d = let a = not_above x k l c d in let b = not_above x l k d c in omega (arith, ints)
 
 pub one_row : (I : Instance) → IsInstance I → (ms : List Multiplier) (cs ds : List ℤ) (k l : ℤ) → IsRoundingCut I ms cs k → IsRoundingCut I ms ds l → (cs ≡ ds) × (k ≡ l)

@@ -1,9 +1,9 @@
 -- Trees of cases over whole variables (Land and Doig, 1960) and over variables that are 0 or within further ends (Beale, 1979), whose leaves have multipliers by which no point is feasible (Farkas, 1902), or none is better than a bound (weak duality; Chvátal, Linear Programming, 1983, chapter 5).
 use Rattle.std.specs.Prelude.{◌≡◌, ℕ, ◌+◌, ◌<◌, ℤ, pos, negsuc, ◌+ℤ◌, cond, IsTrue, Option, None, Some, IsSome, List, [], ◌∷◌, ◌++◌, length, get_or, neg_ℤ, ◌≤ℤ◌, ◌<ℤ◌, slice_set}
 use Rattle.std.specs.List.{All}
-use Rattle.rational.specs.Ratio.{Ratio, whole, product, IsSame, IsBelow, IsNumber, IsAtMost}
+use Rattle.rational.specs.Ratio.{Ratio, whole, sum, product, quotient, IsSame, IsBelow, IsNumber, IsAtMost}
 use Rattle.rational.specs.Width.{most}
-use Rattle.evidence.specs.Sums.{none, is_below, total}
+use Rattle.evidence.specs.Sums.{none, is_below, total, IsCeiling, IsMultiple}
 use Rattle.evidence.specs.Instance.{Range, free, Instance, width, height, variable_at, coefficient_at, column_at, cost_at, minimising}
 
 -- a factor of one column: of a variable, or of a row's activity
@@ -16,6 +16,7 @@ pub data Tree : Type 0 where
   Clash : ℕ → Tree
   Farkas : List Multiplier → Tree
   Bound : List Multiplier → Tree
+  Grid : Ratio → List Multiplier → Tree
   Split : ℕ → ℤ → Tree → Tree → Tree
   Zero : ℕ → Tree → Tree → Tree
 
@@ -67,6 +68,22 @@ pub record IsBound (I : Instance) (ms : List Multiplier) (z : Ratio) : Type 0 wh
   pub legal : AreLegal I ms
   pub costs : (j : ℕ) → j < width I → IsSame (form I ms j) (minimising I (cost_at I j))
   pub reaches : IsAtMost z (low_sum I (minimising I I.goal.constant) ms)
+
+-- the goal goes in steps of g: each cost of a whole variable is a whole multiple of it, and the others are 0
+pub record HasStep (I : Instance) (g : Ratio) : Type 0 where
+  pub number : IsNumber g
+  pub above : IsBelow none g
+  pub multiples : (j : ℕ) → j < width I → IsTrue (variable_at I j).whole → IsMultiple g (minimising I (cost_at I j))
+  pub others : (j : ℕ) → j < width I → (IsTrue (variable_at I j).whole → ⊥) → IsSame (minimising I (cost_at I j)) none
+
+-- no point's minimising objective is below z: it is the constant and a whole multiple of g, and the sum of its columns is at least z once it is rounded up to the next such number
+pub record IsGrid (I : Instance) (g : Ratio) (ms : List Multiplier) (z : Ratio) : Type 0 where
+  pub legal : AreLegal I ms
+  pub costs : (j : ℕ) → j < width I → IsSame (form I ms j) (minimising I (cost_at I j))
+  pub step : HasStep I g
+  pub steps : ℤ
+  pub rounded : IsCeiling (quotient (low_sum I none ms) g) steps
+  pub reaches : IsAtMost z (sum (minimising I I.goal.constant) (product (whole steps) g))
 
 -- the upper end is the lesser of itself and k
 abbrev pub lesser_end : Option Ratio → Ratio → Option Ratio
@@ -133,6 +150,8 @@ Shows I (Clash c) z = (c < width I + height I) × IsEmpty (column_at I c)
 Shows I (Farkas ms) z = IsFarkas I ms
 Shows I (Bound ms) None = ⊥
 Shows I (Bound ms) (Some z) = IsBound I ms z
+Shows I (Grid g ms) None = ⊥
+Shows I (Grid g ms) (Some z) = IsGrid I g ms z
 Shows I (Split j k a b) z = IsBranch I j k × Shows (at_most I j k) a z × Shows (at_least I j (k +ℤ pos 1)) b z
 Shows I (Zero j a b) z = IsZeroBranch I j × Shows (at_zero I j) a z × Shows (unless_zero I j) b z
 
@@ -141,6 +160,7 @@ pub data Node : Type 0 where
   ClashAt : ℕ → Node
   FarkasBy : List Multiplier → Node
   BoundBy : List Multiplier → Node
+  GridBy : Ratio → List Multiplier → Node
   SplitAt : ℕ → ℤ → Node
   ZeroAt : ℕ → Node
 
@@ -149,5 +169,6 @@ abbrev pub preorder : Tree → List Node
 preorder (Clash c) = ClashAt c ∷ []
 preorder (Farkas ms) = FarkasBy ms ∷ []
 preorder (Bound ms) = BoundBy ms ∷ []
+preorder (Grid g ms) = GridBy g ms ∷ []
 preorder (Split j k a b) = SplitAt j k ∷ (preorder a ++ preorder b)
 preorder (Zero j a b) = ZeroAt j ∷ (preorder a ++ preorder b)

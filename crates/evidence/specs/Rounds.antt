@@ -1,17 +1,13 @@
 -- Rounding cuts (Gomory, 1958; Chvátal, 1973): a sum of columns that is whole at each point is at least the next whole number. Each is one more row.
-use Rattle.std.specs.Prelude.{◌≡◌, ℕ, ◌<◌, ℤ, pos, negsuc, ◌+ℤ◌, ◌*ℤ◌, ◌<ℤ◌, ◌≤ℤ◌, IsTrue, Option, None, Some, List, [], ◌∷◌, length}
+use Rattle.std.specs.Prelude.{◌≡◌, ℕ, ◌<◌, ℤ, pos, IsTrue, Option, None, Some, List, [], ◌∷◌, length}
 use Rattle.rational.specs.Ratio.{Ratio, whole, IsSame}
 use Rattle.evidence.specs.Sums.{none}
+pub use Rattle.evidence.specs.Sums.{IsCeiling}
 use Rattle.evidence.specs.Instance.{Instance, width, variable_at}
 use Rattle.evidence.specs.OneDenominator.{number_at}
 use Rattle.evidence.specs.Cases.{Multiplier, Node, AreLegal, form, low_sum}
 use Rattle.evidence.specs.Width.{LeafFits, ProvesWithin}
 use Rattle.evidence.specs.AddedRows.{with_row}
-
--- the least whole number that isn't below x
-pub record IsCeiling (x : Ratio) (k : ℤ) : Type 0 where
-  pub low : ((k +ℤ negsuc 0) *ℤ pos x.den) <ℤ x.num
-  pub high : x.num ≤ℤ (k *ℤ pos x.den)
 
 -- whole coefficients cs, and a whole lower end k
 abbrev pub derive : Instance → List ℤ → ℤ → Instance

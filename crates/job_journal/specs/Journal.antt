@@ -1,7 +1,7 @@
 -- What a file of records stands for.
 use Rattle.std.specs.Prelude.{◌≡◌, ◌≢◌, ◌⊎◌, ℕ, ◌+◌, ◌^◌, ◌≤◌, nat_le, nat_lt, Bool, ◌||◌, List, [], ◌∷◌, ◌++◌, length, take}
 use Rattle.effects.specs.Records.{Deed, records, EndsBehindGate}
-use Rattle.disks.specs.Disks.{Only}
+use Rattle.disks.specs.Disks.{Only, Torn}
 
 -- the file stands for these: their records, and an end behind a gate that isn't 1; or for none, with at most one byte
 abbrev pub FileStandsFor : List Deed → List ℕ → Type 0
@@ -10,6 +10,10 @@ FileStandsFor deeds file = EndsBehindGate deeds file ⊎ ((deeds ≡ []) × (len
 -- the file stands for these, with one more or without it
 abbrev pub IsBeforeOrAfter : List Deed → Deed → List ℕ → Type 0
 IsBeforeOrAfter deeds d file = FileStandsFor deeds file ⊎ FileStandsFor (deeds ++ d ∷ []) file
+
+-- a crash in a write of n bytes, or behind it, leaves one of these: what one would have left before, with any bytes in the range
+abbrev pub MayTear : (at n : ℕ) → (List ℕ → Type 0) → List ℕ → Type 0
+MayTear at n before c = (f : List ℕ) × before f × Torn at n f c
 
 -- the file is records of these and a gate that isn't 1, at that place, and a crash leaves it so
 pub record FileRests {D : Type 0} (seen : D → List ℕ) (may_leave : D → List ℕ → Type 0) (disk : D) (end : ℕ) (deeds : List Deed) : Type 0 where

@@ -14,12 +14,11 @@ use Rattle.bases.specs.Program.{goal_column, columns}
 use Rattle.simplex_rules.specs.declared.columns.Status.{Status}
 use Rattle.simplex_rules.specs.declared.columns.Way.{Way}
 use Rattle.simplex_rules.specs.declared.columns.Way.TheVariants.{Rise, Fall}
-use Rattle.simplex_rules.specs.Statuses.{is_basic, basic_in, resting, has_width, HasDictionary, HasValues}
+use Rattle.simplex_rules.specs.Statuses.{is_basic, basic_in, resting, has_width, HasDictionary, HasValues, IsPlaced}
 use Rattle.simplex_rules.specs.Turns.{rate, NoneOut, IsFirstHelp, IsFirstLimit, reached_status, left_status, flipped, pivoted}
 use Rattle.simplex_rules.specs.Runs.{HasNoClash}
 use Rattle.simplex_rules.proofs.Core.{rate-number}
 use Rattle.simplex_rules.proofs.Facts.{at_most_none}
-use Rattle.simplex_rules.proofs.Soundness.{IsPlaced}
 use Rattle.no_cycles.proofs.SignArgument.{compared, leaving_basic}
 use Rattle.no_cycles.proofs.TurnValues.{IsMove, full, full-number, full_other, full_alike, known, flip_limit, flip_moves, swap_moves, pivoted_other, pivoted_entering, pivoted_leaving}
 use Rattle.no_cycles.proofs.Choices.{greatest, given_up}

@@ -18,13 +18,12 @@ use Rattle.simplex_rules.specs.declared.columns.Status.{Status}
 use Rattle.simplex_rules.specs.declared.columns.Status.TheVariants.{Basic, Lower, Upper, Zero}
 use Rattle.simplex_rules.specs.declared.columns.Way.{Way}
 use Rattle.simplex_rules.specs.declared.columns.Way.TheVariants.{Rise, Fall}
-use Rattle.simplex_rules.specs.Statuses.{status_at, is_basic, basic_in, resting, rest_at, HasDictionary, HasValues}
+use Rattle.simplex_rules.specs.Statuses.{status_at, is_basic, basic_in, resting, rest_at, HasDictionary, HasValues, HasPlace, IsPlaced}
 use Rattle.simplex_rules.specs.Turns.{rate, Can, Misses, NoneOut, IsFirstHelp, IsFirstLimit, IsFirstLeast, limit_at, until_by, across, left_status, flipped, pivoted}
 use Rattle.simplex_rules.specs.Reports.{step_of}
 use Rattle.simplex_rules.specs.Runs.{HasNoClash}
 use Rattle.simplex_rules.proofs.Core.{rate-number}
-use Rattle.simplex_rules.proofs.Facts.{HasPlace, has_number, or_is, if_some, at_least_none, rest_between, kept_between}
-use Rattle.simplex_rules.proofs.Soundness.{IsPlaced}
+use Rattle.simplex_rules.proofs.Facts.{has_number, or_is, if_some, at_least_none, rest_between, kept_between}
 use Rattle.no_cycles.proofs.Signs.{both_up, reach, at_end}
 use Rattle.no_cycles.proofs.SignArgument.{leaving_basic}
 use Rattle.no_cycles.proofs.Limits.{if_is, gap_up, gap_down}

@@ -13,10 +13,10 @@ use Rattle.simplex_rules.specs.declared.columns.Status.{Status}
 use Rattle.simplex_rules.specs.declared.columns.Status.TheVariants.{Basic, Lower, Upper, Zero}
 use Rattle.simplex_rules.specs.declared.columns.Way.{Way}
 use Rattle.simplex_rules.specs.declared.columns.Way.TheVariants.{Rise, Fall}
-use Rattle.simplex_rules.specs.Statuses.{rest_at, has_width, upper_status}
+use Rattle.simplex_rules.specs.Statuses.{rest_at, has_width, upper_status, HasPlace}
 use Rattle.simplex_rules.specs.Turns.{Can, until_by, across, reached_status, way_of}
 use Rattle.simplex_rules.specs.Reports.{step_of}
-use Rattle.simplex_rules.proofs.Facts.{HasPlace, or_is}
+use Rattle.simplex_rules.proofs.Facts.{or_is}
 use Rattle.no_cycles.proofs.Signs.{quotient_up, quotient_down, reach, no_room, below_yes}
 use Rattle.no_cycles.proofs.Ways.{until_is}
 

@@ -8,11 +8,10 @@ use Rattle.simplex_rules.specs.declared.columns.Status.{Status}
 use Rattle.simplex_rules.specs.declared.columns.Status.TheVariants.{Basic}
 use Rattle.simplex_rules.specs.declared.columns.Way.{Way}
 use Rattle.simplex_rules.specs.declared.columns.Way.TheVariants.{Rise, Fall}
-use Rattle.simplex_rules.specs.Statuses.{HasDictionary}
+use Rattle.simplex_rules.specs.Statuses.{HasDictionary, IsPlaced}
 use Rattle.simplex_rules.specs.Turns.{IsFirstHelp}
 use Rattle.simplex_rules.specs.Ends.{Terms, Clock}
 use Rattle.simplex_rules.specs.Runs.{Moment, To, PassesTurn, BeginsTurn, MovesColumn, Improves, IsNext, ComesInRun, goes_on, HasNoClash}
-use Rattle.simplex_rules.proofs.Soundness.{IsPlaced}
 use Rattle.simplex_rules.proofs.Moments.{comes_placed}
 use Rattle.no_cycles.specs.Phase.{IsImprovingTurn, AreTurns, HaveSamePlaces}
 use Rattle.no_cycles.proofs.Choices.{chosen}

@@ -18,13 +18,12 @@ use Rattle.simplex_rules.specs.declared.columns.Status.{Status}
 use Rattle.simplex_rules.specs.declared.columns.Status.TheVariants.{Basic}
 use Rattle.simplex_rules.specs.declared.columns.Way.{Way}
 use Rattle.simplex_rules.specs.declared.columns.Way.TheVariants.{Fall}
-use Rattle.simplex_rules.specs.Statuses.{status_at, is_basic, basic_in, resting, HasDictionary, HasValues}
+use Rattle.simplex_rules.specs.Statuses.{status_at, is_basic, basic_in, resting, HasDictionary, HasValues, IsPlaced}
 use Rattle.simplex_rules.specs.Turns.{rate, MovesIn, Can, IsFirstHelp, IsFirstLimit, limit_at, until_by}
 use Rattle.simplex_rules.specs.Reports.{movement, step_of}
 use Rattle.simplex_rules.specs.Runs.{HasNoClash}
 use Rattle.simplex_rules.proofs.Core.{value_≈, unit_step, unit_step-number, unit_value, rate-number}
 use Rattle.simplex_rules.proofs.Facts.{at_least_none, below_none, rest-number}
-use Rattle.simplex_rules.proofs.Soundness.{IsPlaced}
 use Rattle.no_cycles.proofs.Ways.{GoesOn, can_go, no_help, zero_limit, limit_up, limit_down, enters_and_leaves, zero_left, zero_right}
 
 -- numbers of the program

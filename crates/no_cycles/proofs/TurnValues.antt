@@ -15,13 +15,12 @@ use Rattle.simplex_rules.specs.declared.columns.Status.{Status}
 use Rattle.simplex_rules.specs.declared.columns.Status.TheVariants.{Basic}
 use Rattle.simplex_rules.specs.declared.columns.Way.{Way}
 use Rattle.simplex_rules.specs.declared.columns.Way.TheVariants.{Rise, Fall}
-use Rattle.simplex_rules.specs.Statuses.{status_at, is_basic, basic_in, resting, rest_at, HasDictionary, HasValues}
+use Rattle.simplex_rules.specs.Statuses.{status_at, is_basic, basic_in, resting, rest_at, HasDictionary, HasValues, IsPlaced}
 use Rattle.simplex_rules.specs.Turns.{rate, NoneOut, IsFirstHelp, IsFirstLimit, limit_at, across, reached_status, left_status, flipped, pivoted}
 use Rattle.simplex_rules.specs.Reports.{step_of}
 use Rattle.simplex_rules.specs.Runs.{HasNoClash}
 use Rattle.simplex_rules.proofs.Core.{rate-number}
 use Rattle.simplex_rules.proofs.Facts.{rest-number, kept_between, zero_times}
-use Rattle.simplex_rules.proofs.Soundness.{IsPlaced}
 use Rattle.no_cycles.proofs.Moves as Moves
 use Rattle.no_cycles.proofs.Moves.{pinned}
 use Rattle.no_cycles.proofs.SignArgument.{rows-number, goal_is_basic, before_goal, leaving_basic, leaving_limit}

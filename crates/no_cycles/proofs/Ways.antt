@@ -11,10 +11,10 @@ use Rattle.simplex_rules.specs.declared.columns.Status.{Status}
 use Rattle.simplex_rules.specs.declared.columns.Status.TheVariants.{Basic, Lower, Upper, Zero}
 use Rattle.simplex_rules.specs.declared.columns.Way.{Way}
 use Rattle.simplex_rules.specs.declared.columns.Way.TheVariants.{Rise, Fall}
-use Rattle.simplex_rules.specs.Statuses.{is_basic, rest_at, has_width}
+use Rattle.simplex_rules.specs.Statuses.{is_basic, rest_at, has_width, HasPlace}
 use Rattle.simplex_rules.specs.Turns.{rate, MovesIn, Can, until_by, until_end}
 use Rattle.simplex_rules.specs.Reports.{step_of}
-use Rattle.simplex_rules.proofs.Facts.{HasPlace, or_is}
+use Rattle.simplex_rules.proofs.Facts.{or_is}
 use Rattle.no_cycles.proofs.Signs.{both_up, both_down, difference_zero, zero_difference, quotient_zero, zero_quotient, at_end, room_apart, no_room}
 
 -- a column of this value that goes by this rate isn't at the end that it goes to

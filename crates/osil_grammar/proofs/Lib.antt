@@ -5,7 +5,6 @@ pub mod Zeros
 pub mod Starts
 pub mod Parts
 pub mod CostCounts
-pub mod NonemptyTexts
 pub mod WholeInstance
 pub mod PrintableTexts
 pub mod XmlNodes

@@ -1,45 +1,43 @@
--- The parts of an instance, each told in its steps.
-use Rattle.osil_grammar.proofs.Words.{◌≡◌, ◌∙◌, ℕ, pos, List, [], ◌∷◌, ◌++◌, ap, refl, inr, codes, decimal, Attribute, Nodes, none, element, chars, nodes_events, Building, said, ratio, Frac, PlainText, Row, Goal, counted_element, with_attribute, WriteRows, WriteCosts, CountsCosts, WriteGoals, holding_text, sense_text, ToldAttributes, opening, closing, EndAttributes, content_told, told_around}
-use Rattle.document_tags.specs.Telling.{Told}
+-- The parts of an instance, each written in its steps.
+use Rattle.osil_grammar.proofs.Words.{◌≡◌, ℕ, pos, List, [], ◌∷◌, subst, refl, inr, codes, decimal, Attribute, Nodes, none, element, chars, Chars, Close, nodes_events, ratio, Frac, PlainText, Row, Goal, with_attribute, WriteRows, WriteCosts, CountsCosts, WriteGoals, holding_text, sense_text, opening, EndAttributes, Wrote}
+use Rattle.tree_writing.specs.Awaiting.{WritesEvent, BeginsTag, AddsAttributes}
+use Rattle.tree_writing.specs.declared.text_writer.TextWriter.{TextWriter}
+use Rattle.osil_grammar.proofs.Tellings.{begun_with, adds_one, wrote_around}
 
--- an attribute was told
-abbrev pub told_attribute : Building → (name value : List ℕ) → Building
-told_attribute b name value = record { events = said b; attributes = b.attributes ++ record { name = name; value = value } ∷ []; text = [] }
+-- an attribute was written
+abbrev pub AddsOne : (a b : TextWriter) (name value : List ℕ) → Type 0
+AddsOne a b name value = AddsAttributes a b (with_attribute name value [])
 
--- these nodes were told, of which this holds
-abbrev pub ToldSome : (Nodes → Type 0) → Building → Building → Type 0
-ToldSome Q old new = (nodes : Nodes) × Q nodes × Told old new (nodes_events nodes)
+-- these nodes were written, of which this holds
+abbrev pub ToldSome : (Nodes → Type 0) → TextWriter → TextWriter → Type 0
+ToldSome Q old new = (nodes : Nodes) × Q nodes × Wrote old new (nodes_events nodes)
+
+-- an element without content, by its attributes
+pub empty_wrote : (a b c d : TextWriter) (name : List ℕ) (attributes : List Attribute) → BeginsTag a b name → AddsAttributes b c attributes → WritesEvent c d (Close name) → Wrote a d (nodes_events (element name attributes none none))
+empty_wrote a b c d name attributes begins adds ends = wrote_around a c c d name attributes none (begun_with a b c name attributes begins adds) (λ behind text awaits. awaits) ends
 
 -- a row, by its ends
-pub row_told : (r : Row) (a b c : Building) (more : List Attribute) → a.attributes ≡ [] → EndAttributes r.lb r.ub more → ToldAttributes a b more → Told b c (nodes_events (element (codes "con") b.attributes none none)) → ToldSome (WriteRows (r ∷ [])) a c
-row_told r a b c more waits ends attributes tells =
+pub row_told : (r : Row) (a b c d : TextWriter) (more : List Attribute) → BeginsTag a b (codes "con") → EndAttributes r.lb r.ub more → AddsAttributes b c more → WritesEvent c d (Close (codes "con")) → ToldSome (WriteRows (r ∷ [])) a d
+row_told r a b c d more begins ends adds closes =
     let all : List Attribute = with_attribute (codes "lb") ends.0 (with_attribute (codes "ub") ends.1 []) in
-    let held : b.attributes ≡ all = attributes.waiting ∙ ap (λ (l : List Attribute). l ++ more) waits ∙ ends.4 in
-    (element (codes "con") all none none, (ends.0, ends.1, none, ends.2, ends.3, refl, refl), content_told a b c (codes "con") b.attributes all none attributes.told held tells)
+    (element (codes "con") all none none, (ends.0, ends.1, none, ends.2, ends.3, refl, refl), empty_wrote a b c d (codes "con") all begins (subst (AddsAttributes b c) ends.4 adds) closes)
 
 -- a cost that isn't 0, by its index and its text
-pub cost_told : (j : ℕ) (x : Frac) (a b c : Building) (key text : List ℕ) → a.attributes ≡ [] → key ≡ decimal j → (x.numer ≡ pos 0 → ⊥) → PlainText text (ratio x) → b ≡ told_attribute a (codes "idx") key → Told b c (nodes_events (holding_text (codes "coef") b.attributes text none)) → ToldSome (WriteCosts j (x ∷ [])) a c
-cost_told j x a b c key text waits is some plain indexed tells =
+pub cost_told : (j : ℕ) (x : Frac) (a b c d e : TextWriter) (key text : List ℕ) → key ≡ decimal j → (x.numer ≡ pos 0 → ⊥) → PlainText text (ratio x) → BeginsTag a b (codes "coef") → AddsOne b c (codes "idx") key → WritesEvent c d (Chars text) → WritesEvent d e (Close (codes "coef")) → ToldSome (WriteCosts j (x ∷ [])) a e
+cost_told j x a b c d e key text is some plain begins index holds closes =
     let all : List Attribute = with_attribute (codes "idx") (decimal j) [] in
-    let held : b.attributes ≡ all = ap (λ (y : Building). y.attributes) indexed ∙ ap (λ (l : List Attribute). l ++ with_attribute (codes "idx") key []) waits ∙ ap (λ (k : List ℕ). with_attribute (codes "idx") k []) is in
-    (holding_text (codes "coef") all text none, inr (some, text, none, plain, refl, refl), content_told a b c (codes "coef") b.attributes all (chars text none) (ap said indexed) held tells)
+    let tag : Wrote a c (opening (codes "coef") all) = begun_with a b c (codes "coef") all begins (subst (AddsOne b c (codes "idx")) is index) in
+    (holding_text (codes "coef") all text none, inr (some, text, none, plain, refl, refl), wrote_around a c d e (codes "coef") all (chars text none) tag holds closes)
 
--- an element with a count of what stands in it
-pub counted_told : (a b c d : Building) (name key : List ℕ) (n : ℕ) (inner : Nodes) → a.attributes ≡ [] → Told a b (opening name (a.attributes ++ with_attribute key (decimal n) [])) → Told b c (nodes_events inner) → Told c d (closing name) → Told a d (nodes_events (counted_element name key n inner none))
-counted_told a b c d name key n inner waits begins inside ends =
-    content_told a a d name (a.attributes ++ with_attribute key (decimal n) []) (with_attribute key (decimal n) []) inner refl (ap (λ (l : List Attribute). l ++ with_attribute key (decimal n) []) waits) (told_around a b c d name (a.attributes ++ with_attribute key (decimal n) []) inner begins inside ends)
-
--- an objective, by its sense, its constant and its costs
-pub objective_told : (g : Goal) (a b c d e f : Building) (sense constant : List ℕ) (n : ℕ) (costs : Nodes) → a.attributes ≡ [] → sense ≡ sense_text g.sense → PlainText constant (ratio g.constant) → CountsCosts g.costs n → b ≡ told_attribute a (codes "maxOrMin") sense → c ≡ told_attribute b (codes "constant") constant → Told c d (opening (codes "obj") (c.attributes ++ with_attribute (codes "numberOfObjCoef") (decimal n) [])) → WriteCosts 0 g.costs costs → Told d e (nodes_events costs) → Told e f (closing (codes "obj")) → ToldSome (WriteGoals (g ∷ [])) a f
-objective_told g a b c d e f sense constant n costs waits is plain counts first second begins writes inside ends =
+-- an objective, by its sense, its constant, its count and its costs
+pub objective_told : (g : Goal) (a b c d e f h : TextWriter) (sense constant key : List ℕ) (n : ℕ) (costs : Nodes) → sense ≡ sense_text g.sense → PlainText constant (ratio g.constant) → key ≡ decimal n → CountsCosts g.costs n → BeginsTag a b (codes "obj") → AddsOne b c (codes "maxOrMin") sense → AddsOne c d (codes "constant") constant → AddsOne d e (codes "numberOfObjCoef") key → WriteCosts 0 g.costs costs → Wrote e f (nodes_events costs) → WritesEvent f h (Close (codes "obj")) → ToldSome (WriteGoals (g ∷ [])) a h
+objective_told g a b c d e f h sense constant key n costs is plain count counts begins first second third writes inside closes =
     let last : List Attribute = with_attribute (codes "numberOfObjCoef") (decimal n) [] in
-    let all : List Attribute = with_attribute (codes "maxOrMin") (sense_text g.sense) (with_attribute (codes "constant") constant last) in
-    let held : c.attributes ++ last ≡ all =
-    ap (λ (x : Building). x.attributes ++ last) second ∙ ap (λ (x : Building). (x.attributes ++ with_attribute (codes "constant") constant []) ++ last) first
-    ∙ ap (λ (l : List Attribute). ((l ++ with_attribute (codes "maxOrMin") sense []) ++ with_attribute (codes "constant") constant []) ++ last) waits
-    ∙ ap (λ (k : List ℕ). with_attribute (codes "maxOrMin") k (with_attribute (codes "constant") constant last)) is in
-    let same : said c ≡ said a = ap said second ∙ ap said first in (
+    let two : List Attribute = with_attribute (codes "constant") constant last in
+    let all : List Attribute = with_attribute (codes "maxOrMin") (sense_text g.sense) two in
+    let adds_two : AddsAttributes c e two = adds_one c d e (record { name = codes "constant"; value = constant }) last second (subst (AddsOne d e (codes "numberOfObjCoef")) count third) in
+    let adds : AddsAttributes b e all = adds_one b c e (record { name = codes "maxOrMin"; value = sense_text g.sense }) two (subst (AddsOne b c (codes "maxOrMin")) is first) adds_two in (
       element (codes "obj") all costs none,
       (none, refl, record { constant = constant; is_constant = plain; count = n; counts = counts; costs = costs; are_costs = writes; says = refl }),
-      content_told a c f (codes "obj") (c.attributes ++ last) all costs same held (told_around c d e f (codes "obj") (c.attributes ++ last) costs begins inside ends),
+      wrote_around a e f h (codes "obj") all costs (begun_with a b e (codes "obj") all begins adds) inside closes,
     )

@@ -1,6 +1,7 @@
 -- How many entries stand before a row, found by halving.
-use Rattle.osil_grammar.proofs.Words.{◌≡◌, ℕ, suc, ◌+◌, ◌≤◌, true, false, nat_lt, List, [], ◌∷◌, ◌++◌, length, take, drop, arith, refl, sym, ◌∙◌, ap, All, IsPartitionPoint, length-take-le, take-append-drop, All-head, All-tail, Entry, Event, nodes_events, Building, said, counts_nodes, entries_below, row_starts}
-use Rattle.document_tags.specs.Telling.{Told}
+use Rattle.osil_grammar.proofs.Words.{◌≡◌, ℕ, suc, ◌+◌, ◌≤◌, true, false, nat_lt, List, [], ◌∷◌, ◌++◌, length, take, drop, arith, refl, sym, ◌∙◌, ap, subst, All, IsPartitionPoint, length-take-le, take-append-drop, All-head, All-tail, Entry, Event, nodes_events, counts_nodes, entries_below, row_starts, Wrote}
+use Rattle.tree_writing.specs.Awaiting.{Awaits}
+use Rattle.tree_writing.specs.declared.text_writer.TextWriter.{TextWriter}
 use Rattle.instance.proofs.Partition.{within_take, within_drop}
 
 -- the entries of the rows before it all count
@@ -27,8 +28,15 @@ below_point es i at inside point =
     let long : length (take at es) ≡ at = length-take-le at es inside in
     omega (arith, split, low, high, long)
 
--- one row less is still to be told
-pub start_told : (es : List Entry) (a b : Building) (row left next here : ℕ) (all behind : List Event) → left ≡ suc next → here ≡ entries_below row es → Told a b (nodes_events (counts_nodes (here ∷ []))) → said a ++ nodes_events (counts_nodes (row_starts es row left)) behind ≡ all → said b ++ nodes_events (counts_nodes (row_starts es (row + 1) next)) behind ≡ all
-start_told es a b row left next here all behind count is tells before =
+-- one row less is still to be written
+pub start_told : (es : List Entry) (a b : TextWriter) (row left next here : ℕ) (behind : List Event) (text : List ℕ) → left ≡ suc next → here ≡ entries_below row es → Wrote a b (nodes_events (counts_nodes (here ∷ []))) → Awaits a (nodes_events (counts_nodes (row_starts es row left)) behind) text → Awaits b (nodes_events (counts_nodes (row_starts es (row + 1) next)) behind) text
+start_told es a b row left next here behind text count is tells before =
     let rest : List Event = nodes_events (counts_nodes (row_starts es (row + 1) next)) behind in
-    tells.told rest ∙ ap (λ (n : ℕ). said a ++ nodes_events (counts_nodes (n ∷ [])) rest) is ∙ ap (λ (n : ℕ). said a ++ nodes_events (counts_nodes (row_starts es row n)) behind) (sym count) ∙ before
+    let first : Awaits a (nodes_events (counts_nodes (entries_below row es ∷ [])) rest) text = subst (λ (n : ℕ). Awaits a (nodes_events (counts_nodes (row_starts es row n)) behind) text) count before in
+    tells rest text (subst (λ (n : ℕ). Awaits a (nodes_events (counts_nodes (n ∷ [])) rest) text) (sym is) first)
+
+-- none is left but the last one's end
+pub last_start : (es : List Entry) (a b : TextWriter) (rows row left here : ℕ) (behind : List Event) (text : List ℕ) → rows ≡ row → left ≡ 0 → here ≡ entries_below rows es → Wrote a b (nodes_events (counts_nodes (here ∷ []))) → Awaits a (nodes_events (counts_nodes (row_starts es row left)) behind) text → Awaits b behind text
+last_start es a b rows row left here behind text over none is tells before =
+    let first : Awaits a (nodes_events (counts_nodes (entries_below row es ∷ [])) behind) text = subst (λ (n : ℕ). Awaits a (nodes_events (counts_nodes (row_starts es row n)) behind) text) none before in
+    tells behind text (subst (λ (n : ℕ). Awaits a (nodes_events (counts_nodes (n ∷ [])) behind) text) (sym (is ∙ ap (λ (n : ℕ). entries_below n es) over)) first)

@@ -1,13 +1,15 @@
--- A `var`: what it says is one variable; a variable is told with its attributes, which are XML and are read back.
-use Rattle.osil_grammar.proofs.Words.{◌≡◌, ◌∙◌, ◌+◌, ◌≤◌, ℕ, inl, inr, Bool, cond, true, false, List, [], ◌∷◌, ◌++◌, length, refl, ap, sym, subst, arith, lit<, Option, Some, bytes_eq, codes, IsXmlText, Attribute, Nodes, none, element, nodes_events, Building, said, Start, IsNumber, AllPass, ratio, End, NegInf, At, Inf, SaysEnd, only_inf, only_neg_inf, Var, AreEnds, IsVar, AreTooMany, Domain, Continuous, Integer, Binary, SemiContinuous, SemiInteger, raised, lowered, nought, letters, IsLetterOf, IsOfDomain, SaysTimes, SaysLow, SaysHigh, SaysVar, EndHasText, WritesVar, type_text, var_attributes, State, begins, tests, Fails, WriteVars, ToldAttributes, EndAttributes, content_told, with_attribute}
+-- A `var`: what it says is one variable; a variable is written with its attributes, which are XML and are read back.
+use Rattle.osil_grammar.proofs.Words.{◌≡◌, ◌∙◌, ◌+◌, ◌≤◌, ℕ, inl, inr, Bool, cond, true, false, List, [], ◌∷◌, length, refl, ap, sym, subst, arith, lit<, Option, Some, bytes_eq, codes, IsXmlText, Attribute, Nodes, none, element, Close, Start, IsNumber, AllPass, ratio, End, NegInf, At, Inf, SaysEnd, only_inf, only_neg_inf, Var, AreEnds, IsVar, AreTooMany, Domain, Continuous, Integer, Binary, SemiContinuous, SemiInteger, raised, lowered, nought, letters, IsLetterOf, IsOfDomain, SaysTimes, SaysLow, SaysHigh, SaysVar, EndHasText, WritesVar, type_text, var_attributes, State, begins, tests, Fails, WriteVars, EndAttributes, with_attribute}
 use Rattle.evidence.specs.Sums as evidence
-use Rattle.document_tags.specs.Telling.{Told}
+use Rattle.tree_writing.specs.Awaiting.{WritesEvent, BeginsTag, AddsAttributes}
+use Rattle.tree_writing.specs.declared.text_writer.TextWriter.{TextWriter}
 use Rattle.document_tags.proofs.XmlNodes.{IsTag, tag_by}
 use Rattle.document_tags.proofs.PrintableTexts.{printable_text, fixed_text}
 use Rattle.osil_grammar.specs.declared.elements.Place.TheVariants as places
 use Rattle.osil_grammar.specs.declared.elements.Led.TheVariants as led
 use Rattle.osil_grammar.proofs.Places.{number_either}
-use Rattle.osil_grammar.proofs.Parts.{told_attribute, ToldSome}
+use Rattle.osil_grammar.proofs.Tellings.{adds_one}
+use Rattle.osil_grammar.proofs.Parts.{AddsOne, ToldSome, empty_wrote}
 use Rattle.osil_grammar.proofs.TagNumbers.{bound_read, bound_once, end_at_once}
 use Rattle.osil_grammar.proofs.StartTagTests.{said_once, domain_known, said_ends, not_end}
 use Rattle.osil_grammar.proofs.PrintableTexts.{end_shown}
@@ -79,15 +81,12 @@ var_fits s name as' v pass says =
     let both = said_ends as' (λ x. x ≡ At nought) (λ x. x ≡ Inf) (λ e. absurd (cc)) (λ e. absurd (cc)) says.lb says.ub says.low says.high others.0 others.1.0 in
     (domain_ends says.domain says.lb says.ub v says.is both, others.1.1.0)
 
--- TOLD by its type and its ends
-pub var_told : (v : Var) (a b c d : Building) (kind : List ℕ) (more : List Attribute) → a.attributes ≡ [] → kind ≡ type_text v.whole v.zero → b ≡ told_attribute a (codes "type") kind → EndAttributes v.lb v.ub more → ToldAttributes b c more → Told c d (nodes_events (element (codes "var") c.attributes none none)) → ToldSome (WriteVars (v ∷ [])) a d
-var_told v a b c d kind more waits is typed ends attributes tells =
-    let all : List Attribute = var_attributes v ends.0 ends.1 in
-    let same : said c ≡ said a = attributes.told ∙ ap said typed in
-    let held : c.attributes ≡ all =
-    attributes.waiting ∙ ap (λ (x : Building). x.attributes ++ more) typed ∙ ap (λ (l : List Attribute). (l ++ record { name = codes "type"; value = kind } ∷ []) ++ more) waits
-    ∙ ap (λ (k : List ℕ). with_attribute (codes "type") k more) is ∙ ap (λ (l : List Attribute). with_attribute (codes "type") (type_text v.whole v.zero) l) ends.4 in
-    (element (codes "var") all none none, (none, refl, record { lb = ends.0; ub = ends.1; is_lb = ends.2; is_ub = ends.3; says = refl }), content_told a c d (codes "var") c.attributes all none same held tells)
+-- WRITTEN by its type and its ends
+pub var_told : (v : Var) (a b c d e : TextWriter) (kind : List ℕ) (more : List Attribute) → kind ≡ type_text v.whole v.zero → BeginsTag a b (codes "var") → AddsOne b c (codes "type") kind → EndAttributes v.lb v.ub more → AddsAttributes c d more → WritesEvent d e (Close (codes "var")) → ToldSome (WriteVars (v ∷ [])) a e
+var_told v a b c d e kind more is starts type ends adds closes =
+    let first : AddsOne b c (codes "type") (type_text v.whole v.zero) = subst (AddsOne b c (codes "type")) is type in
+    let all : AddsAttributes b d (var_attributes v ends.0 ends.1) = adds_one b c d (record { name = codes "type"; value = type_text v.whole v.zero }) (with_attribute (codes "lb") ends.0 (with_attribute (codes "ub") ends.1 [])) first (subst (AddsAttributes c d) ends.4 adds) in
+    (element (codes "var") (var_attributes v ends.0 ends.1) none none, (none, refl, record { lb = ends.0; ub = ends.1; is_lb = ends.2; is_ub = ends.3; says = refl }), empty_wrote a b d e (codes "var") (var_attributes v ends.0 ends.1) starts all closes)
 
 -- ITS ATTRIBUTES ARE XML
 type_xml : (whole semi : Bool) → IsXmlText (type_text whole semi)

@@ -18,12 +18,10 @@ pub use Rattle.decimal_text.specs.Plain.{PlainText, point_text}
 pub use Rattle.decimal_text.specs.Sign.{minus, optional, sign_text}
 pub use Rattle.decimal_text.specs.Whole.{IsWholeText}
 pub use Rattle.doc_tree.specs.Marks.{Char, Finish, Mark, Start, spread}
-pub use Rattle.document_tags.proofs.Tellings.{content_told, ok_told_as, some_text, told_around, told_then}
 pub use Rattle.document_tags.specs.Elements.{value_of}
-pub use Rattle.document_tags.specs.Telling.{ToldAttributes, closing, marked, opening}
+pub use Rattle.document_tags.specs.Telling.{opening}
 pub use Rattle.document_tags.specs.Texts.{IsDocument, document_limit}
 pub use Rattle.document_tags.specs.Writing.{counted_element, with_attribute}
-pub use Rattle.element_tree.specs.Building.{Building, said}
 pub use Rattle.tree_writing.specs.WritableElements.{IsWritable, NodesWritable, local_element, local_nodes}
 pub use Rattle.evidence.proofs.Fits.{sums_same, whole-reduced}
 pub use Rattle.evidence.proofs.Numbers.{none-sum, sum-none, sum-number}
@@ -57,7 +55,7 @@ pub use Rattle.osil_grammar.specs.Standing.{State, start}
 pub use Rattle.osil_grammar.specs.Stepping.{BeginsAt, EndAnswers, EndsAt, IsNear, IsStepRun, IsTooFar, StepsAt, Stop, told_of, unread_refusal}
 pub use Rattle.osil_grammar.specs.Storing.{AreJoined, AreStored, AreSumsAt, line_entries, lists_of, matrix_lists, wholes}
 pub use Rattle.osil_grammar.specs.Table.{Kind, Test, ToldRefusal, around, attributes, bad, bad_text, begins, content, count_name, end_ordinal, ends, fields, great_cost, great_end, great_run, great_text, has, high_infinite, kind, leads, list_row, low_infinite, mark_name, no_index, no_sense, no_type, no_variable, numbers, other_count, otherwise, out_of_range, part_row, refusal, tests, text, too_great, too_many}
-pub use Rattle.osil_grammar.specs.Telling.{EndAttributes, EndsHaveTexts, LacksDecimal}
+pub use Rattle.osil_grammar.specs.Telling.{EndAttributes, EndsHaveTexts, LacksDecimal, Wrote, WroteRoot}
 pub use Rattle.osil_grammar.specs.VarTags.{IsVar, SaysVar, WritesVar, type_text, var_attributes, var_fields}
 pub use Rattle.osil_grammar.specs.Writing.{CountsCosts, EndHasText, GoalHasDecimals, HasDecimal, HasDecimals, IsWrittenText, WriteCosts, WriteGoals, WriteLists, WriteRows, WriteValues, WriteVars, WritesGoal, WritesInstance, counts_nodes, entries_below, holding_text, row_starts, sense_text}
 pub use Rattle.osil_grammar.specs.declared.domains.Domain.{Domain}
@@ -78,4 +76,4 @@ pub use Rattle.tag_tests.specs.Forms.{AreRefused, AreTaken, LeavesOne, TakesMark
 pub use Rattle.tag_tests.specs.Tests.{AllPass, FirstFails, InOrder}
 pub use Rattle.tag_tests.specs.declared.numbers.Unread.{Unread}
 pub use Rattle.tree_grammar.specs.Characters.{Each, IsXmlText}
-pub use Rattle.tree_grammar.specs.Elements.{Attribute, Close, Element, Event, IsTextWithin, Nodes, Open, chars, element, events, nodes_depth, nodes_events, none}
+pub use Rattle.tree_grammar.specs.Elements.{Attribute, Chars, Close, Element, Event, IsTextWithin, Nodes, Open, chars, element, events, nodes_depth, nodes_events, none}

@@ -1,5 +1,6 @@
 -- What the reader promises: bytes stand for an instance, or are refused.
-use Rattle.std.specs.Prelude.{◌≡◌, ℕ, List, codes}
+use Rattle.std.specs.Prelude.{◌≡◌, ℕ, List, ◌++◌, codes}
+use Rattle.doc_tree.specs.Words.{tree_words}
 use Rattle.tree_grammar.specs.Elements.{Element}
 use Rattle.document_tags.specs.Texts as tree
 use Rattle.document_tags.specs.Texts.{document_limit}
@@ -13,7 +14,7 @@ use Rattle.osil_grammar.specs.declared.fault.OsilFault.{OsilFault}
 use Rattle.osil_grammar.specs.declared.fault.OsilFault.TheVariants.{Tree, Refused, Memory}
 use Rattle.osil_grammar.specs.Refusals as refusals
 use Rattle.osil_grammar.specs.Marked.{StandsFor, IsRefused}
-use Rattle.osil_grammar.specs.Texts.{refusal_text}
+use Rattle.osil_grammar.specs.Texts.{refusal_name, refusal_text, shown_subject}
 
 -- the bytes are a document within the limits, and hold this element
 abbrev pub IsDocument : List ℕ → Element → Type 0
@@ -63,6 +64,12 @@ AreAlike f g = ⊥
 -- what is wrong with bytes that are no document
 abbrev pub IsTreeText : TreeFault → List ℕ → Type 0
 IsTreeText f text = spoken.IsTreeText (codes "osil") f text
+
+-- what a fault displays
+abbrev pub fault_words : OsilFault → List ℕ
+fault_words (Tree f) = codes "osil " ++ tree_words f
+fault_words (Refused r at) = spoken.refusal_at (codes "osil") (refusal_name (told_refusal r)) at ++ shown_subject (told_refusal r)
+fault_words Memory = codes "there was no memory"
 
 -- the text of a fault; want of memory has none
 abbrev pub IsFaultText : OsilFault → List ℕ → Type 0

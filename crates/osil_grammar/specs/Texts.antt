@@ -1,5 +1,6 @@
 -- The texts of refusals, as a reply tells them.
-use Rattle.std.specs.Prelude.{ℕ, List, [], ◌∷◌, ◌++◌, codes}
+use Rattle.std.specs.Prelude.{ℕ, List, [], ◌∷◌, ◌++◌, codes, encode_utf8_all}
+use Rattle.bstr.specs.Utf8.{lossy_chars}
 use Rattle.document_tags.specs.Faults.{refusal_at}
 use Rattle.osil_grammar.specs.Refusals.{Refusal, Root, Missing, Beyond, Attribute, Number, Wide, Count, Index, Start, VarType, Bound, ManyObjectives, TooBig}
 
@@ -8,6 +9,12 @@ abbrev pub subject : Refusal → List ℕ
 subject (Beyond name) = 32 ∷ name
 subject (Attribute name) = 32 ∷ name
 subject r = []
+
+-- that name as characters, with U+FFFD for bytes that are none
+abbrev pub shown_subject : Refusal → List ℕ
+shown_subject (Beyond name) = 32 ∷ encode_utf8_all (lossy_chars name)
+shown_subject (Attribute name) = 32 ∷ encode_utf8_all (lossy_chars name)
+shown_subject r = []
 
 abbrev pub refusal_name : Refusal → List ℕ
 refusal_name Root = codes "Root"

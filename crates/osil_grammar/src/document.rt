@@ -1,36 +1,34 @@
 //! Writes instances.
 
-ghost use Rattle.std.specs.Prelude.{◌≡◌, ◌≢◌, ◌≤◌, List, [], ◌∷◌, ◌++◌, IfOk, IfErr, OnOk, MatchResult, codes, decimal as digits, length, map, pos};
+ghost use Rattle.std.specs.Prelude.{◌≡◌, ◌≤◌, List, [], ◌∷◌, IfOk, IfErr, OnOk, MatchResult, codes, decimal as digits, length, map, pos};
 ghost use Rattle.std.specs.List.{All};
-ghost use Rattle.tree_grammar.specs.Elements.{Attribute, Nodes, Element, none, events, nodes_events};
+ghost use Rattle.tree_grammar.specs.Elements.{Attribute, Nodes, Element, none, nodes_events};
 ghost use Rattle.tree_grammar.specs.Elements as tree;
 ghost use Rattle.document_tags.specs.Texts.{document_limit};
 ghost use Rattle.fraction.specs.Frac.{ratio};
 ghost use Rattle.decimal_text.specs.Plain.{PlainText};
 ghost use Rattle.instance.specs.Parts.{IsAscending};
-ghost use Rattle.element_tree.specs.Building.{said};
 ghost use Rattle.document_tags.specs.Writing.{counted_element, with_attribute};
 ghost use Rattle.osil_grammar.specs.Writing.{HasDecimal, EndHasText, WriteVars, WriteRows, WriteCosts, CountsCosts, WriteGoals, GoalHasDecimals, WriteValues, WriteLists, WritesInstance, HasDecimals, IsWrittenText, counts_nodes, entries_below, row_starts, sense_text};
 ghost use Rattle.osil_grammar.specs.Saying.{IsEndText};
 ghost use Rattle.osil_grammar.specs.VarTags.{type_text};
-ghost use Rattle.document_tags.specs.Telling.{Told, ToldAttributes, opening};
-ghost use Rattle.osil_grammar.specs.Telling.{LacksDecimal, WritesNodes, EndsHaveTexts, EndAttributes, EncodeFails};
+ghost use Rattle.document_tags.specs.Telling.{opening};
+ghost use Rattle.tree_writing.specs.Awaiting.{AddsAttributes};
+ghost use Rattle.osil_grammar.specs.Telling.{LacksDecimal, Wrote, WroteRoot, WritesNodes, EndsHaveTexts, EndAttributes, EncodeFails};
 
 use crate::fault::EncodeFault;
 use crate::telling::leaf;
 use decimal_text::{DecimalFault, write_decimal};
-use document_tags::{close, empty_after, open, open_after};
-use element_tree::{Tree, TreeBuilder};
 use fraction::{End, Entry, Frac};
 use instance::{Goal, Instance, Row, Sense, Var};
 use itoa::Buffer;
-use os_io::{MOST_BYTES, Memory, Text};
+use os_io::{Memory, Text};
 use std::alloc::Global;
-use tree_writing::write;
+use tree_writing::TextWriter;
 
 /// A number's text.
 fn decimal(alloc: Global, value: Frac) -> Result<Text, EncodeFault>
-    ensures { MatchResult result (λ t. HasDecimal value × PlainText t (ratio value) × (t ≢ [])) (LacksDecimal (HasDecimal value)) }
+    ensures { MatchResult result (λ t. HasDecimal value × PlainText t (ratio value)) (LacksDecimal (HasDecimal value)) }
 {
     let mut text = Text::new(alloc);
     match write_decimal(value, &mut text) {
@@ -51,14 +49,14 @@ fn end_text(alloc: Global, end: End) -> Result<Text, EncodeFault>
     }
 }
 
-/// Tells two ends as attributes of the element that begins next.
-fn tell_ends(alloc: Global, b: &mut TreeBuilder, lb: End, ub: End) -> Result<(), EncodeFault>
-    ensures { MatchResult result (λ _. EndsHaveTexts lb ub × (more : List Attribute) × EndAttributes lb ub more × ToldAttributes b.old b.new more) (LacksDecimal (EndsHaveTexts lb ub)) }
+/// Tells two ends as attributes of the element that was begun last.
+fn tell_ends(alloc: Global, w: &mut TextWriter, lb: End, ub: End) -> Result<(), EncodeFault>
+    ensures { MatchResult result (λ _. EndsHaveTexts lb ub × (more : List Attribute) × EndAttributes lb ub more × AddsAttributes w.old w.new more) (LacksDecimal (EndsHaveTexts lb ub)) }
 {
     let low = end_text(alloc, lb)?;
     let high = end_text(alloc, ub)?;
-    b.attribute(b"lb", low.as_slice())?;
-    b.attribute(b"ub", high.as_slice())?;
+    w.attribute(b"lb", low.as_slice())?;
+    w.attribute(b"ub", high.as_slice())?;
     Ok(())
 }
 
@@ -75,56 +73,55 @@ fn type_of(whole: bool, semi: bool) -> &'static [u8]
 }
 
 /// Tells a variable.
-fn tell_var(alloc: Global, b: &mut TreeBuilder, var: Var) -> Result<(), EncodeFault>
-    requires { b.old.attributes ≡ [] }
-    ensures { WritesNodes result b.old b.new (EndsHaveTexts var.lb var.ub) (WriteVars (var ∷ [])) }
+fn tell_var(alloc: Global, w: &mut TextWriter, var: Var) -> Result<(), EncodeFault>
+    ensures { WritesNodes result w.old w.new (EndsHaveTexts var.lb var.ub) (WriteVars (var ∷ [])) }
 {
-    b.attribute(b"type", type_of(var.whole, var.zero))?;
-    tell_ends(alloc, b, var.lb, var.ub)?;
-    empty_after(b, b"var")?;
+    w.begin(b"var")?;
+    w.attribute(b"type", type_of(var.whole, var.zero))?;
+    tell_ends(alloc, w, var.lb, var.ub)?;
+    w.end(b"var")?;
     Ok(())
 }
 
 /// Tells the variables.
-fn tell_vars(alloc: Global, b: &mut TreeBuilder, vars: &[Var]) -> Result<(), EncodeFault>
-    requires { b.old.attributes ≡ [] }
-    ensures { WritesNodes result b.old b.new (All (λ v. EndsHaveTexts v.lb v.ub) vars.now) (λ nodes. (inner : Nodes) × WriteVars vars.now inner × (nodes ≡ counted_element (codes "variables") (codes "numberOfVariables") (length vars.now) inner none)) }
+fn tell_vars(alloc: Global, w: &mut TextWriter, vars: &[Var]) -> Result<(), EncodeFault>
+    ensures { WritesNodes result w.old w.new (All (λ v. EndsHaveTexts v.lb v.ub) vars.now) (λ nodes. (inner : Nodes) × WriteVars vars.now inner × (nodes ≡ counted_element (codes "variables") (codes "numberOfVariables") (length vars.now) inner none)) }
 {
-    open_counted(b, b"variables", b"numberOfVariables", vars.len())?;
+    open_counted(w, b"variables", b"numberOfVariables", vars.len())?;
     for var in vars {
-        tell_var(alloc, b, *var)?;
+        tell_var(alloc, w, *var)?;
     }
-    close(b, b"variables")?;
+    w.end(b"variables")?;
     Ok(())
 }
 
 /// Begins an element with a count of what stands in it.
-fn open_counted(b: &mut TreeBuilder, name: &[u8], key: &[u8], n: usize) -> Result<(), Memory>
-    ensures { OnOk result (Told b.old b.new (opening name.now (b.old.attributes ++ with_attribute key.now (digits n) []))) }
+fn open_counted(w: &mut TextWriter, name: &[u8], key: &[u8], n: usize) -> Result<(), Memory>
+    ensures { OnOk result (Wrote w.old w.new (opening name.now (with_attribute key.now (digits n) []))) }
 {
-    open_after(b, name, key, Buffer::new().format(n).as_bytes())
+    w.begin(name)?;
+    w.attribute(key, Buffer::new().format(n).as_bytes())
 }
 
 /// Tells a row.
-fn tell_row(alloc: Global, b: &mut TreeBuilder, row: Row) -> Result<(), EncodeFault>
-    requires { b.old.attributes ≡ [] }
-    ensures { WritesNodes result b.old b.new (EndsHaveTexts row.lb row.ub) (WriteRows (row ∷ [])) }
+fn tell_row(alloc: Global, w: &mut TextWriter, row: Row) -> Result<(), EncodeFault>
+    ensures { WritesNodes result w.old w.new (EndsHaveTexts row.lb row.ub) (WriteRows (row ∷ [])) }
 {
-    tell_ends(alloc, b, row.lb, row.ub)?;
-    empty_after(b, b"con")?;
+    w.begin(b"con")?;
+    tell_ends(alloc, w, row.lb, row.ub)?;
+    w.end(b"con")?;
     Ok(())
 }
 
 /// Tells the rows.
-fn tell_rows(alloc: Global, b: &mut TreeBuilder, rows: &[Row]) -> Result<(), EncodeFault>
-    requires { b.old.attributes ≡ [] }
-    ensures { WritesNodes result b.old b.new (All (λ r. EndsHaveTexts r.lb r.ub) rows.now) (λ nodes. (inner : Nodes) × WriteRows rows.now inner × (nodes ≡ counted_element (codes "constraints") (codes "numberOfConstraints") (length rows.now) inner none)) }
+fn tell_rows(alloc: Global, w: &mut TextWriter, rows: &[Row]) -> Result<(), EncodeFault>
+    ensures { WritesNodes result w.old w.new (All (λ r. EndsHaveTexts r.lb r.ub) rows.now) (λ nodes. (inner : Nodes) × WriteRows rows.now inner × (nodes ≡ counted_element (codes "constraints") (codes "numberOfConstraints") (length rows.now) inner none)) }
 {
-    open_counted(b, b"constraints", b"numberOfConstraints", rows.len())?;
+    open_counted(w, b"constraints", b"numberOfConstraints", rows.len())?;
     for row in rows {
-        tell_row(alloc, b, *row)?;
+        tell_row(alloc, w, *row)?;
     }
-    close(b, b"constraints")?;
+    w.end(b"constraints")?;
     Ok(())
 }
 
@@ -148,26 +145,26 @@ fn count_costs(costs: &[Frac]) -> usize
 }
 
 /// Tells the cost of variable `j`, unless it is 0.
-fn tell_cost(alloc: Global, b: &mut TreeBuilder, j: usize, cost: Frac) -> Result<(), EncodeFault>
-    requires { b.old.attributes ≡ [] }
-    ensures { WritesNodes result b.old b.new (HasDecimal cost) (WriteCosts j (cost ∷ [])) }
+fn tell_cost(alloc: Global, w: &mut TextWriter, j: usize, cost: Frac) -> Result<(), EncodeFault>
+    ensures { WritesNodes result w.old w.new (HasDecimal cost) (WriteCosts j (cost ∷ [])) }
 {
     if cost.numer == 0 {
         return Ok(());
     }
     let text = decimal(alloc, cost)?;
-    b.attribute(b"idx", Buffer::new().format(j).as_bytes())?;
-    leaf(b, b"coef", text.as_slice())?;
+    w.begin(b"coef")?;
+    w.attribute(b"idx", Buffer::new().format(j).as_bytes())?;
+    w.chars(text.as_slice())?;
+    w.end(b"coef")?;
     Ok(())
 }
 
 /// Tells the costs that aren't 0.
-fn tell_costs(alloc: Global, b: &mut TreeBuilder, costs: &[Frac]) -> Result<(), EncodeFault>
-    requires { b.old.attributes ≡ [] }
-    ensures { WritesNodes result b.old b.new (All HasDecimal costs.now) (WriteCosts 0 costs.now) }
+fn tell_costs(alloc: Global, w: &mut TextWriter, costs: &[Frac]) -> Result<(), EncodeFault>
+    ensures { WritesNodes result w.old w.new (All HasDecimal costs.now) (WriteCosts 0 costs.now) }
 {
     for j in 0..costs.len() {
-        tell_cost(alloc, b, j, costs[j])?;
+        tell_cost(alloc, w, j, costs[j])?;
     }
     Ok(())
 }
@@ -183,39 +180,38 @@ fn sense_of(sense: Sense) -> &'static [u8]
 }
 
 /// Tells an objective.
-fn tell_objective(alloc: Global, b: &mut TreeBuilder, goal: &Goal) -> Result<(), EncodeFault>
-    requires { b.old.attributes ≡ [] }
-    ensures { WritesNodes result b.old b.new (GoalHasDecimals goal.now) (WriteGoals (goal.now ∷ [])) }
+fn tell_objective(alloc: Global, w: &mut TextWriter, goal: &Goal) -> Result<(), EncodeFault>
+    ensures { WritesNodes result w.old w.new (GoalHasDecimals goal.now) (WriteGoals (goal.now ∷ [])) }
 {
     let costs = goal.costs.as_slice();
     let constant = decimal(alloc, goal.constant)?;
-    b.attribute(b"maxOrMin", sense_of(goal.sense))?;
-    b.attribute(b"constant", constant.as_slice())?;
-    open_counted(b, b"obj", b"numberOfObjCoef", count_costs(costs))?;
-    tell_costs(alloc, b, costs)?;
-    close(b, b"obj")?;
+    let count = count_costs(costs);
+    w.begin(b"obj")?;
+    w.attribute(b"maxOrMin", sense_of(goal.sense))?;
+    w.attribute(b"constant", constant.as_slice())?;
+    w.attribute(b"numberOfObjCoef", Buffer::new().format(count).as_bytes())?;
+    tell_costs(alloc, w, costs)?;
+    w.end(b"obj")?;
     Ok(())
 }
 
 /// Tells the goals.
-fn tell_goals(alloc: Global, b: &mut TreeBuilder, goals: &[Goal]) -> Result<(), EncodeFault>
-    requires { b.old.attributes ≡ [] }
-    ensures { WritesNodes result b.old b.new (All GoalHasDecimals goals.now) (λ nodes. (inner : Nodes) × WriteGoals goals.now inner × (nodes ≡ counted_element (codes "objectives") (codes "numberOfObjectives") (length goals.now) inner none)) }
+fn tell_goals(alloc: Global, w: &mut TextWriter, goals: &[Goal]) -> Result<(), EncodeFault>
+    ensures { WritesNodes result w.old w.new (All GoalHasDecimals goals.now) (λ nodes. (inner : Nodes) × WriteGoals goals.now inner × (nodes ≡ counted_element (codes "objectives") (codes "numberOfObjectives") (length goals.now) inner none)) }
 {
-    open_counted(b, b"objectives", b"numberOfObjectives", goals.len())?;
+    open_counted(w, b"objectives", b"numberOfObjectives", goals.len())?;
     for goal in goals {
-        tell_objective(alloc, b, goal)?;
+        tell_objective(alloc, w, goal)?;
     }
-    close(b, b"objectives")?;
+    w.end(b"objectives")?;
     Ok(())
 }
 
 /// Tells one `el` that holds a count.
-fn tell_count(b: &mut TreeBuilder, n: usize) -> Result<(), Memory>
-    requires { b.old.attributes ≡ [] }
-    ensures { OnOk result (Told b.old b.new (nodes_events (counts_nodes (n ∷ [])))) }
+fn tell_count(w: &mut TextWriter, n: usize) -> Result<(), Memory>
+    ensures { OnOk result (Wrote w.old w.new (nodes_events (counts_nodes (n ∷ [])))) }
 {
-    leaf(b, b"el", Buffer::new().format(n).as_bytes())
+    leaf(w, b"el", Buffer::new().format(n).as_bytes())
 }
 
 /// How many entries stand before this row.
@@ -227,120 +223,103 @@ fn entries_before(entries: &[Entry], row: usize) -> usize
 }
 
 /// Tells where each row begins among the entries, and where the last one ends.
-fn tell_starts(b: &mut TreeBuilder, entries: &[Entry], rows: usize) -> Result<(), Memory>
-    requires waiting { b.old.attributes ≡ [] }
-    requires order { IsAscending entries.now }
-    ensures { OnOk result (Told b.old b.new (nodes_events (tree.element (codes "start") [] (counts_nodes (row_starts entries.now 0 rows)) none))) }
+fn tell_starts(w: &mut TextWriter, entries: &[Entry], rows: usize) -> Result<(), Memory>
+    requires { IsAscending entries.now }
+    ensures { OnOk result (Wrote w.old w.new (nodes_events (tree.element (codes "start") [] (counts_nodes (row_starts entries.now 0 rows)) none))) }
 {
-    open(b, b"start")?;
+    w.begin(b"start")?;
     for row in 0..rows {
-        tell_count(b, entries_before(entries, row))?;
+        tell_count(w, entries_before(entries, row))?;
     }
-    tell_count(b, entries_before(entries, rows))?;
-    close(b, b"start")
+    tell_count(w, entries_before(entries, rows))?;
+    w.end(b"start")
 }
 
 /// Tells the column of each entry.
-fn tell_columns(b: &mut TreeBuilder, entries: &[Entry]) -> Result<(), Memory>
-    requires { b.old.attributes ≡ [] }
-    ensures { OnOk result (Told b.old b.new (nodes_events (tree.element (codes "colIdx") [] (counts_nodes (map (λ e. e.col) entries.now)) none))) }
+fn tell_columns(w: &mut TextWriter, entries: &[Entry]) -> Result<(), Memory>
+    ensures { OnOk result (Wrote w.old w.new (nodes_events (tree.element (codes "colIdx") [] (counts_nodes (map (λ e. e.col) entries.now)) none))) }
 {
-    open(b, b"colIdx")?;
+    w.begin(b"colIdx")?;
     for entry in entries {
-        tell_count(b, entry.col as usize)?;
+        tell_count(w, entry.col as usize)?;
     }
-    close(b, b"colIdx")
+    w.end(b"colIdx")
 }
 
 /// Tells the value of an entry.
-fn tell_value(alloc: Global, b: &mut TreeBuilder, entry: &Entry) -> Result<(), EncodeFault>
-    requires { b.old.attributes ≡ [] }
-    ensures { WritesNodes result b.old b.new (HasDecimal entry.now.value) (WriteValues (entry.now ∷ [])) }
+fn tell_value(alloc: Global, w: &mut TextWriter, entry: &Entry) -> Result<(), EncodeFault>
+    ensures { WritesNodes result w.old w.new (HasDecimal entry.now.value) (WriteValues (entry.now ∷ [])) }
 {
     let text = decimal(alloc, entry.value)?;
-    leaf(b, b"el", text.as_slice())?;
+    leaf(w, b"el", text.as_slice())?;
     Ok(())
 }
 
 /// Tells the value of each entry.
-fn tell_values(alloc: Global, b: &mut TreeBuilder, entries: &[Entry]) -> Result<(), EncodeFault>
-    requires { b.old.attributes ≡ [] }
-    ensures { WritesNodes result b.old b.new (All (λ e. HasDecimal e.value) entries.now) (λ nodes. (inner : Nodes) × WriteValues entries.now inner × (nodes ≡ tree.element (codes "value") [] inner none)) }
+fn tell_values(alloc: Global, w: &mut TextWriter, entries: &[Entry]) -> Result<(), EncodeFault>
+    ensures { WritesNodes result w.old w.new (All (λ e. HasDecimal e.value) entries.now) (λ nodes. (inner : Nodes) × WriteValues entries.now inner × (nodes ≡ tree.element (codes "value") [] inner none)) }
 {
-    open(b, b"value")?;
+    w.begin(b"value")?;
     for entry in entries {
-        tell_value(alloc, b, entry)?;
+        tell_value(alloc, w, entry)?;
     }
-    close(b, b"value")?;
+    w.end(b"value")?;
     Ok(())
 }
 
 /// Tells the three lists of the matrix, or nothing where it is empty.
 fn tell_lists(
     alloc: Global,
-    b: &mut TreeBuilder,
+    w: &mut TextWriter,
     entries: &[Entry],
     rows: usize,
 ) -> Result<(), EncodeFault>
-    requires waiting { b.old.attributes ≡ [] }
-    requires order { IsAscending entries.now }
-    ensures { WritesNodes result b.old b.new (All (λ e. HasDecimal e.value) entries.now) (WriteLists rows entries.now) }
+    requires { IsAscending entries.now }
+    ensures { WritesNodes result w.old w.new (All (λ e. HasDecimal e.value) entries.now) (WriteLists rows entries.now) }
 {
     if entries.is_empty() {
         return Ok(());
     }
-    tell_starts(b, entries, rows)?;
-    tell_columns(b, entries)?;
-    tell_values(alloc, b, entries)?;
+    tell_starts(w, entries, rows)?;
+    tell_columns(w, entries)?;
+    tell_values(alloc, w, entries)?;
     Ok(())
 }
 
 /// Tells the matrix, rows one after another.
 fn tell_matrix(
     alloc: Global,
-    b: &mut TreeBuilder,
+    w: &mut TextWriter,
     entries: &[Entry],
     rows: usize,
 ) -> Result<(), EncodeFault>
-    requires waiting { b.old.attributes ≡ [] }
-    requires order { IsAscending entries.now }
-    ensures { WritesNodes result b.old b.new (All (λ e. HasDecimal e.value) entries.now) (λ nodes. (inner : Nodes) × WriteLists rows entries.now inner × (nodes ≡ counted_element (codes "linearConstraintCoefficients") (codes "numberOfValues") (length entries.now) inner none)) }
+    requires { IsAscending entries.now }
+    ensures { WritesNodes result w.old w.new (All (λ e. HasDecimal e.value) entries.now) (λ nodes. (inner : Nodes) × WriteLists rows entries.now inner × (nodes ≡ counted_element (codes "linearConstraintCoefficients") (codes "numberOfValues") (length entries.now) inner none)) }
 {
     let name = b"linearConstraintCoefficients";
-    open_counted(b, name, b"numberOfValues", entries.len())?;
-    tell_lists(alloc, b, entries, rows)?;
-    close(b, name)?;
+    open_counted(w, name, b"numberOfValues", entries.len())?;
+    tell_lists(alloc, w, entries, rows)?;
+    w.end(name)?;
     Ok(())
 }
 
 /// Tells the root that an instance is written as.
-fn tell_instance(alloc: Global, b: &mut TreeBuilder, instance: &Instance) -> Result<(), EncodeFault>
-    requires { b.old ≡ record { events = []; attributes = []; text = [] } }
-    ensures { MatchResult result (λ _. HasDecimals instance.now × (root : Element) × WritesInstance instance.now root × (said b.new ≡ events root)) (LacksDecimal (HasDecimals instance.now)) }
+fn tell_instance(alloc: Global, w: &mut TextWriter, instance: &Instance) -> Result<(), EncodeFault>
+    ensures { MatchResult result (λ _. HasDecimals instance.now × (root : Element) × WritesInstance instance.now root × WroteRoot w.old w.new root) (LacksDecimal (HasDecimals instance.now)) }
 {
     let rows = instance.rows();
-    open_after(b, b"osil", b"xmlns", b"os.optimizationservices.org")?;
-    empty_after(b, b"instanceHeader")?;
-    open(b, b"instanceData")?;
-    tell_vars(alloc, b, instance.vars())?;
-    tell_goals(alloc, b, instance.goals())?;
-    tell_rows(alloc, b, rows)?;
-    tell_matrix(alloc, b, instance.entries(), rows.len())?;
-    close(b, b"instanceData")?;
-    close(b, b"osil")?;
+    w.begin(b"osil")?;
+    w.attribute(b"xmlns", b"os.optimizationservices.org")?;
+    w.begin(b"instanceHeader")?;
+    w.end(b"instanceHeader")?;
+    w.begin(b"instanceData")?;
+    tell_vars(alloc, w, instance.vars())?;
+    tell_goals(alloc, w, instance.goals())?;
+    tell_rows(alloc, w, rows)?;
+    tell_matrix(alloc, w, instance.entries(), rows.len())?;
+    w.end(b"instanceData")?;
+    w.end(b"osil")?;
     Ok(())
-}
-
-/// The tree that an instance is written as.
-fn tree_of(alloc: Global, instance: &Instance) -> Result<Tree, EncodeFault>
-    ensures { MatchResult result (λ t. HasDecimals instance.now × (root : Element) × WritesInstance instance.now root × (t ≡ events root)) (LacksDecimal (HasDecimals instance.now)) }
-{
-    let mut b = TreeBuilder::new(alloc);
-    tell_instance(alloc, &mut b, instance)?;
-    match b.finish() {
-        Some(tree) => Ok(tree),
-        None => unreachable!(),
-    }
 }
 
 /// The text that an instance is written as: an OSiL document.
@@ -356,10 +335,11 @@ pub fn encode(alloc: Global, instance: &Instance) -> Result<Text, EncodeFault>
     ensures decimals { IfOk result (λ text. HasDecimals instance.now) }
     ensures err { IfErr result (EncodeFails instance.now) }
 {
-    let tree = tree_of(alloc, instance)?;
-    let text = write(alloc, &tree)?;
-    if text.len() as u64 > MOST_BYTES {
-        return Err(EncodeFault::Long);
+    let mut w = TextWriter::new(alloc)?;
+    // Where the text has become too long this goes on, since a number without a decimal is told first.
+    tell_instance(alloc, &mut w, instance)?;
+    match w.finish() {
+        Some(text) => Ok(text),
+        None => Err(EncodeFault::Long),
     }
-    Ok(text)
 }

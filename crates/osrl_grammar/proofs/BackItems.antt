@@ -35,6 +35,9 @@ node_back (nodes.Zero j) back = (refl, subst (SaysNode (nodes.Zero j)) (sym (pie
 node_back (nodes.Clash c) back = (refl, subst (SaysNode (nodes.Clash c)) (sym (pieces_free (decimal c) (decimal_spaceless c))) (index_back c back))
 node_back (nodes.Farkas ms) back = subst (λ (l : List (List ℕ)). BeginsWithWord node_word tree_head SaysTree l (trees.Node (nodes.Farkas ms))) (sym (mults_pieces (codes "farkas") ms (seen_free 32 (codes "farkas") refl))) (refl, mults_back ms back)
 node_back (nodes.Bound ms) back = subst (λ (l : List (List ℕ)). BeginsWithWord node_word tree_head SaysTree l (trees.Node (nodes.Bound ms))) (sym (mults_pieces (codes "bound") ms (seen_free 32 (codes "bound") refl))) (refl, mults_back ms back)
+node_back (nodes.Grid g ms) back =
+    let cut = mults_pieces (ratio_text (ratio g)) ms (ratio_spaceless (ratio g)) in
+    (refl, subst (SaysNode (nodes.Grid g ms)) (sym cut) (fraction_back g, mults_back ms back))
 
 step_spaceless : (s : Step) → IsFree 32 (step_text s)
 step_spaceless s = seen_free 32 (step_text s) (elim s as (λ (r : Step). is_without 32 (step_text r) ≡ true) [ steps.Values ↦ refl | steps.Ratio ↦ refl | steps.Pivot ↦ refl | steps.Point ↦ refl | steps.Ray ↦ refl | steps.Round ↦ refl | steps.Check ↦ refl ])

@@ -1,5 +1,5 @@
 -- The nodes of a written solution are nodes of XML.
-use Rattle.osrl_grammar.proofs.Names.{◌≡◌, ℕ, suc, ◌+◌, ◌-◌, nat_lt, Bool, true, false, cond, List, [], ◌∷◌, ◌++◌, map, length, refl, subst, codes, decimal, lit≤, All, All-nil, All-cons, All-head, All-tail, All-append, IsXmlText, Each, Attribute, Nodes, none, element, chars, Printable, list_printable, ratio, Frac, Mult, Cert, Node, Split, Zero, Clash, Farkas, Bound, ProvedBound, Option, None, Some, Claim, Optimal, Infeasible, Unbounded, BestSoFar, Unsure, Part, Claiming, cut_text, part_name, claiming_text, text_nodes, leaf, group, typed, indexed, Labels, NameLists, AreXmlLabels, AreXmlNames, name_at, name_attribute, variable_values, row_values, values_part, values_part_unless_none, point_values, goal_values, tree_values, dual_values, node_text, round_text, level_texts, cause_text, item_nodes, certificate_part, fraction_texts, point_parts, ray_part, rounds_part, tree_parts, trees_parts, bound_parts, cause_part, solution, claim_nodes, printable_text, decimal_printable, none_flat}
+use Rattle.osrl_grammar.proofs.Names.{◌≡◌, ℕ, suc, ◌+◌, ◌-◌, nat_lt, Bool, true, false, cond, List, [], ◌∷◌, ◌++◌, map, length, refl, subst, codes, decimal, lit≤, All, All-nil, All-cons, All-head, All-tail, All-append, IsXmlText, Each, Attribute, Nodes, none, element, chars, Printable, list_printable, ratio, Frac, Mult, Cert, Node, Split, Zero, Clash, Farkas, Bound, Grid, ProvedBound, Option, None, Some, Claim, Optimal, Infeasible, Unbounded, BestSoFar, Unsure, Part, Claiming, cut_text, part_name, claiming_text, text_nodes, leaf, group, typed, indexed, Labels, NameLists, AreXmlLabels, AreXmlNames, name_at, name_attribute, variable_values, row_values, values_part, values_part_unless_none, point_values, goal_values, tree_values, dual_values, node_text, round_text, level_texts, cause_text, item_nodes, certificate_part, fraction_texts, point_parts, ray_part, rounds_part, tree_parts, trees_parts, bound_parts, cause_part, solution, claim_nodes, printable_text, decimal_printable, none_flat}
 use Rattle.std.proofs.Common.{lit<}
 use Rattle.tree_grammar.specs.Characters.{local_part}
 use Rattle.certificate.specs.declared.causes.Cause.{Cause}
@@ -75,6 +75,7 @@ tree_duals_flat ls xml n [] (Split j k ∷ ns) more rest = rest
 tree_duals_flat ls xml n [] (Zero j ∷ ns) more rest = rest
 tree_duals_flat ls xml n [] (Clash c ∷ ns) more rest = rest
 tree_duals_flat ls xml n [] (Farkas ms ∷ ns) more rest = rest
+tree_duals_flat ls xml n [] (Grid g ms ∷ ns) more rest = rest
 tree_duals_flat ls xml n [] (Bound ms ∷ []) more rest = some_flat (row_values ls n ms) more (rows_flat ls xml n ms) rest
 tree_duals_flat ls xml n [] (Bound ms ∷ m ∷ ns) more rest = rest
 

@@ -172,6 +172,7 @@ module _ (s : State) (type : Option (List ℕ)) where
   tree_passes ls n [] (nodes.Zero j ∷ ns) = λ more z behind. behind
   tree_passes ls n [] (nodes.Clash c ∷ ns) = λ more z behind. behind
   tree_passes ls n [] (nodes.Farkas ms ∷ ns) = λ more z behind. behind
+  tree_passes ls n [] (nodes.Grid g ms ∷ ns) = λ more z behind. behind
   tree_passes ls n [] (nodes.Bound ms ∷ []) = rows_pass (row_values ls n ms)
   tree_passes ls n [] (nodes.Bound ms ∷ m ∷ ns) = λ more z behind. behind
 

@@ -1,5 +1,5 @@
 -- The texts of numbers, items and statuses are characters of XML.
-use Rattle.osrl_grammar.proofs.Names.{ℕ, ◌+◌, ◌/◌, ◌%◌, ◌^◌, ◌==◌, Bool, true, false, cond, List, [], ◌∷◌, ◌++◌, map, drop, reverse, refl, sym, subst, lit≤, codes, decimal, flat_map, signed_decimal, All, reverse-append, All-nil, All-cons, All-append, IsXmlText, Each, Printable, list_printable, Ratio, ratio, Frac, optional, point_text, ratio_text, Mult, Cert, round_text, level_text, level_texts, Node, Split, Zero, Clash, Farkas, Bound, Step, without_zeros, decimals, cut_size, has_sign, cut_text, step_text, mult_text, node_text, cause_text, fraction_texts, decimal_each, signed_each, decimal_printable, printable_text}
+use Rattle.osrl_grammar.proofs.Names.{ℕ, ◌+◌, ◌/◌, ◌%◌, ◌^◌, ◌==◌, Bool, true, false, cond, List, [], ◌∷◌, ◌++◌, map, drop, reverse, refl, sym, subst, lit≤, codes, decimal, flat_map, signed_decimal, All, reverse-append, All-nil, All-cons, All-append, IsXmlText, Each, Printable, list_printable, Ratio, ratio, Frac, optional, point_text, ratio_text, Mult, Cert, round_text, level_text, level_texts, Node, Split, Zero, Clash, Farkas, Bound, Grid, Step, without_zeros, decimals, cut_size, has_sign, cut_text, step_text, mult_text, node_text, cause_text, fraction_texts, decimal_each, signed_each, decimal_printable, printable_text}
 use Rattle.std.proofs.Common.{lit<}
 use Rattle.tree_grammar.proofs.XmlTexts.{each_append}
 use Rattle.decimal_text.specs.Exact.{denominator_text}
@@ -69,6 +69,7 @@ node_printable (Zero j) = each_append Printable (codes "zero ") (decimal j) (lis
 node_printable (Clash c) = each_append Printable (codes "clash ") (decimal c) (list_printable (codes "clash ") refl) (decimal_printable c)
 node_printable (Farkas ms) = each_append Printable (codes "farkas") (flat_map mult_text ms) (list_printable (codes "farkas") refl) (mults_printable ms)
 node_printable (Bound ms) = each_append Printable (codes "bound") (flat_map mult_text ms) (list_printable (codes "bound") refl) (mults_printable ms)
+node_printable (Grid g ms) = each_append Printable (codes "grid ") (ratio_text (ratio g) ++ flat_map mult_text ms) (list_printable (codes "grid ") refl) (each_append Printable (ratio_text (ratio g)) (flat_map mult_text ms) (ratio_printable (ratio g)) (mults_printable ms))
 
 step_printable : (s : Step) → Each Printable (step_text s)
 step_printable steps.Values = list_printable (codes "values") refl

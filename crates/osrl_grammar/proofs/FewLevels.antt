@@ -1,5 +1,5 @@
 -- A written report has fewer levels than its text has bytes.
-use Rattle.osrl_grammar.proofs.Names.{ℕ, ◌+◌, ◌^◌, ◌≤◌, Option, None, Some, List, [], ◌∷◌, ◌++◌, map, length, arith, Nodes, none, element, chars, elements_in, codes, group, Frac, Mult, Cert, Node, Split, Zero, Clash, Farkas, Bound, Claim, Optimal, Infeasible, Unbounded, BestSoFar, Unsure, Report, item_nodes, level_texts, node_text, point_parts, rounds_part, tree_parts, trees_parts, tree_values, dual_values, values_part_unless_none, row_values, certificate_part, claim_nodes, no_names, optimization, ComesBack}
+use Rattle.osrl_grammar.proofs.Names.{ℕ, ◌+◌, ◌^◌, ◌≤◌, Option, None, Some, List, [], ◌∷◌, ◌++◌, map, length, arith, Nodes, none, element, chars, elements_in, codes, group, Frac, Mult, Cert, Node, Split, Zero, Clash, Farkas, Bound, Grid, Claim, Optimal, Infeasible, Unbounded, BestSoFar, Unsure, Report, item_nodes, level_texts, node_text, point_parts, rounds_part, tree_parts, trees_parts, tree_values, dual_values, values_part_unless_none, row_values, certificate_part, claim_nodes, no_names, optimization, ComesBack}
 use Rattle.std.proofs.lemmas.List.{length-append}
 use Rattle.certificate.specs.Nodes.{certs_of}
 use Rattle.document_tags.proofs.Sizes.{fewer_elements}
@@ -33,6 +33,7 @@ behind_tree n [] (Split j k ∷ ns) more = omega arith
 behind_tree n [] (Zero j ∷ ns) more = omega arith
 behind_tree n [] (Clash c ∷ ns) more = omega arith
 behind_tree n [] (Farkas ms ∷ ns) more = omega arith
+behind_tree n [] (Grid g ms ∷ ns) more = omega arith
 behind_tree n [] (Bound ms ∷ []) more = behind_rows (row_values [] n ms) more
 behind_tree n [] (Bound ms ∷ m ∷ ns) more = omega arith
 

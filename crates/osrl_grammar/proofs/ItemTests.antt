@@ -49,6 +49,8 @@ node_pass (nodes.Zero j) ps h = one_pass ps j h
 node_pass (nodes.Clash c) ps h = one_pass ps c h
 node_pass (nodes.Farkas ms) ps h = mults_pass ps ms h
 node_pass (nodes.Bound ms) ps h = mults_pass ps ms h
+node_pass (nodes.Grid g ms) [] h = absurd h
+node_pass (nodes.Grid g ms) (s ∷ ps) h = both_pass (Some (field Exact s ∷ [])) (mults_fields ps) (number_pass Exact s (ratio g) h.0) (mults_pass ps ms h.1)
 
 tree_pass : (i : TreeItem) (ps : List (List ℕ)) → SaysTree i ps → Pass (node_behind (tree_head i) ps)
 tree_pass (trees.Node n) ps h = node_pass n ps h

@@ -27,5 +27,6 @@ pub mod RoundTrips
 pub mod InOrder
 pub mod PieceTexts
 pub mod Mults
+pub mod Grids
 pub mod Heads
 pub mod ItemTests

@@ -19,7 +19,7 @@ pub use Rattle.certificate.specs.declared.claims.Claim.TheVariants.{BestSoFar, I
 pub use Rattle.certificate.specs.declared.lists.Mult.{Mult}
 pub use Rattle.certificate.specs.declared.nodes.Cert.{Cert}
 pub use Rattle.certificate.specs.declared.nodes.Node.{Node}
-pub use Rattle.certificate.specs.declared.nodes.Node.TheVariants.{Bound, Clash, Farkas, Split, Zero}
+pub use Rattle.certificate.specs.declared.nodes.Node.TheVariants.{Bound, Clash, Farkas, Grid, Split, Zero}
 pub use Rattle.decimal_text.proofs.OneRatio.{ratio_once}
 pub use Rattle.decimal_text.specs.Exact.{RatioText, ratio_text}
 pub use Rattle.decimal_text.specs.Plain.{point_text}
@@ -38,7 +38,7 @@ pub use Rattle.osrl_grammar.specs.Back.{BoundComesBack, CauseComesBack, ClaimCom
 pub use Rattle.osrl_writing.specs.Cuts.{cut_size, cut_text, decimals, has_sign, without_zeros}
 pub use Rattle.osrl_grammar.specs.Failing.{Fails, MayHoldItems}
 pub use Rattle.osrl_grammar.specs.Grounds.{TextsAreOfCharacters}
-pub use Rattle.osrl_grammar.specs.Items.{ReadsTexts, all_cause_words, all_node_words, all_steps, cause_behind, cause_word, field, item_fields, mult_fields, mults_fields, no_field, node_behind, node_word, one_field, pair_fields, place_fields, round_fields, step_text, two_fields, with_fields}
+pub use Rattle.osrl_grammar.specs.Items.{ReadsTexts, all_cause_words, all_node_words, all_steps, cause_behind, cause_word, field, grid_fields, item_fields, mult_fields, mults_fields, no_field, node_behind, node_word, one_field, pair_fields, place_fields, round_fields, step_text, two_fields, with_fields}
 pub use Rattle.osrl_writing.specs.Words.{round_word}
 pub use Rattle.osrl_grammar.specs.Adding.{AddsItem, AfterItem, IsItemRead, noted, with_read, with_tree_item}
 pub use Rattle.osrl_grammar.specs.Leaving.{Ends, Leaves, begun, first, keeps, with_part}

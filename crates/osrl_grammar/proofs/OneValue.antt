@@ -51,6 +51,7 @@ no_level (nodes.Zero j) e = cc
 no_level (nodes.Clash c) e = cc
 no_level (nodes.Farkas ms) e = cc
 no_level (nodes.Bound ms) e = cc
+no_level (nodes.Grid g ms) e = cc
 
 node_once : (a b : Node) (ps : List (List ℕ)) → node_head a ≡ node_head b → SaysNode a ps → SaysNode b ps → a ≡ b
 node_once (nodes.Split j k) (nodes.Split i l) [] e h g = absurd h
@@ -61,6 +62,8 @@ node_once (nodes.Zero j) (nodes.Zero i) ps e h g = ap (λ (x : ℕ). nodes.Zero 
 node_once (nodes.Clash c) (nodes.Clash d) ps e h g = ap (λ (x : ℕ). nodes.Clash x) (index_once ps c d h g)
 node_once (nodes.Farkas ms) (nodes.Farkas ns) ps e h g = ap (λ (x : List Mult). nodes.Farkas x) (mults_once ps ms ns h g)
 node_once (nodes.Bound ms) (nodes.Bound ns) ps e h g = ap (λ (x : List Mult). nodes.Bound x) (mults_once ps ms ns h g)
+node_once (nodes.Grid x ms) (nodes.Grid y ns) [] e h g = absurd h
+node_once (nodes.Grid x ms) (nodes.Grid y ns) (s ∷ ps) e h g = ap₂ (λ (z : Frac) (ls : List Mult). nodes.Grid z ls) (fraction_once s x y h.0 g.0) (mults_once ps ms ns h.1 g.1)
 node_once a b ps e h g = absurd (cc)
 
 tree_once : (a b : TreeItem) (ps : List (List ℕ)) → tree_head a ≡ tree_head b → SaysTree a ps → SaysTree b ps → a ≡ b

@@ -41,6 +41,7 @@ node_other (nodes.Zero j) = refl
 node_other (nodes.Clash c) = refl
 node_other (nodes.Farkas ms) = refl
 node_other (nodes.Bound ms) = refl
+node_other (nodes.Grid g ms) = refl
 
 node_apart : (l : ℕ) (ps : List (List ℕ)) (n : Node) → BeginsWithWord node_word tree_head SaysTree ps (trees.Node n) → (begins_level ps ≡ false) × (IsLevelBut l ps → ⊥)
 node_apart l [] n h = absurd h

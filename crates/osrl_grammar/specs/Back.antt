@@ -7,7 +7,7 @@ use Rattle.decimal_text.specs.Space.{trimmed}
 use Rattle.rational.specs.Width.{most}
 use Rattle.certificate.specs.declared.lists.Mult.{Mult}
 use Rattle.certificate.specs.declared.nodes.Node.{Node}
-use Rattle.certificate.specs.declared.nodes.Node.TheVariants.{Split, Zero, Clash, Farkas, Bound}
+use Rattle.certificate.specs.declared.nodes.Node.TheVariants.{Split, Zero, Clash, Farkas, Bound, Grid}
 use Rattle.certificate.specs.declared.nodes.Cert.{Cert}
 use Rattle.certificate.specs.declared.causes.Cause.{Cause}
 use Rattle.certificate.specs.declared.causes.Cause.TheVariants as causes
@@ -39,6 +39,7 @@ NodeComesBack (Zero j) = j < 2 ^ 32
 NodeComesBack (Clash c) = c < 2 ^ 32
 NodeComesBack (Farkas ms) = HaveColumns ms
 NodeComesBack (Bound ms) = HaveColumns ms
+NodeComesBack (Grid g ms) = HaveColumns ms
 
 -- the numbers are of their types, as those of every cause are
 abbrev pub CauseComesBack : Cause → Type 0

@@ -27,10 +27,11 @@ node_word nodes.Zero = codes "zero"
 node_word nodes.Clash = codes "clash"
 node_word nodes.Farkas = codes "farkas"
 node_word nodes.Bound = codes "bound"
+node_word nodes.Grid = codes "grid"
 node_word nodes.Level = codes "level"
 
 abbrev pub all_node_words : List NodeWord
-all_node_words = nodes.Split ∷ nodes.Zero ∷ nodes.Clash ∷ nodes.Farkas ∷ nodes.Bound ∷ nodes.Level ∷ []
+all_node_words = nodes.Split ∷ nodes.Zero ∷ nodes.Clash ∷ nodes.Farkas ∷ nodes.Bound ∷ nodes.Grid ∷ nodes.Level ∷ []
 
 abbrev pub cause_word : CauseWord → List ℕ
 cause_word causes.Killed = codes "killed"
@@ -77,6 +78,11 @@ abbrev pub mults_fields : List (List ℕ) → Option (List Field)
 mults_fields [] = Some []
 mults_fields (p ∷ ps) = with_fields (mult_fields p) (mults_fields ps)
 
+-- a step, and then multipliers
+abbrev pub grid_fields : List (List ℕ) → Option (List Field)
+grid_fields [] = None
+grid_fields (s ∷ ps) = with_fields (Some (field Exact s ∷ [])) (mults_fields ps)
+
 -- a node, a turn, and the word of a step
 abbrev pub place_fields : List (List ℕ) → Option (List Field)
 place_fields (n ∷ t ∷ s ∷ []) = option_map (λ step. field Index n ∷ field Turn t ∷ []) (worded step_text all_steps s)
@@ -88,6 +94,7 @@ node_behind nodes.Zero ps = one_field Index ps
 node_behind nodes.Clash ps = one_field Index ps
 node_behind nodes.Farkas ps = mults_fields ps
 node_behind nodes.Bound ps = mults_fields ps
+node_behind nodes.Grid ps = grid_fields ps
 node_behind nodes.Level ps = one_field Index ps
 
 abbrev pub cause_behind : CauseWord → List (List ℕ) → Option (List Field)
@@ -123,6 +130,11 @@ item_fields p text = Some (field Exact text ∷ [])
 abbrev pub misread_of : Unread → Misread
 misread_of NotNumber = NoNumber
 misread_of Wide = TooGreat
+
+-- what is wrong with a step and multipliers, of which the latter are misread
+abbrev pub wrong_with : {A : Type 0} → Misread → Result A Unread → Misread
+wrong_with {A} TooGreat (Err NotNumber) = NoNumber
+wrong_with {A} m step = m
 
 -- all of these texts were read, and say so; or this is wrong with the item
 abbrev pub ReadsTexts : {A : Type 0} → Option (List Field) → Result A Misread → (A → Type 0) → Type 0

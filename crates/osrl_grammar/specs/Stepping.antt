@@ -2,6 +2,8 @@
 use Rattle.std.specs.Prelude.{◌≡◌, ℕ, true, false, Some, Result, Ok, Err, IfOk, List, [], ◌∷◌, ◌++◌}
 use Rattle.std.specs.List.{AllZip}
 use Rattle.certificate.specs.declared.lists.Mult.{Mult}
+use Rattle.certificate.specs.declared.nodes.Node.{Node}
+use Rattle.certificate.specs.declared.nodes.Node.TheVariants.{Grid}
 use Rattle.tag_tests.specs.declared.numbers.Unread.{Unread}
 use Rattle.tag_tests.specs.Fields.{FieldsRead}
 use Rattle.tag_tests.specs.Tests.{AllPass, FirstFails}
@@ -15,7 +17,7 @@ use Rattle.osrl_writing.specs.declared.parts.Part.{Part}
 use Rattle.osrl_writing.specs.declared.parts.Part.TheVariants.{Value, Tree, Cause, Bound}
 use Rattle.osrl_grammar.specs.declared.parts.Misread.{Misread}
 use Rattle.osrl_grammar.specs.Numbers.{Exact, Field, IsBad, IsTooGreat}
-use Rattle.osrl_grammar.specs.Items.{field, ReadsTexts}
+use Rattle.osrl_grammar.specs.Items.{field, misread_of, wrong_with, ReadsTexts}
 use Rattle.osrl_grammar.specs.Values.{IsFraction, IsMult}
 use Rattle.osrl_grammar.specs.Standing.{State}
 use Rattle.osrl_grammar.specs.Saying.{has, items}
@@ -35,6 +37,12 @@ AreCounted s = (s.twice ≡ false) × IsCounted s.held Value × IsCounted s.held
 -- multipliers were read of these pieces, or this is wrong with the texts in them
 abbrev pub ReadMults : {X : Type 0} → List (List ℕ) → List Field → List Mult → Result X Unread → Type 0
 ReadMults {X} done fs ms r = FieldsRead IsBad IsTooGreat fs r (λ x. AllZip IsMult done ms)
+
+-- the leaf on the goal's grid of multipliers and a step, or what is wrong with them
+abbrev pub gridded : Result (List Mult) Misread → Result Frac Unread → Result Node Misread
+gridded (Err m) step = Err (wrong_with m step)
+gridded (Ok ms) (Ok g) = Ok (Grid g ms)
+gridded (Ok ms) (Err u) = Err (misread_of u)
 
 -- a number was read of this text and added to these, or this is wrong with it; the other error is want of memory
 abbrev pub ReadsNumber : {X E : Type 0} → List ℕ → List Frac → List Frac → Result (Result X Misread) E → Type 0

@@ -56,6 +56,7 @@ node_head (nodes.Zero j) = heads.Zero
 node_head (nodes.Clash c) = heads.Clash
 node_head (nodes.Farkas ms) = heads.Farkas
 node_head (nodes.Bound ms) = heads.Bound
+node_head (nodes.Grid g ms) = heads.Grid
 
 abbrev pub SaysNode : Node → List (List ℕ) → Type 0
 SaysNode (nodes.Split j k) (c ∷ b ∷ []) = IsIndex c j × IsNumberText Whole b (whole k)
@@ -64,6 +65,8 @@ SaysNode (nodes.Zero j) ps = IsOne ps j
 SaysNode (nodes.Clash c) ps = IsOne ps c
 SaysNode (nodes.Farkas ms) ps = AllZip IsMult ps ms
 SaysNode (nodes.Bound ms) ps = AllZip IsMult ps ms
+SaysNode (nodes.Grid g ms) (s ∷ ps) = IsFraction s g × AllZip IsMult ps ms
+SaysNode (nodes.Grid g ms) [] = ⊥
 
 -- the word of an item of a tree, and the pieces behind it: a node, or the number of the level that begins
 abbrev pub tree_head : TreeItem → NodeWord

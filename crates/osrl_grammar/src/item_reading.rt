@@ -12,13 +12,14 @@ ghost use Rattle.osrl_grammar.specs.Pieces.{more, pieces};
 ghost use Rattle.osrl_grammar.specs.Items as items;
 ghost use Rattle.osrl_grammar.specs.Items.{ReadsTexts, pair_fields, mults_fields};
 ghost use Rattle.osrl_grammar.specs.Values.{IsMult, IsMultOf, IsOne, IsPlace, IsSaidBehind, node_head, SaysNode, tree_head, SaysTree, IsTreeItem, IsRound, IsLevelBut, cause_head, SaysCause, IsCause};
-ghost use Rattle.osrl_grammar.specs.Stepping.{ReadMults};
+ghost use Rattle.osrl_grammar.specs.Stepping.{ReadMults, gridded};
 
 use crate::numbers::{read_exact, read_index, read_turn, read_whole};
 use crate::parts::{CauseWord, Misread, NodeWord, TreeItem};
 use crate::pieces::{first_piece, one_piece, parted, three_pieces, two_pieces};
 use crate::words::with_word;
 use certificate::{Cause, Mult, Mults, Node, Place, Step};
+use fraction::Frac;
 use os_io::Memory;
 use osrl_writing::Part;
 use std::alloc::Global;
@@ -148,6 +149,44 @@ fn bound(mults: Result<Mults, Misread>) -> Result<Node, Misread>
     }
 }
 
+/// What is wrong with a step and multipliers, of which the latter are misread.
+fn wrong_with(step: Result<Frac, Unread>, mults: Misread) -> Misread
+    ensures { result ≡ items.wrong_with mults step }
+{
+    match mults {
+        Misread::TooGreat => match step {
+            Err(Unread::NotNumber) => Misread::NoNumber,
+            _ => Misread::TooGreat,
+        },
+        _ => mults,
+    }
+}
+
+/// Multipliers by which no point is better, on a grid with this step.
+fn grid(step: Result<Frac, Unread>, mults: Result<Mults, Misread>) -> Result<Node, Misread>
+    ensures { result ≡ gridded mults step }
+{
+    match mults {
+        Ok(mults) => match step {
+            Ok(step) => Ok(Node::Grid { step, mults }),
+            Err(unread) => Err(misread(unread)),
+        },
+        Err(wrong) => Err(wrong_with(step, wrong)),
+    }
+}
+
+/// A leaf on the goal's grid behind its word.
+fn read_grid(alloc: Global, rest: Option<&[u8]>) -> Result<Result<Node, Misread>, Memory>
+    ensures { IfOk result (λ r. ReadsTexts (items.node_behind heads.Grid (more rest.entry)) r (IsSaidBehind node_head SaysNode heads.Grid (more rest.entry))) }
+{
+    let Some(text) = rest else {
+        return Ok(Err(Misread::NoShape));
+    };
+    let (step, behind) = first_piece(text);
+    let mults = read_mults(alloc, behind)?;
+    Ok(grid(read_exact(step), mults))
+}
+
 /// The number of a level behind its word.
 fn read_level(rest: Option<&[u8]>) -> Result<TreeItem, Misread>
     ensures { ReadsTexts (items.node_behind heads.Level (more rest.entry)) result (IsSaidBehind tree_head SaysTree heads.Level (more rest.entry)) }
@@ -182,17 +221,19 @@ fn tree_item_of(
         NodeWord::Clash => Ok(as_item(read_clash(rest))),
         NodeWord::Farkas => Ok(as_item(farkas(read_mults(alloc, rest)?))),
         NodeWord::Bound => Ok(as_item(bound(read_mults(alloc, rest)?))),
+        NodeWord::Grid => Ok(as_item(read_grid(alloc, rest)?)),
         NodeWord::Level => Ok(read_level(rest)),
     }
 }
 
 /// The words of nodes, and of what begins a level.
-const NODE_WORDS: [NodeWord; 6] = [
+const NODE_WORDS: [NodeWord; 7] = [
     NodeWord::Split,
     NodeWord::Zero,
     NodeWord::Clash,
     NodeWord::Farkas,
     NodeWord::Bound,
+    NodeWord::Grid,
     NodeWord::Level,
 ];
 

@@ -11,6 +11,7 @@ pub(crate) enum NodeWord {
     Clash,
     Farkas,
     Bound,
+    Grid,
     Level,
 }
 
@@ -60,6 +61,7 @@ impl Worded for NodeWord {
             NodeWord::Clash => b"clash",
             NodeWord::Farkas => b"farkas",
             NodeWord::Bound => b"bound",
+            NodeWord::Grid => b"grid",
             NodeWord::Level => b"level",
         }
     }

@@ -1,5 +1,5 @@
 -- Lists that are told item by item.
-use Rattle.osrl_writing.proofs.Names.{◌≡◌, ℕ, ◌-◌, ◌<◌, ◌≤◌, Bool, cond, get_or, ◌≢◌, List, [], ◌∷◌, length, refl, ap, sym, lt-ltb, le-ltb, arith, decimal, codes, Nodes, none, element, chars, Event, nodes_events, ◌++◌, leaf, Frac, Mult, Cert, Node, Split, Zero, Clash, Farkas, Bound, indexed, Labels, name_at, row_values, values_part, values_part_unless_none, tree_values, dual_values, item_nodes, certificate_part, level_text, level_texts, node_text, round_text, rounds_part, ◌+◌, ◌∙◌, map, drop, ap₂}
+use Rattle.osrl_writing.proofs.Names.{◌≡◌, ℕ, ◌-◌, ◌<◌, ◌≤◌, Bool, cond, get_or, ◌≢◌, List, [], ◌∷◌, length, refl, ap, sym, lt-ltb, le-ltb, arith, decimal, codes, Nodes, none, element, chars, Event, nodes_events, ◌++◌, leaf, Frac, Mult, Cert, Node, Split, Zero, Clash, Farkas, Bound, Grid, indexed, Labels, name_at, row_values, values_part, values_part_unless_none, tree_values, dual_values, item_nodes, certificate_part, level_text, level_texts, node_text, round_text, rounds_part, ◌+◌, ◌∙◌, map, drop, ap₂}
 use Rattle.std.proofs.lemmas.List.{at_drop_more}
 use Rattle.osrl_writing.specs.declared.parts.Part.TheVariants.{Rounds}
 use Rattle.osrl_writing.specs.Writing.{rows_part}
@@ -33,6 +33,7 @@ several ls n [] (Split j b ∷ more) h k = refl
 several ls n [] (Zero j ∷ more) h k = refl
 several ls n [] (Clash c ∷ more) h k = refl
 several ls n [] (Farkas ms ∷ more) h k = refl
+several ls n [] (Grid g ms ∷ more) h k = refl
 several ls n [] (Bound ms ∷ []) h k = absurd (h refl)
 several ls n [] (Bound ms ∷ m ∷ more) h k = refl
 
@@ -62,6 +63,7 @@ tree_then ls n [] (Split j b ∷ ns) more k = refl
 tree_then ls n [] (Zero j ∷ ns) more k = refl
 tree_then ls n [] (Clash c ∷ ns) more k = refl
 tree_then ls n [] (Farkas ms ∷ ns) more k = refl
+tree_then ls n [] (Grid g ms ∷ ns) more k = refl
 tree_then ls n [] (Bound ms ∷ []) more k = rows_then_by (codes "constraints") (codes "dualValues") (row_values ls n ms) more k
 tree_then ls n [] (Bound ms ∷ m ∷ ns) more k = refl
 

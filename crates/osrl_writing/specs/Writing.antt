@@ -10,7 +10,7 @@ use Rattle.fraction.specs.declared.frac.Frac.{Frac}
 use Rattle.decimal_text.specs.Exact.{ratio_text}
 use Rattle.certificate.specs.declared.lists.Mult.{Mult}
 use Rattle.certificate.specs.declared.nodes.Node.{Node}
-use Rattle.certificate.specs.declared.nodes.Node.TheVariants.{Split, Zero, Clash, Farkas, Bound}
+use Rattle.certificate.specs.declared.nodes.Node.TheVariants.{Split, Zero, Clash, Farkas, Bound, Grid}
 use Rattle.certificate.specs.declared.nodes.Cert.{Cert}
 use Rattle.certificate.specs.declared.causes.Cause.{Cause}
 use Rattle.certificate.specs.declared.causes.Cause.TheVariants as causes
@@ -91,6 +91,7 @@ node_text (Zero j) = codes "zero " ++ decimal j
 node_text (Clash c) = codes "clash " ++ decimal c
 node_text (Farkas ms) = codes "farkas" ++ flat_map mult_text ms
 node_text (Bound ms) = codes "bound" ++ flat_map mult_text ms
+node_text (Grid g ms) = codes "grid " ++ (ratio_text (ratio g) ++ flat_map mult_text ms)
 
 abbrev pub round_text : List Mult → List ℕ
 round_text ms = round_word ++ flat_map mult_text ms

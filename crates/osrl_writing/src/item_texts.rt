@@ -1,12 +1,15 @@
 //! The texts of a certificate's items.
 
-ghost use Rattle.std.specs.Prelude.{◌≡◌, ◌++◌, OnOk, IfOk, flat_map, decimal};
+ghost use Rattle.std.specs.Prelude.{◌≡◌, ◌++◌, OnOk, IfOk, codes, flat_map, decimal};
+ghost use Rattle.decimal_text.specs.Exact.{ratio_text};
+ghost use Rattle.fraction.specs.Frac.{ratio};
 ghost use Rattle.certificate.specs.declared.causes.Cause.TheVariants as causes;
 ghost use Rattle.osrl_writing.specs.Writing as writing;
 
 use crate::words::Worded;
 use certificate::{Cause, Mult, Node, Place};
 use decimal_text::write_ratio;
+use fraction::Frac;
 use itoa::Buffer;
 use os_io::{Memory, Text};
 use std::alloc::Global;
@@ -21,14 +24,32 @@ fn push_mult(text: &mut Text, mult: Mult) -> Result<(), Memory>
     write_ratio(mult.value, text)
 }
 
+/// Appends multipliers.
+fn push_mults(text: &mut Text, mults: &[Mult]) -> Result<(), Memory>
+    ensures { OnOk result (text.new ≡ text.old ++ flat_map writing.mult_text mults.now) }
+{
+    for mult in mults {
+        push_mult(text, *mult)?;
+    }
+    Ok(())
+}
+
 /// A word, and multipliers behind it.
 fn mults_text(alloc: Global, word: &[u8], mults: &[Mult]) -> Result<Text, Memory>
     ensures { IfOk result (λ t. t ≡ word.now ++ flat_map writing.mult_text mults.now) }
 {
     let mut text = Text::from_slice(alloc, word)?;
-    for mult in mults {
-        push_mult(&mut text, *mult)?;
-    }
+    push_mults(&mut text, mults)?;
+    Ok(text)
+}
+
+/// The text of a leaf on the goal's grid.
+fn grid_text(alloc: Global, step: Frac, mults: &[Mult]) -> Result<Text, Memory>
+    ensures { IfOk result (λ t. t ≡ codes "grid " ++ (ratio_text (ratio step) ++ flat_map writing.mult_text mults.now)) }
+{
+    let mut text = Text::from_slice(alloc, b"grid ")?;
+    write_ratio(step, &mut text)?;
+    push_mults(&mut text, mults)?;
     Ok(text)
 }
 
@@ -64,6 +85,7 @@ pub(crate) fn node_text(alloc: Global, node: &Node) -> Result<Text, Memory>
         Node::Clash { col } => counted_text(alloc, b"clash ", *col),
         Node::Farkas(mults) => mults_text(alloc, b"farkas", mults.as_slice()),
         Node::Bound(mults) => mults_text(alloc, b"bound", mults.as_slice()),
+        Node::Grid { step, mults } => grid_text(alloc, *step, mults.as_slice()),
     }
 }
 

@@ -121,11 +121,11 @@ module _ (P : Problem) (C : Case) (rest : List Case) (m : SearchMoment) (h : Hol
   }
 
   -- the best point stays
-  same_best : (after : List Case) (node : Node) → All (IsOpen L) after → ((z : Option Ratio) → Within l z m.best → (more : List Node) → ProvesAll after more z → ProvesAll (C ∷ rest) (node ∷ more) z) → Holds P (record m { waiting = after; nodes = m.nodes ++ node ∷ [] })
+  pub same_best : (after : List Case) (node : Node) → All (IsOpen L) after → ((z : Option Ratio) → Within l z m.best → (more : List Node) → ProvesAll after more z → ProvesAll (C ∷ rest) (node ∷ more) z) → Holds P (record m { waiting = after; nodes = m.nodes ++ node ∷ [] })
   same_best after node cases step = node_holds after node m.best cases h.best (λ e. e) (λ z w. w) step
 
   -- a leaf by a bound that isn't better than the best value
-  passed_holds : (b : Ratio) (ms : List Multiplier) → IsNumber b → IsBound C.program ms b → IsPassed l m.best b → Holds P (closed_by_leaf m rest (BoundBy ms))
+  pub passed_holds : (b : Ratio) (ms : List Multiplier) → IsNumber b → IsBound C.program ms b → IsPassed l m.best b → Holds P (closed_by_leaf m rest (BoundBy ms))
   passed_holds b ms n bound p = same_best rest (BoundBy ms) others (λ z w more o. closes z (subst (Within l z) p.is w) more o)
     where
       number : IsNumber (minimising L (reached l p.found))
@@ -136,7 +136,7 @@ module _ (P : Problem) (C : Case) (rest : List Case) (m : SearchMoment) (h : Hol
       closes (Some a) w more o = bound_first C rest ms b a more n bound (at_most-trans a (minimising L (reached l p.found)) b number w p.passed) o
 
   -- a leaf at a point that becomes the best
-  taken_holds : (b : Ratio) (x : List Ratio) (ms : List Multiplier) (vs : List Ratio) → IsBest C.program b x ms → IsHopeful l m.best b → AreMetBelow C.program x (width C.program) → PointFits P x → AreValuesAt P x vs → Holds P (closed_by_leaf (record m { best = Some (record { point = x; values = vs }) }) rest (BoundBy ms))
+  pub taken_holds : (b : Ratio) (x : List Ratio) (ms : List Multiplier) (vs : List Ratio) → IsBest C.program b x ms → IsHopeful l m.best b → AreMetBelow C.program x (width C.program) → PointFits P x → AreValuesAt P x vs → Holds P (closed_by_leaf (record m { best = Some (record { point = x; values = vs }) }) rest (BoundBy ms))
   taken_holds b x ms vs is_best hopeful met fits values =
       node_holds rest (BoundBy ms) (Some f) others (λ g e. let q : f ≡ g = cc in subst (IsFound P l) q found) (λ e. absurd (cc)) (weaker l m.best f better number) closes
     where
@@ -169,10 +169,10 @@ module _ (P : Problem) (C : Case) (rest : List Case) (m : SearchMoment) (h : Hol
       closes (Some a) w more o = bound_first C rest ms b a more is_best.number is_best.bound (at_most-trans a (minimising L v) b number w (at_most-same (minimising L v) b same)) o
 
   -- two cases in place of one
-  both_open : (A B : Case) → IsOpen L A → IsOpen L B → All (IsOpen L) (A ∷ B ∷ rest)
+  pub both_open : (A B : Case) → IsOpen L A → IsOpen L B → All (IsOpen L) (A ∷ B ∷ rest)
   both_open A B a b = All-cons (IsOpen L) A (B ∷ rest) a (All-cons (IsOpen L) B rest b others)
 
-  divide_holds : (j : ℕ) → IsZeroBranch C.program j → Holds P (divide m C rest j)
+  pub divide_holds : (j : ℕ) → IsZeroBranch C.program j → Holds P (divide m C rest j)
   divide_holds j zero =
       same_best (divided_cases C j rest) (ZeroAt j) (both_open _ _ (open_zero L C this j zero.variable) (open_own L C this j zero.variable))
       (λ z w more o. zero_first C rest j more z zero o)
@@ -190,7 +190,7 @@ module _ (P : Problem) (C : Case) (rest : List Case) (m : SearchMoment) (h : Hol
   taken t None f ms n e = (refl, cc)
   taken t (Some r) f ms n e = absurd (cc)
 
-  takes_hold : (t : Terms) (x : List Ratio) (ms : List Multiplier) (n : SearchMoment) → (C.ray ≡ None → (b : Ratio) × IsBest C.program b x ms × IsHopeful l m.best b) → TakesPoint P t C rest m x ms (To n) → Holds P n
+  pub takes_hold : (t : Terms) (x : List Ratio) (ms : List Multiplier) (n : SearchMoment) → (C.ray ≡ None → (b : Ratio) × IsBest C.program b x ms × IsHopeful l m.best b) → TakesPoint P t C rest m x ms (To n) → Holds P n
   takes_hold t x ms n is_best (met, inl (f, e)) = absurd (cc)
   takes_hold t x ms n is_best (met, inr (vs, fits, values, e)) =
       let (none, q) = taken t C.ray (record { point = x; values = vs }) ms n e in
@@ -202,7 +202,7 @@ module _ (P : Problem) (C : Case) (rest : List Case) (m : SearchMoment) (h : Hol
   meets_hold t x ms n some (inr p) = takes_hold t x ms n (λ e. absurd (some e)) p
 
 -- a cut that was tried is one of the program
-cut_of : (I : Instance) (x : List Ratio) (ss : List Status) (ms : List Multiplier) (cs : List ℤ) (k : ℤ) → TriesBasis I x ss (Cut ms cs k) → MakesCut I ms cs k
+pub cut_of : (I : Instance) (x : List Ratio) (ss : List Status) (ms : List Multiplier) (cs : List ℤ) (k : ℤ) → TriesBasis I x ss (Cut ms cs k) → MakesCut I ms cs k
 cut_of I x ss ms cs k (inl (w, e)) = absurd (cc)
 cut_of I x ss ms cs k (inr (inl (j, p, n, e))) = absurd (cc)
 cut_of I x ss ms cs k (inr (inr (j, u, p, n, d, t))) = of_equation t
@@ -229,10 +229,10 @@ module _ (P : Problem) (C : Case) (rest : List Case) (m : SearchMoment) (is : m.
   pub this : IsOpen m.level.program C
   this = All-head (IsOpen m.level.program) C rest both
 
-  others : All (IsOpen m.level.program) rest
+  pub others : All (IsOpen m.level.program) rest
   others = All-tail (IsOpen m.level.program) C rest both
 
-  so_far : Leads m.level h.cut (C ∷ rest) m.nodes m.best
+  pub so_far : Leads m.level h.cut (C ∷ rest) m.nodes m.best
   so_far = subst (λ cs. Leads m.level h.cut cs m.nodes m.best) is h.leads
 
   -- the case with the ray of its direction
@@ -248,7 +248,7 @@ module _ (P : Problem) (C : Case) (rest : List Case) (m : SearchMoment) (is : m.
       }
 
   -- a cut is a row more of the one case
-  cut_holds : (ms : List Multiplier) (cs : List ℤ) (k : ℤ) → P.later ≡ [] → m.nodes ≡ [] → MakesCut C.program ms cs k → Holds P (with_cut m C rest ms cs k)
+  pub cut_holds : (ms : List Multiplier) (cs : List ℤ) (k : ℤ) → P.later ≡ [] → m.nodes ≡ [] → MakesCut C.program ms cs k → Holds P (with_cut m C rest ms cs k)
   cut_holds ms cs k one none c =
       let root = h.root none in
       let all : C ∷ rest ≡ undivided h.cut ∷ [] = sym is ∙ root in
@@ -345,7 +345,7 @@ module _ (P : Problem) (m : SearchMoment) (h : Holds P m) (none : m.waiting ≡ 
       (λ k q. let same : f ≡ k = cc in subst (IsFound P (next_level_at m f e g gs).level) same (record { feasible = there; values = found.values; fits = found.fits }))
       (λ q. absurd (cc)) (rounds_on g gs later)
 
-  closes_hold : (t : Terms) (n : SearchMoment) (best : Option Found) (gs : List Goal) → m.best ≡ best → m.level.later ≡ gs → ClosesLevel P t m best gs (To n) → Holds P n
+  pub closes_hold : (t : Terms) (n : SearchMoment) (best : Option Found) (gs : List Goal) → m.best ≡ best → m.level.later ≡ gs → ClosesLevel P t m best gs (To n) → Holds P n
   closes_hold t n None gs some later e = absurd (cc)
   closes_hold t n (Some f) [] some later e = absurd (cc)
   closes_hold t n (Some f) (g ∷ gs) some later (inl (e, end, q)) = let same : next_level_at m f e g gs ≡ n = cc in subst (Holds P) same (next_level_holds f e g gs some later end)

@@ -44,10 +44,10 @@ module _ (P : Problem) (m : SearchMoment) (h : Holds P m) where
   early_shown None c e = tt
   early_shown (Some f) c e = found_point P m.level f h.level (h.best f e)
 
-  given_shown : (c : Cause) (o : Outcome) (d e : Clock) → Out o d ≡ Out (early m.best c) e → IsShown P o
+  pub given_shown : (c : Cause) (o : Outcome) (d e : Clock) → Out o d ≡ Out (early m.best c) e → IsShown P o
   given_shown c o d e q = subst (IsShown P) (out_is q) (early_shown m.best c refl)
 
-  stops_shown : (t : Terms) (o : Outcome) (d : Clock) → StopsBefore P t m (Out o d) → IsShown P o
+  pub stops_shown : (t : Terms) (o : Outcome) (d : Clock) → StopsBefore P t m (Out o d) → IsShown P o
   stops_shown t o d (inl (limit, e)) = given_shown _ o d _ e
   stops_shown t o d (inr (within, stop, e)) = given_shown _ o d _ e
 
@@ -67,7 +67,7 @@ module _ (P : Problem) (m : SearchMoment) (h : Holds P m) where
         let reaches = subst (λ gs. Reaches P.program P.later f.values m.level.shown m.level.program gs) later (h.level.reaches f.point f.values found.feasible found.values) in
         (found_point P m.level f h.level found, rounds_closed P m h, reaches_end m.level.program (shown_at m) (reached m.level f) (best_proves P m h none f e) m.level.shown P.program P.later f.values count refl reaches)
 
-    closes_shown : (t : Terms) (o : Outcome) (d : Clock) (best : Option Found) (gs : List Goal) → m.best ≡ best → m.level.later ≡ gs → ClosesLevel P t m best gs (Out o d) → IsShown P o
+    pub closes_shown : (t : Terms) (o : Outcome) (d : Clock) (best : Option Found) (gs : List Goal) → m.best ≡ best → m.level.later ≡ gs → ClosesLevel P t m best gs (Out o d) → IsShown P o
     closes_shown t o d None gs some later e = subst (IsShown P) (out_is e) (infeasible_shown some)
     closes_shown t o d (Some f) [] some later e = subst (IsShown P) (out_is e) (optimal_shown f some later)
     closes_shown t o d (Some f) (g ∷ gs) some later (inl (e, end, q)) = absurd (cc)
@@ -76,7 +76,7 @@ module _ (P : Problem) (m : SearchMoment) (h : Holds P m) where
 
   -- case C is open
   module _ (t : Terms) (C : Case) (rest : List Case) (opened : IsOpen m.level.program C) where
-    takes_shown : (x : List Ratio) (ms : List Multiplier) (o : Outcome) (d : Clock) → IsRelaxed C.program x → TakesPoint P t C rest m x ms (Out o d) → IsShown P o
+    pub takes_shown : (x : List Ratio) (ms : List Multiplier) (o : Outcome) (d : Clock) → IsRelaxed C.program x → TakesPoint P t C rest m x ms (Out o d) → IsShown P o
     takes_shown x ms o d relaxed (met, inl (f, e)) = given_shown _ o d _ e
     takes_shown x ms o d relaxed (met, inr (vs, fits, values, takes)) = by C.ray refl takes
       where

@@ -1,5 +1,5 @@
 -- Numbers, ends and places: what single columns need.
-use Rattle.std.proofs.Common.{◌≡◌, zero, suc, ℤ, pos, negsuc, ◌+ℤ◌, ◌*ℤ◌, neg_ℤ, ◌<ℤ◌, ◌≤ℤ◌, true, false, Option, None, Some, IfSome, IsSome, refl, sym, ◌∙◌, ap, subst, arith}
+use Rattle.std.proofs.Common.{◌≡◌, zero, suc, ℤ, pos, negsuc, ◌+ℤ◌, ◌*ℤ◌, neg_ℤ, ◌<ℤ◌, ◌≤ℤ◌, false, Option, None, Some, IfSome, IsSome, refl, sym, ◌∙◌, ap, subst, arith}
 use Rattle.std.proofs.Math.IntN.{zero-*ℤ}
 use Rattle.std.proofs.lemmas.Int.{ints, by_lt_z}
 use Rattle.std.specs.Prelude.{int_lt}
@@ -15,7 +15,7 @@ use Rattle.simplex_rules.specs.declared.columns.Status.{Status}
 use Rattle.simplex_rules.specs.declared.columns.Status.TheVariants.{Basic, Lower, Upper, Zero}
 use Rattle.simplex_rules.specs.declared.columns.Way.{Way}
 use Rattle.simplex_rules.specs.declared.columns.Way.TheVariants.{Rise, Fall}
-use Rattle.simplex_rules.specs.Statuses.{is_basic, rest_at, has_width, less}
+use Rattle.simplex_rules.specs.Statuses.{is_basic, rest_at, has_width, less, HasPlace}
 use Rattle.simplex_rules.specs.Turns.{rate, MovesIn, Can, Misses}
 use Rattle.simplex_rules.specs.Reports.{against}
 use Rattle.evidence.proofs.Examples.{times_one}
@@ -81,13 +81,6 @@ below_no x y e h = decide (x.num *ℤ pos y.den) (y.num *ℤ pos x.den) e h
   where
     decide : (a b : ℤ) → int_lt a b ≡ false → a <ℤ b → ⊥
     decide a b e h = grind (arith, ints)
-
--- a column that isn't basic stands where it has an end; at the upper one only where the ends differ
-abbrev pub HasPlace : Range → Status → Type 0
-HasPlace r Basic = Unit {0}
-HasPlace r Lower = IsSome r.lb
-HasPlace r Upper = IsSome r.ub × (has_width r ≡ true)
-HasPlace r Zero = (r.lb ≡ None) × (r.ub ≡ None)
 
 -- both ends, where they don't differ
 no_room : (lo hi : Option Ratio) → IfSome lo IsNumber → IfSome hi IsNumber → ((l h : Ratio) → lo ≡ Some l → hi ≡ Some h → IsBelow h l → ⊥) → IsSome lo → less lo hi ≡ false → IsSome hi × (or_none hi ≈ or_none lo)

@@ -5,3 +5,8 @@ pub mod Soundness
 pub mod Moments
 pub mod Looks
 pub mod OneEnd
+pub mod RuleMoments
+pub mod RuleEnds
+pub mod LeastIndices
+pub mod FastRules
+pub mod NamedRules

@@ -13,13 +13,13 @@ use Rattle.simplex_rules.specs.declared.columns.Status.{Status}
 use Rattle.simplex_rules.specs.declared.columns.Status.TheVariants.{Basic}
 use Rattle.simplex_rules.specs.declared.columns.Way.{Way}
 use Rattle.simplex_rules.specs.declared.columns.Way.TheVariants.{Rise, Fall}
-use Rattle.simplex_rules.specs.Statuses.{status_at, basic_in, has_width, less, first_status, upper_status, IsFirstBasis, HasDictionary, HasValues}
+use Rattle.simplex_rules.specs.Statuses.{status_at, basic_in, has_width, less, first_status, upper_status, IsFirstBasis, HasDictionary, HasValues, HasPlace, IsPlaced}
 use Rattle.simplex_rules.specs.Turns.{rate, MovesIn, Can, Misses, missed_status, reached_status, NoneOut, IsFirstHelp, NoneHelps, until_by, until_end, across, way_of, left_status}
 use Rattle.simplex_rules.specs.Ends.{Terms, Clock, End, Empty, Best, Endless, TurnsOut, TooWide, Stopped, Shown}
 use Rattle.simplex_rules.specs.Reports.{IsBoundAt, multipliers_of}
 use Rattle.simplex_rules.specs.Runs.{HasNoClash, Moment, To, Out, PassesTurn, BeginsTurn, MovesColumn, Chooses, IsNext, ComesInRun, begins, goes_on, Run}
-use Rattle.simplex_rules.proofs.Facts.{HasPlace, some_is, has_number}
-use Rattle.simplex_rules.proofs.Soundness.{IsPlaced, end_missed, IsMissed, farkas, basic_is, relaxed, best, direction, not_zeroed}
+use Rattle.simplex_rules.proofs.Facts.{some_is, has_number}
+use Rattle.simplex_rules.proofs.Soundness.{end_missed, IsMissed, farkas, basic_is, relaxed, best, direction, not_zeroed}
 
 -- the first places
 first_place : (lo hi : Option Ratio) (r : Range) → r.lb ≡ lo → r.ub ≡ hi → HasPlace r (first_status lo hi)
@@ -66,7 +66,7 @@ upper_place r s =
     low_some None hi e = absurd (cc)
     low_some (Some l) hi e = refl
 
-missed_place : (w : Way) (r : Range) (x : Ratio) → Misses w r x → HasPlace r (missed_status w r)
+pub missed_place : (w : Way) (r : Range) (x : Ratio) → Misses w r x → HasPlace r (missed_status w r)
 missed_place Rise r x (l, e, h) = some_is e
 missed_place Fall r x (l, e, h) = upper_place r (some_is e)
 
@@ -74,7 +74,7 @@ until_some : (o : Option Ratio) (x by q : Ratio) → until_end o x by ≡ Some q
 until_some None x by q e = absurd (cc)
 until_some (Some l) x by q e = refl
 
-reached_place : (z : ℤ) (r : Range) (x by q : Ratio) → until_by z r x by ≡ Some q → HasPlace r (reached_status (way_of z) r)
+pub reached_place : (z : ℤ) (r : Range) (x by q : Ratio) → until_by z r x by ≡ Some q → HasPlace r (reached_status (way_of z) r)
 reached_place (pos zero) r x by q e = absurd (cc)
 reached_place (pos (suc n)) r x by q e = upper_place r (until_some r.ub x by q e)
 reached_place (negsuc n) r x by q e = until_some r.lb x by q e
@@ -84,7 +84,7 @@ across_some None hi q e = absurd (cc)
 across_some (Some l) None q e = absurd (cc)
 across_some (Some l) (Some h) q e = (refl, refl)
 
-flipped_place : (w : Way) (r : Range) (q : Ratio) → across r.lb r.ub ≡ Some q → HasPlace r (reached_status w r)
+pub flipped_place : (w : Way) (r : Range) (q : Ratio) → across r.lb r.ub ≡ Some q → HasPlace r (reached_status w r)
 flipped_place Rise r q e = let p = across_some r.lb r.ub q e in upper_place r p.1
 flipped_place Fall r q e = let p = across_some r.lb r.ub q e in p.0
 
@@ -137,7 +137,7 @@ comes_placed {I} {zeroed} {t} {c} (begins {ss} f) = fresh_placed I ss f
 comes_placed {I} {zeroed} {t} {c} (goes_on {m} {n} before next) = next_placed I zeroed t m n (comes_placed before) next
 
 -- the end of a run is true
-misses_end : (w : Way) (r : Range) (x : Ratio) → Misses w r x → (e : Ratio) × (end_missed w r ≡ Some e) × IsMissed w e x
+pub misses_end : (w : Way) (r : Range) (x : Ratio) → Misses w r x → (e : Ratio) × (end_missed w r ≡ Some e) × IsMissed w e x
 misses_end Rise r x h = h
 misses_end Fall r x h = h
 

@@ -20,7 +20,7 @@ use Rattle.simplex_rules.specs.declared.columns.Status.{Status}
 use Rattle.simplex_rules.specs.declared.columns.Status.TheVariants.{Basic}
 use Rattle.simplex_rules.specs.declared.columns.Way.{Way}
 use Rattle.simplex_rules.specs.declared.columns.Way.TheVariants.{Rise, Fall}
-use Rattle.simplex_rules.specs.Statuses.{status_at, basic_in, resting, basic_value, IsFirstBasis, HasDictionary, HasValues}
+use Rattle.simplex_rules.specs.Statuses.{status_at, basic_in, resting, basic_value, IsFirstBasis, HasDictionary, HasValues, IsPlaced}
 use Rattle.simplex_rules.specs.Turns.{rate, MovesIn, Misses, IsLeastOut, IsFirstHelp, IsFirstLimit, NoLimit, pivoted, missed_status, left_status}
 use Rattle.simplex_rules.specs.Widths.{ValuesFit}
 use Rattle.simplex_rules.specs.Ends.{Terms, Clock, End, Clash, TooWide}
@@ -29,18 +29,18 @@ use Rattle.simplex_rules.specs.Runs.{HasNoClash, Moment, Next, To, Out, PassesTu
 use Rattle.bases.proofs.Lists as Lists
 use Rattle.bases.proofs.Lists.{value_by-number}
 use Rattle.simplex_rules.proofs.Facts.{has_number}
-use Rattle.simplex_rules.proofs.Soundness.{IsPlaced, rest_number, u_number, bound_number}
+use Rattle.simplex_rules.proofs.Soundness.{rest_number, u_number, bound_number}
 use Rattle.simplex_rules.proofs.Moments.{comes_placed, fresh_placed, next_placed}
 
-one_reduced : (x y z : Ratio) → IsNumber z → IsReduced x → IsReduced y → IsSame x z → IsSame y z → x ≡ y
+pub one_reduced : (x y z : Ratio) → IsNumber z → IsReduced x → IsReduced y → IsSame x z → IsSame y z → x ≡ y
 one_reduced x y z p r s e f = same_reduced x y r s (IsSame-trans x z y p e (sym f))
 
 -- one dictionary, and one value of each column
 module _ (I : Instance) (good : IsInstance I) (zeroed : Bool) (ss : List Status) (placed : IsPlaced I ss) (room : HasNoClash I) where
-  one_dictionary : (u v : Entries) → HasDictionary I zeroed ss u → HasDictionary I zeroed ss v → u ≡ v
+  pub one_dictionary : (u v : Entries) → HasDictionary I zeroed ss u → HasDictionary I zeroed ss v → u ≡ v
   one_dictionary u v d e = fun_ext (λ b. fun_ext (λ c. Lists.one_dictionary (width I) (height I + 1) (rows_with_goal zeroed I) (basic_in ss) u v d e b c))
 
-  one_values : (u : Entries) (v w : Values) → HasDictionary I zeroed ss u → HasValues I ss u v → HasValues I ss u w → v ≡ w
+  pub one_values : (u : Entries) (v w : Values) → HasDictionary I zeroed ss u → HasValues I ss u v → HasValues I ss u w → v ≡ w
   one_values u v w d p q = fun_ext each
     where
       each : (c : ℕ) → v c ≡ w c
@@ -51,11 +51,11 @@ module _ (I : Instance) (good : IsInstance I) (zeroed : Bool) (ss : List Status)
           (λ k. one_reduced (v c) (w c) (resting I ss c) (rest_number I good zeroed ss u d placed room c) (p.reduced c) (q.reduced c) (p.nonbasic c h k) (q.nonbasic c h k)))
           (λ h. p.past c h ∙ sym (q.past c h))
 
-one_point : (I : Instance) (w : Values) (x y : List Ratio) → AreValues I w x → AreValues I w y → x ≡ y
+pub one_point : (I : Instance) (w : Values) (x y : List Ratio) → AreValues I w x → AreValues I w y → x ≡ y
 one_point I w x y p q =
     ext_get_or none x y (p.count ∙ sym q.count) (λ j h. let k : j < width I = let n = p.count in omega arith in p.values j k ∙ sym (q.values j k))
 
-one_fresh : (I : Instance) (ss ts : List Status) → IsFirstBasis I ss → IsFirstBasis I ts → ss ≡ ts
+pub one_fresh : (I : Instance) (ss ts : List Status) → IsFirstBasis I ss → IsFirstBasis I ts → ss ≡ ts
 one_fresh I ss ts f g =
     ext_get_or Basic ss ts (f.count ∙ sym g.count)
     (λ c h. let n = f.count in by_lt c (width I)
@@ -75,13 +75,13 @@ crossed r x hn p room l h e f a b =
     let all = ⋖-≲ first second in
     room (l, h, e, f, all.is)
 
-misses_once : (r : Range) (x : Ratio) → HasNumbers r → IsNumber x → (IsEmpty r → ⊥) → (v w : Way) → Misses v r x → Misses w r x → v ≡ w
+pub misses_once : (r : Range) (x : Ratio) → HasNumbers r → IsNumber x → (IsEmpty r → ⊥) → (v w : Way) → Misses v r x → Misses w r x → v ≡ w
 misses_once r x hn p room Rise Rise a b = refl
 misses_once r x hn p room Fall Fall a b = refl
 misses_once r x hn p room Rise Fall (l, e, a) (h, f, b) = absurd (crossed r x hn p room l h e f a b)
 misses_once r x hn p room Fall Rise (h, f, b) (l, e, a) = absurd (crossed r x hn p room l h e f a b)
 
-moves_once : (wanted : Way) (x : Ratio) (v w : Way) → MovesIn wanted (rate v x) → MovesIn wanted (rate w x) → v ≡ w
+pub moves_once : (wanted : Way) (x : Ratio) (v w : Way) → MovesIn wanted (rate v x) → MovesIn wanted (rate w x) → v ≡ w
 moves_once wanted x Rise Rise a b = refl
 moves_once wanted x Fall Fall a b = refl
 moves_once Rise x Rise Fall a b = let k : pos 0 <ℤ neg_ℤ x.num = b in absurd (omega (arith, ints))

@@ -10,7 +10,7 @@ use Rattle.rational.specs.Width.{IsReduced}
 use Rattle.evidence.specs.Sums.{none, total}
 use Rattle.evidence.specs.Instance.{Range, Instance, IsInstance, HasNumbers, width, height, variable_at, row_at, column_at, cost_at, entry_at, coefficient_at, minimising}
 use Rattle.evidence.specs.Point.{value_at, activity, objective, IsBetween, NeverLeaves}
-use Rattle.evidence.specs.Cases.{Multiplier, end_by, end_of, or_none, form, low_sum, AreLegal, IsFarkas}
+use Rattle.evidence.specs.Cases.{Multiplier, end_by, end_of, or_none, form, low_sum, AreLegal, IsFarkas, IsBound}
 use Rattle.evidence.proofs.Numbers.{◌≈◌, ◌≲◌, ◌⋖◌, ≈-refl, ≈-from, ≈-sym, ◌⊙◌, ◌▹◌, ≲-from, ⋖-≲, ≲-⋖, ⋖-absurd, ≲-trans, product-number, product-≈, product-none, sum-≈, sum-none, none-sum, sum_swap, negative-product}
 use Rattle.evidence.proofs.Totals.{total-number, total-≈, total-none, total-start, total-same, total-negative}
 use Rattle.evidence.proofs.Columns.{by_lt, by_eq, by_bool, none-number, pick, value-number, entry-number, column-numbers}
@@ -27,19 +27,14 @@ use Rattle.simplex_rules.specs.declared.columns.Status.{Status}
 use Rattle.simplex_rules.specs.declared.columns.Status.TheVariants.{Basic, Lower, Upper, Zero}
 use Rattle.simplex_rules.specs.declared.columns.Way.{Way}
 use Rattle.simplex_rules.specs.declared.columns.Way.TheVariants.{Rise, Fall}
-use Rattle.simplex_rules.specs.Statuses.{status_at, is_basic, basic_in, resting, basic_value, HasDictionary, HasValues}
+use Rattle.simplex_rules.specs.Statuses.{status_at, is_basic, basic_in, resting, basic_value, HasDictionary, HasValues, HasPlace, IsPlaced}
 use Rattle.simplex_rules.specs.Turns.{rate, MovesIn, NoneOut, Helps, NoLimit, until_by, until_end, across, Can}
 use Rattle.simplex_rules.specs.Ends.{IsRelaxed, IsDirection, IsBest}
 use Rattle.simplex_rules.specs.Reports.{base, against, factor_at, multipliers_of, AreValues, movement, step_of, bound_sum}
 use Rattle.simplex_rules.specs.Runs.{HasNoClash}
 use Rattle.simplex_rules.proofs.Core.{value_≈, form_by_list, value_with, value_with-number, row_value, base-number, base_sum, base_others, unit_step, unit_step-number, unit_value, rate-number}
 use Rattle.simplex_rules.proofs.MultiplierLists.{collected_total, collected_all, collected_ascending}
-use Rattle.simplex_rules.proofs.Facts.{HasPlace, met, rest_between, kept_between, rest-number, zero_times, some_is, or_is, above_difference, below_difference, if_some, at_least_none, at_most_none, below_none}
-
--- what a moment of a run has: a place for each column
-pub record IsPlaced (I : Instance) (ss : List Status) : Type 0 where
-  pub count : length ss ≡ goal_column I
-  pub places : (c : ℕ) → c < goal_column I → HasPlace (column_at I c) (status_at ss c)
+use Rattle.simplex_rules.proofs.Facts.{met, rest_between, kept_between, rest-number, zero_times, some_is, or_is, above_difference, below_difference, if_some, at_least_none, at_most_none, below_none}
 
 -- one more term
 pub last_term : (n m : ℕ) (f : ℕ → Ratio) → total none (n + (m + 1)) f ≡ sum (total none (n + m) f) (f (n + m))
@@ -294,6 +289,20 @@ module _ (I : Instance) (good : IsInstance I) (zeroed : Bool) (ss : List Status)
         ⊙ ended_sum goal Fall none none-number)
         ▹ sym (total-start s (columns I) (λ c. product (u goal c) (rest c)))
 
+    -- a bound by the goal's entries alone, wherever the basic columns are
+    pub bounds : zeroed ≡ false → (b : Ratio) → IsReduced b → IsSame b (bound_sum I ss u) → IsNumber b × IsBound I (multipliers_of I u goal Fall) b
+    bounds z b reduced same =
+        let start = minimising I I.goal.constant in
+        let p : IsNumber start = minimising-number I I.goal.constant good.constant in
+        let is : b ≈ bound_sum I ss u = record { left = reduced.0; right = bound_number; is = same } in (
+          reduced.0,
+          record {
+            legal = bound_legal;
+            costs = λ j h. let f = subst (λ (a : Bool). form I (multipliers_of I u goal Fall) j ≈ goal_row a I j) z (bound_form j h) in f.is;
+            reaches = let a = ≲-from (is ⊙ ≈-sym (bound_low start p)) in a.is;
+          },
+        )
+
   -- the values of the columns
   module _ (w : Values) (values : HasValues I ss u w) where
     pub w_number : (c : ℕ) → IsNumber (w c)
@@ -381,20 +390,10 @@ module _ (I : Instance) (good : IsInstance I) (zeroed : Bool) (ss : List Status)
 
       pub best : zeroed ≡ false → NoneOut I ss u w → ((k : ℕ) → k < goal → (v : Way) → basic k ≡ false → Can v (column_at I k) (status_at ss k) → MovesIn Fall (rate v (u goal k)) → ⊥) → (b : Ratio) → IsReduced b → IsSame b (bound_sum I ss u) → IsBest I b x (multipliers_of I u goal Fall)
       best z none_out off b reduced same =
-          let start = minimising I I.goal.constant in
-          let p : IsNumber start = minimising-number I I.goal.constant good.constant in
           let o = objective_is z in
           let is : b ≈ bound_sum I ss u = record { left = reduced.0; right = o.right; is = same } in
-          record {
-            number = reduced.0;
-            bound = record {
-              legal = bound_legal off;
-              costs = λ j h. let f = subst (λ (a : Bool). form I (multipliers_of I u goal Fall) j ≈ goal_row a I j) z (bound_form off j h) in f.is;
-              reaches = let a = ≲-from (is ⊙ ≈-sym (bound_low off start p)) in a.is;
-            };
-            reached = let a = is ⊙ ≈-sym o in a.is;
-            relaxed = relaxed none_out;
-          }
+          let shown = bounds off z b reduced same in
+          record { number = shown.0; bound = shown.1; reached = let a = is ⊙ ≈-sym o in a.is; relaxed = relaxed none_out }
 
   -- a column that moves without end
   module _ (e : ℕ) (way : Way) (w : Values) (inside_e : e < goal) (helps : Helps I ss u w goal Fall e way) (free : NoLimit I ss u w e way) where

@@ -9,3 +9,7 @@ pub mod Ends
 pub mod Reports
 pub mod Runs
 pub mod Looks
+pub mod Rules
+pub mod RuleRuns
+pub mod Fast
+pub mod NamedRules

@@ -1,5 +1,5 @@
 -- Bases of linear programs with bounded columns: each column is basic, or stands at one of its ends, or at 0 (Chvátal, Linear Programming, 1983, chapter 8).
-use Rattle.std.specs.Prelude.{◌≡◌, ℕ, ◌+◌, ◌<◌, ◌≤◌, Bool, true, false, cond, Option, None, Some, List, length, get_or}
+use Rattle.std.specs.Prelude.{◌≡◌, ℕ, ◌+◌, ◌<◌, ◌≤◌, Bool, true, false, cond, Option, None, Some, IsSome, List, length, get_or}
 use Rattle.rational.specs.Ratio.{Ratio, IsSame}
 use Rattle.rational.specs.Width.{IsReduced}
 use Rattle.evidence.specs.Sums.{none, is_below}
@@ -73,3 +73,15 @@ pub record IsFirstBasis (I : Instance) (ss : List Status) : Type 0 where
   pub count : length ss ≡ goal_column I
   pub variables : (j : ℕ) → j < width I → status_at ss j ≡ first_status (column_at I j).lb (column_at I j).ub
   pub rows : (i : ℕ) → width I + i < goal_column I → status_at ss (width I + i) ≡ Basic
+
+-- a column that isn't basic stands where it has an end; at the upper one only where the ends differ
+abbrev pub HasPlace : Range → Status → Type 0
+HasPlace r Basic = Unit {0}
+HasPlace r Lower = IsSome r.lb
+HasPlace r Upper = IsSome r.ub × (has_width r ≡ true)
+HasPlace r Zero = (r.lb ≡ None) × (r.ub ≡ None)
+
+-- what a moment of a run has: a place for each column
+pub record IsPlaced (I : Instance) (ss : List Status) : Type 0 where
+  pub count : length ss ≡ goal_column I
+  pub places : (c : ℕ) → c < goal_column I → HasPlace (column_at I c) (status_at ss c)

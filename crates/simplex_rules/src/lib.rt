@@ -13,10 +13,19 @@
 //! they say, `Reports` the multipliers, points and directions that they carry, and `Looks` what the looks of a run
 //! answered. They read the one dictionary of each basis; no rule says how a dictionary is made. [`Status`] is where a column
 //! stands, and [`Way`] whether a value rises or falls. Each function here is a law.
+//!
+//! What such a run leaves open can be chosen otherwise: how it begins, which columns a turn takes, and whether a bound is
+//! enough. `Rules` has these choices as a record of relations to what a run sees, what is asked of them for an end to be true
+//! (`AreLegalRules`) and for a run to have one (`AreSingleRules`), and least indices as one of them (`bland`); `RuleRuns` is the
+//! run by any rules, `Fast` the rules by which it goes on from the dictionary before, and `NamedRules` those with a name, over which
+//! laws range.
 #![tactic(auto)]
 
 mod columns;
 mod laws;
 
 pub use columns::{Status, Way};
-pub use laws::{moments_have_one_next, runs_are_sound, runs_end_at_one_basis, runs_have_one_end};
+pub use laws::{
+    moments_have_one_next, runs_are_by_least_indices, runs_are_sound, runs_by_rules_are_sound,
+    runs_by_rules_have_one_end, runs_end_at_one_basis, runs_have_one_end,
+};

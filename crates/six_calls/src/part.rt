@@ -4,7 +4,7 @@ ghost use Rattle.std.specs.Prelude.{◌≡◌};
 ghost use Rattle.six_calls.specs.Names as names;
 
 /// A part of a call.
-#[derive(Clone, Copy, PartialEq, Eq, Drop)]
+#[derive(Clone, Copy, PartialEq, Eq, Debug, Drop)]
 pub enum Part {
     /// The instance's text. A call of which it is a part can't be made without it.
     Osil,

@@ -10,7 +10,7 @@ use Rattle.evidence.specs.Instance.{Range, Instance, width, height, variable_at}
 use Rattle.evidence.specs.Cases as Of
 use Rattle.evidence.specs.Cases.{Multiplier, Tree, preorder, Shows, lesser_end, greater_end, both, or_free, with_range, at_most, at_least, at_zero, unless_zero}
 use Rattle.certificate.specs.declared.nodes.Node.{Node}
-use Rattle.certificate.specs.declared.nodes.Node.TheVariants.{Split, Zero, Clash, Farkas, Bound}
+use Rattle.certificate.specs.declared.nodes.Node.TheVariants.{Split, Zero, Clash, Farkas, Bound, Grid}
 use Rattle.evidence.proofs.Branches.{width_with}
 use Rattle.certificate.specs.Meanings.{node, nodes}
 use Rattle.certificate.specs.Nodes.{IsInRange}
@@ -23,6 +23,7 @@ abbrev pub IsWithin : ℕ → Of.Node → Type 0
 IsWithin n (Of.ClashAt c) = c < n
 IsWithin n (Of.FarkasBy ms) = All (HasColumn n) ms
 IsWithin n (Of.BoundBy ms) = All (HasColumn n) ms
+IsWithin n (Of.GridBy g ms) = All (HasColumn n) ms
 IsWithin n (Of.SplitAt j k) = (j < n) × (neg_ℤ (pos most) ≤ℤ k) × (k <ℤ pos most)
 IsWithin n (Of.ZeroAt j) = j < n
 
@@ -37,6 +38,8 @@ tree_within n I (Of.Clash c) z few s = all_of_one n (Of.ClashAt c) (omega (arith
 tree_within n I (Of.Farkas ms) z few s = all_of_one n (Of.FarkasBy ms) (λ k d h. let below = s.legal.columns k d h in omega (arith, below))
 tree_within n I (Of.Bound ms) None few s = absurd s
 tree_within n I (Of.Bound ms) (Some z) few s = all_of_one n (Of.BoundBy ms) (λ k d h. let below = s.legal.columns k d h in omega (arith, below))
+tree_within n I (Of.Grid g ms) None few s = absurd s
+tree_within n I (Of.Grid g ms) (Some z) few s = all_of_one n (Of.GridBy g ms) (λ k d h. let below = s.legal.columns k d h in omega (arith, below))
 tree_within n I (Of.Split j k a b) z few (branch, first, second) =
     let inside = branch.variable in
     All-cons (IsWithin n) (Of.SplitAt j k) (preorder a ++ preorder b) (omega (arith, inside), branch.low, branch.high)
@@ -56,6 +59,7 @@ node_range (Zero j) h = tt
 node_range (Clash c) h = tt
 node_range (Farkas ms) h = tt
 node_range (Bound ms) h = tt
+node_range (Grid g ms) h = tt
 
 pub each_of : (P : Node → Type 0) → ((x : Node) → IsWithin (2 ^ 32) (node x) → P x) → (ns : List Node) → All (IsWithin (2 ^ 32)) (nodes ns) → All P ns
 each_of P f [] h = All-nil P
@@ -65,6 +69,7 @@ pub some_nodes : (t : Tree) → 0 < length (preorder t)
 some_nodes (Of.Clash c) = omega arith
 some_nodes (Of.Farkas ms) = omega arith
 some_nodes (Of.Bound ms) = omega arith
+some_nodes (Of.Grid g ms) = omega arith
 some_nodes (Of.Split j k a b) = omega arith
 some_nodes (Of.Zero j a b) = omega arith
 

@@ -9,7 +9,7 @@ use Rattle.evidence.specs.ProvedBounds as Early
 use Rattle.evidence.specs.Claim as Says
 use Rattle.certificate.specs.declared.lists.Mult.{Mult}
 use Rattle.certificate.specs.declared.nodes.Node.{Node}
-use Rattle.certificate.specs.declared.nodes.Node.TheVariants.{Split, Zero, Clash, Farkas, Bound}
+use Rattle.certificate.specs.declared.nodes.Node.TheVariants.{Split, Zero, Clash, Farkas, Bound, Grid}
 use Rattle.certificate.specs.declared.nodes.Cert.{Cert}
 use Rattle.certificate.specs.declared.claims.ProvedBound.{ProvedBound}
 use Rattle.certificate.specs.declared.claims.Claim.{Claim}
@@ -48,6 +48,11 @@ module _ (fractions : (x y : Frac) → IsSame (ratio x) (ratio y) → x ≡ y) w
   node_once (Clash c) (Clash d) e = let all : Of.ClashAt c ≡ Of.ClashAt d = e in let p : c ≡ d = cc in cc
   node_once (Farkas ms) (Farkas ns) e = let all : Of.FarkasBy (multipliers ms) ≡ Of.FarkasBy (multipliers ns) = e in ap Farkas (mults_once ms ns (cc))
   node_once (Bound ms) (Bound ns) e = let all : Of.BoundBy (multipliers ms) ≡ Of.BoundBy (multipliers ns) = e in ap Bound (mults_once ms ns (cc))
+  node_once (Grid g ms) (Grid h ns) e =
+      let all : Of.GridBy (ratio g) (multipliers ms) ≡ Of.GridBy (ratio h) (multipliers ns) = e in
+      let step : g ≡ h = fraction_once g h (cc) in
+      let list : ms ≡ ns = mults_once ms ns (cc) in
+      cc
   node_once a b e = absurd (cc)
 
   points_once : (x y : List Frac) → ratios x ≡ ratios y → x ≡ y

@@ -15,7 +15,7 @@ use Rattle.instance.specs.Parts.{Parts, IsValid}
 use Rattle.instance.specs.Program.{problem}
 use Rattle.certificate.specs.declared.lists.Mult.{Mult}
 use Rattle.certificate.specs.declared.nodes.Node.{Node}
-use Rattle.certificate.specs.declared.nodes.Node.TheVariants.{Split, Zero, Clash, Farkas, Bound}
+use Rattle.certificate.specs.declared.nodes.Node.TheVariants.{Split, Zero, Clash, Farkas, Bound, Grid}
 use Rattle.certificate.specs.declared.nodes.Cert.{Cert}
 use Rattle.certificate.specs.declared.causes.Cause.{Cause}
 use Rattle.certificate.specs.declared.causes.Cause.TheVariants.{Memory}
@@ -50,6 +50,7 @@ node_back (Zero j) h = h
 node_back (Clash c) h = h
 node_back (Farkas ms) h = columns_back ms h
 node_back (Bound ms) h = columns_back ms h
+node_back (Grid g ms) h = columns_back ms h
 
 abbrev HaveTheirColumns : List Of.Multiplier → Type 0
 HaveTheirColumns ms = All (HasColumn (2 ^ 32)) ms

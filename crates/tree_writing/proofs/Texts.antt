@@ -54,15 +54,19 @@ event_rest is_open (Open name list) more =
 event_rest is_open (Chars text) more = tag_end_more is_open (escaped text) (written_events false more)
 event_rest is_open (Close name) more = element_end_more is_open name (written_events false more)
 
--- the text of a start tag
-pub open_text : (is_open : Bool) (e : Event) (end name : List ℕ) → end ≡ tag_end is_open [] → e ≡ Open name (attributes_of e) → end ++ (60 ∷ (name ++ written_attributes (attributes_of e) [])) ≡ event_text is_open e
-open_text is_open e end name p same =
-    let text = 60 ∷ (name ++ written_attributes (attributes_of e) []) in
-    ap (λ z. z ++ text) p ∙ (sym (tag_end_more is_open [] text) ∙ ap (event_text is_open) (sym same))
+-- the beginning of a start tag, behind the end of one that is open
+pub open_text : (is_open : Bool) (end name : List ℕ) → end ≡ tag_end is_open [] → end ++ (60 ∷ name) ≡ tag_end is_open (60 ∷ name)
+open_text is_open end name p = ap (λ z. z ++ (60 ∷ name)) p ∙ sym (tag_end_more is_open [] (60 ∷ name))
 
--- the text of characters
-pub chars_text : (is_open : Bool) (e : Event) (end text : List ℕ) → end ≡ tag_end is_open [] → e ≡ Chars text → end ++ escaped text ≡ event_text is_open e
-chars_text is_open e end text p same = ap (λ z. z ++ escaped text) p ∙ (sym (tag_end_more is_open [] (escaped text)) ∙ ap (event_text is_open) (sym same))
+-- the text of a start tag
+pub tag_text : (is_open : Bool) (e : Event) (name : List ℕ) → e ≡ Open name (attributes_of e) → tag_end is_open (60 ∷ name) ++ written_attributes (attributes_of e) [] ≡ event_text is_open e
+tag_text is_open e name same =
+    let attributes = written_attributes (attributes_of e) [] in
+    sym (tag_end_more is_open (60 ∷ name) attributes) ∙ ap (event_text is_open) (sym same)
+
+-- the text of characters, behind the end of a start tag that is open
+pub chars_text : (is_open : Bool) (end text : List ℕ) → end ≡ tag_end is_open [] → end ++ escaped text ≡ tag_end is_open (escaped text)
+chars_text is_open end text p = ap (λ z. z ++ escaped text) p ∙ sym (tag_end_more is_open [] (escaped text))
 
 -- the event at an index, and those behind it
 pub event_step : (told : List Event) (i : ℕ) (is_open : Bool) → i < length told → written_events is_open (drop i told) ≡ event_text is_open (event_at told i) ++ written_events (is_open_behind (event_at told i)) (drop (i + 1) told)

@@ -1,3 +1,4 @@
 pub mod Escapes
 pub mod TextParts
+pub mod Awaiting
 pub mod WritableElements

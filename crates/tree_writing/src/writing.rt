@@ -4,7 +4,7 @@ ghost use Rattle.std.specs.Prelude.{◌≡◌, ◌+◌, ◌<◌, ◌≤◌, ◌+
 ghost use Rattle.os_io.specs.Laws.{part_whole};
 ghost use Rattle.os_io.specs.Streams.{Writes, sink_tells};
 ghost use Rattle.tree_grammar.specs.Elements.{Element, events};
-ghost use Rattle.tree_grammar.specs.WrittenText.{tag_end, element_end, written_attributes, escaped_value, written};
+ghost use Rattle.tree_grammar.specs.WrittenText.{tag_end, element_end, written_attributes, escaped, escaped_value, written};
 ghost use Rattle.tree_writing.specs.Escapes.{escaped_by};
 ghost use Rattle.element_tree.specs.Items.{event_at, attributes_of};
 ghost use Rattle.tree_writing.specs.TextParts.{is_open_behind, event_text};
@@ -16,7 +16,7 @@ use std::alloc::{AllocError, Global};
 use tree_grammar::written_in_document_order;
 
 /// What stands before the element.
-const DECLARATION: &[u8] = b"<?xml version=\"1.0\" encoding=\"UTF-8\"?>";
+pub(crate) const DECLARATION: &[u8] = b"<?xml version=\"1.0\" encoding=\"UTF-8\"?>";
 
 /// Writes bytes.
 fn put<S: Sink>(bytes: &[u8], sink: &mut S) -> Result<(), Failed>
@@ -81,8 +81,17 @@ fn end_of_tag(is_open: bool) -> &'static [u8]
     if is_open { b">" } else { b"" }
 }
 
+/// Writes the beginning of a start tag, behind one that is open.
+pub(crate) fn put_tag<S: Sink>(is_open: bool, name: &[u8], sink: &mut S) -> Result<(), Failed>
+    ensures { Writes result (tag_end is_open (60 ∷ name.now)) (S.tells sink.old) (S.tells sink.new) }
+{
+    put(end_of_tag(is_open), sink)?;
+    put(b"<", sink)?;
+    put(name, sink)
+}
+
 /// Writes an attribute.
-fn put_attribute<S: Sink>(name: &[u8], value: &[u8], sink: &mut S) -> Result<(), Failed>
+pub(crate) fn put_attribute<S: Sink>(name: &[u8], value: &[u8], sink: &mut S) -> Result<(), Failed>
     ensures { Writes result (32 ∷ (name.now ++ (61 ∷ 34 ∷ (escaped_value value.now ++ (34 ∷ []))))) (S.tells sink.old) (S.tells sink.new) }
 {
     put(b" ", sink)?;
@@ -104,8 +113,20 @@ fn put_attributes<S: Sink>(tree: &Tree, i: usize, sink: &mut S) -> Result<(), Fa
     Ok(())
 }
 
+/// Writes characters, behind a start tag that is open.
+pub(crate) fn put_chars<S: Sink>(is_open: bool, text: &[u8], sink: &mut S) -> Result<(), Failed>
+    ensures { Writes result (tag_end is_open (escaped text.now)) (S.tells sink.old) (S.tells sink.new) }
+{
+    put(end_of_tag(is_open), sink)?;
+    put_escaped(text, false, sink)
+}
+
 /// Writes the end of an element, whose start tag may still be open.
-fn put_element_end<S: Sink>(is_open: bool, name: &[u8], sink: &mut S) -> Result<(), Failed>
+pub(crate) fn put_element_end<S: Sink>(
+    is_open: bool,
+    name: &[u8],
+    sink: &mut S,
+) -> Result<(), Failed>
     ensures { Writes result (element_end is_open name.now []) (S.tells sink.old) (S.tells sink.new) }
 {
     if is_open {
@@ -124,15 +145,12 @@ fn put_event<S: Sink>(tree: &Tree, i: usize, is_open: bool, sink: &mut S) -> Res
 {
     match tree.event(i) {
         Item::Open { name } => {
-            put(end_of_tag(is_open), sink)?;
-            put(b"<", sink)?;
-            put(name, sink)?;
+            put_tag(is_open, name, sink)?;
             put_attributes(tree, i, sink)?;
             Ok(true)
         }
         Item::Chars { text } => {
-            put(end_of_tag(is_open), sink)?;
-            put_escaped(text, false, sink)?;
+            put_chars(is_open, text, sink)?;
             Ok(false)
         }
         Item::Close { name } => {
@@ -159,9 +177,9 @@ pub fn write_to<S: Sink>(tree: &Tree, sink: &mut S) -> Result<(), Failed>
 
 /// A text that grows with what is written, which is handed on at once. A fault is want of memory.
 #[derive(Drop)]
-struct Growing {
-    text: Text,
-    faults: u64,
+pub(crate) struct Growing {
+    pub(crate) text: Text,
+    pub(crate) faults: u64,
 }
 
 impl Stream for Growing {

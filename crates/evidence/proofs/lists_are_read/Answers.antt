@@ -1,4 +1,4 @@
-use Rattle.evidence.proofs.PendingNodes.{start, none_left, one_more, clash_step, farkas_step, bound_step, no_bound, split_step, zero_step}
+use Rattle.evidence.proofs.PendingNodes.{start, none_left, one_more, clash_step, farkas_step, bound_step, no_bound, grid_step, no_grid, split_step, zero_step}
 use Rattle.evidence.proofs.lists_are_read.Goals as goal
 
 pub returns-clause-start : goal.returns-clause-start
@@ -27,3 +27,9 @@ returns-clause-split c = split_step
 
 pub returns-clause-zero_or : goal.returns-clause-zero_or
 returns-clause-zero_or c = zero_step
+
+pub returns-clause-grid : goal.returns-clause-grid
+returns-clause-grid c = grid_step
+
+pub returns-clause-no_grid : goal.returns-clause-no_grid
+returns-clause-no_grid c = no_grid

@@ -44,6 +44,11 @@ fn put_node(text: &mut Text, node: &Node) -> Result<(), Memory> {
         }
         Node::Farkas(mults) => put_mults(text, b"farkas", mults),
         Node::Bound(mults) => put_mults(text, b"bound", mults),
+        Node::Grid { step, mults } => {
+            text.extend(b"grid ")?;
+            write_ratio(*step, text)?;
+            put_mults(text, b"", mults)
+        }
     }
 }
 

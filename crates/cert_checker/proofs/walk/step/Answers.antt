@@ -12,8 +12,8 @@ use Rattle.cert_checker.specs.Cuts as Of
 use Rattle.cert_checker.specs.Trees.{TreeRefuses, LeadsThrough}
 use Rattle.cert_checker.specs.declared.refused.Unshown.TheVariants.{Tree as Missing}
 use Rattle.cert_checker.proofs.Widths.{width_is}
-use Rattle.cert_checker.proofs.Walks.{split_leads, zero_leads, clash_leads, farkas_node_leads, bound_node_leads, farkas_refused, bound_refused}
-use Rattle.cert_checker.proofs.walk.step.Goals.{in-Clash+in_ok-check_clash-in-Clash, in-Farkas+in_ok-check_leaf-in-Farkas, in-Bound+else-is_none+in_ok-check_leaf-in-Bound}
+use Rattle.cert_checker.proofs.Walks.{split_leads, zero_leads, clash_leads, farkas_node_leads, bound_node_leads, grid_node_leads, farkas_refused, bound_refused, grid_refused}
+use Rattle.cert_checker.proofs.walk.step.Goals.{in-Clash+in_ok-check_clash-in-Clash, in-Farkas+in_ok-check_leaf-in-Farkas, in-Bound+else-is_none+in_ok-check_leaf-in-Bound, in-Grid+in_ok-check_grid_leaf-in-Grid}
 use Rattle.cert_checker.proofs.walk.step.Goals as goal
 
 pub returns-then-not-is_branch-clause-err : goal.returns-then-not-is_branch-clause-err
@@ -91,6 +91,12 @@ returns-in_err-check_leaf-in-Bound-clause-err c =
     rw (p.1, p.2)
     (λ rest. bound_refused (Tree.cut c.args.program.now c.args.cuts.now) (Tree.pending c.args.program.now c.args.cuts.now c.args.branches.now c.args.depth) c.args.number rest c.args.node.now c.in-Bound.mults c.as_slice-in-Bound.result.now c.in-Bound.is c.as_slice-in-Bound.ensures c.args.aim (not_none c.args.aim c.is_none.result c.is_none.ensures c.if-is_none.false) c.in_err-check_leaf-in-Bound.field-0.0 c.in_err-check_leaf-in-Bound.ensures.err)
 
+pub returns-in_err-check_grid_leaf-in-Grid-clause-err : goal.returns-in_err-check_grid_leaf-in-Grid-clause-err
+returns-in_err-check_grid_leaf-in-Grid-clause-err c =
+    let p = err_from_is_err_and c.from_residual-in_err-check_grid_leaf-in-Grid.result c.from_residual-in_err-check_grid_leaf-in-Grid.ensures.1 in
+    rw (p.1, p.2)
+    (λ rest. grid_refused (Tree.cut c.args.program.now c.args.cuts.now) (Tree.pending c.args.program.now c.args.cuts.now c.args.branches.now c.args.depth) c.args.number (Of.aim c.args.aim) rest c.args.node.now c.in-Grid.step c.in-Grid.mults c.as_slice-in-Grid.result.now c.in-Grid.is c.as_slice-in-Grid.ensures c.in_err-check_grid_leaf-in-Grid.field-0.0 c.in_err-check_grid_leaf-in-Grid.ensures.err)
+
 pub returns-clause-ok : goal.returns-clause-ok
 returns-clause-ok c = λ rest.
     let p = c.args.program.now in
@@ -105,4 +111,6 @@ returns-clause-ok c = λ rest.
           farkas_node_leads I js after c.args.number (Of.aim c.args.aim) rest c.args.node.now w.in-Farkas.mults w.as_slice.result.now w.in-Farkas.is w.as_slice.ensures w.in_ok-check_leaf-in-Farkas.ensures.ok (c.back.ensures.cases p)
       | in-Bound+else-is_none+in_ok-check_leaf-in-Bound w ↦
           bound_node_leads I js after c.args.number rest c.args.node.now w.in-Bound.mults w.as_slice-in-Bound.result.now w.in-Bound.is w.as_slice-in-Bound.ensures c.args.aim (not_none c.args.aim w.is_none.result w.is_none.ensures w.if-is_none.false) w.in_ok-check_leaf-in-Bound.ensures.ok (c.back.ensures.cases p)
+      | in-Grid+in_ok-check_grid_leaf-in-Grid w ↦
+          grid_node_leads I js after c.args.number (Of.aim c.args.aim) rest c.args.node.now w.in-Grid.step w.in-Grid.mults w.as_slice-in-Grid.result.now w.in-Grid.is w.as_slice-in-Grid.ensures w.in_ok-check_grid_leaf-in-Grid.ensures.ok (c.back.ensures.cases p)
     ]

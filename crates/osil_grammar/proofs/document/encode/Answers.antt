@@ -1,9 +1,9 @@
-use Rattle.osil_grammar.proofs.Words.{◌<◌, length, arith, document_limit}
+use Rattle.osil_grammar.proofs.Words.{refl}
+use Rattle.tree_grammar.specs.WrittenText.{written}
 use Rattle.osil_grammar.proofs.document.encode.Goals as goal
 
-pub returns-then-len-gt-MOST_BYTES-clause-err : goal.returns-then-len-gt-MOST_BYTES-clause-err
-returns-then-len-gt-MOST_BYTES-clause-err c =
-    let tree = c.in_ok-tree.ensures in
-    let says = c.in_ok-text.ensures tree.1 tree.3 in
-    let long : document_limit < length c.in_ok-text.text = omega (arith, c.len.ensures) in
-    (tree.0, (c.in_ok-text.text, record { root = tree.1; writes = tree.2; says = says }, long))
+pub returns-in-None-clause-err : goal.returns-in-None-clause-err
+returns-in-None-clause-err c =
+    let told = c.in_ok-tell_instance.ensures in
+    let long = c.in-None.ensures (written told.1) (told.3 (written told.1) (c.in_ok-w.ensures told.1)) in
+    (told.0, (written told.1, record { root = told.1; writes = told.2; says = refl }, long))

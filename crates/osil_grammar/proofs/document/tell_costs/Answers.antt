@@ -11,7 +11,7 @@ returns-in_err-tell_cost c =
 pub loop-j-preserved : goal.loop-j-preserved
 loop-j-preserved c =
     let one = c.in_ok-tell_cost.ensures in
-    one_told HasDecimal WriteCosts costs_join _ c.loop-j.b c.tell_cost.new.b c.args.costs.now c.loop-j.j c.index-costs-j.result (omega arith) c.index-costs-j.is c.loop-j.invariant one.0 one.1 one.2 one.3
+    one_told HasDecimal WriteCosts costs_join _ c.loop-j.w c.tell_cost.new.w c.args.costs.now c.loop-j.j c.index-costs-j.result (omega arith) c.index-costs-j.is c.loop-j.invariant one.0 one.1 one.2 one.3
 
 pub returns : goal.returns
 returns c = all_told HasDecimal WriteCosts _ _ c.args.costs.now c.loop-j.j (omega arith) refl c.loop-j.invariant

@@ -3,4 +3,4 @@ use Rattle.osil_grammar.proofs.Tellings.{ToldFirst}
 use Rattle.osil_grammar.proofs.document.tell_costs.Given as goal
 
 abbrev pub invariant-loop-j : goal.invariant-loop-j
-invariant-loop-j l = ToldFirst HasDecimal WriteCosts l.initial.b l.b l.costs l.j
+invariant-loop-j l = ToldFirst HasDecimal WriteCosts l.initial.w l.w l.costs l.j

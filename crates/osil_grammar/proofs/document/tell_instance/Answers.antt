@@ -21,11 +21,11 @@ returns c =
     let r = c.in_ok-tell_rows.ensures in
     let m = c.in_ok-tell_matrix.ensures in
     let rows : List Row = c.rows-rows.result.now in
-    let vars = subst (λ (l : List Var). All (λ (x : Var). EndsHaveTexts x.lb x.ub) l × ToldSome (IsPart (codes "variables") (codes "numberOfVariables") (length l) (WriteVars l)) c.open.new.b c.tell_vars.new.b) c.vars.ensures.value (v.0, (v.1, v.2, v.3)) in
-    let objectives = subst (λ (l : List Goal). All GoalHasDecimals l × ToldSome (IsPart (codes "objectives") (codes "numberOfObjectives") (length l) (WriteGoals l)) c.tell_vars.new.b c.tell_goals.new.b) c.goals.ensures.value (g.0, (g.1, g.2, g.3)) in
-    let constraints = subst (λ (l : List Row). All (λ (x : Row). EndsHaveTexts x.lb x.ub) l × ToldSome (IsPart (codes "constraints") (codes "numberOfConstraints") (length l) (WriteRows l)) c.tell_goals.new.b c.tell_rows.new.b) c.rows-rows.ensures.value (r.0, (r.1, r.2, r.3)) in
+    let vars = subst (λ (l : List Var). All (λ (x : Var). EndsHaveTexts x.lb x.ub) l × ToldSome (IsPart (codes "variables") (codes "numberOfVariables") (length l) (WriteVars l)) c.begin-3.new.self c.tell_vars.new.w) c.vars.ensures.value (v.0, (v.1, v.2, v.3)) in
+    let objectives = subst (λ (l : List Goal). All GoalHasDecimals l × ToldSome (IsPart (codes "objectives") (codes "numberOfObjectives") (length l) (WriteGoals l)) c.tell_vars.new.w c.tell_goals.new.w) c.goals.ensures.value (g.0, (g.1, g.2, g.3)) in
+    let constraints = subst (λ (l : List Row). All (λ (x : Row). EndsHaveTexts x.lb x.ub) l × ToldSome (IsPart (codes "constraints") (codes "numberOfConstraints") (length l) (WriteRows l)) c.tell_goals.new.w c.tell_rows.new.w) c.rows-rows.ensures.value (r.0, (r.1, r.2, r.3)) in
     let high : length rows ≡ length c.args.instance.now.rows = ap (λ (l : List Row). length l) c.rows-rows.ensures.value in
-    let by_entries = subst (λ (l : List Entry). All (λ (x : Entry). HasDecimal x.value) l × ToldSome (IsPart (codes "linearConstraintCoefficients") (codes "numberOfValues") (length l) (WriteLists (length rows) l)) c.tell_rows.new.b c.tell_matrix.new.b) c.entries.ensures.value (m.0, (m.1, m.2, m.3)) in
-    let matrix = subst (λ (n : ℕ). ToldSome (IsPart (codes "linearConstraintCoefficients") (codes "numberOfValues") (length c.args.instance.now.entries) (WriteLists n c.args.instance.now.entries)) c.tell_rows.new.b c.tell_matrix.new.b) high by_entries.1 in
-    let whole = whole_told c.args.instance.now _ _ _ _ _ _ _ _ _ _ c.requires c.in_ok-open_after.ensures c.in_ok-empty_after.ensures c.in_ok-open.ensures vars.1 objectives.1 constraints.1 matrix c.in_ok-close.ensures c.in_ok-close-2.ensures in
-    (record { vars = vars.0; rows = constraints.0; entries = by_entries.0; goals = objectives.0 }, whole.root, whole.writes, whole.same)
+    let by_entries = subst (λ (l : List Entry). All (λ (x : Entry). HasDecimal x.value) l × ToldSome (IsPart (codes "linearConstraintCoefficients") (codes "numberOfValues") (length l) (WriteLists (length rows) l)) c.tell_rows.new.w c.tell_matrix.new.w) c.entries.ensures.value (m.0, (m.1, m.2, m.3)) in
+    let matrix = subst (λ (n : ℕ). ToldSome (IsPart (codes "linearConstraintCoefficients") (codes "numberOfValues") (length c.args.instance.now.entries) (WriteLists n c.args.instance.now.entries)) c.tell_rows.new.w c.tell_matrix.new.w) high by_entries.1 in
+    let whole = whole_told c.args.instance.now c.args.w.now c.begin.new.self c.attribute.new.self c.begin-2.new.self c.end.new.self c.begin-3.new.self c.tell_vars.new.w c.tell_goals.new.w c.tell_rows.new.w c.tell_matrix.new.w c.end-2.new.self c.end-3.new.self c.in_ok-begin.ensures c.in_ok-attribute.ensures c.in_ok-begin-2.ensures c.in_ok-end.ensures c.in_ok-begin-3.ensures vars.1 objectives.1 constraints.1 matrix c.in_ok-end-2.ensures c.in_ok-end-3.ensures in
+    (record { vars = vars.0; rows = constraints.0; entries = by_entries.0; goals = objectives.0 }, whole.root, whole.writes, whole.wrote)

@@ -3,4 +3,4 @@ use Rattle.osil_grammar.proofs.Tellings.{ToldFirst}
 use Rattle.osil_grammar.proofs.document.tell_vars.Given as goal
 
 abbrev pub invariant-loop-var : goal.invariant-loop-var
-invariant-loop-var l = ToldFirst (λ (v : Var). EndsHaveTexts v.lb v.ub) (λ i. WriteVars) l.initial.b l.b l.vars l.var-index
+invariant-loop-var l = ToldFirst (λ (v : Var). EndsHaveTexts v.lb v.ub) (λ i. WriteVars) l.initial.w l.w l.vars l.var-index

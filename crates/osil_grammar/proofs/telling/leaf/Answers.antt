@@ -1,10 +1,7 @@
-use Rattle.osil_grammar.proofs.Words.{◌∷◌, ap, Nodes, Open, Close, nodes_events, none, marked, ok_told_as, some_text, holding_text}
+use Rattle.osil_grammar.proofs.Words.{[], on_ok_weaker, chars, none}
+use Rattle.osil_grammar.proofs.Tellings.{begun, wrote_around}
 use Rattle.osil_grammar.proofs.telling.leaf.Goals as goal
 
 pub returns : goal.returns
 returns c =
-    let name = c.args.name.now in
-    let attributes = c.args.b.now.attributes in
-    let text = c.args.text.now in
-    ok_told_as c.leaf_after.result _ _ (marked name attributes text) (nodes_events (holding_text name attributes text none))
-    (λ k. ap (λ (nodes : Nodes). Open name attributes ∷ nodes_events nodes (Close name ∷ k)) (some_text text c.requires)) c.leaf_after.ensures
+    on_ok_weaker c.end.result (λ ends. wrote_around c.args.w.now c.begin.new.self c.chars.new.self c.end.new.self c.args.name.now [] (chars c.args.text.now none) (begun c.args.w.now c.begin.new.self c.args.name.now c.in_ok-begin.ensures) c.in_ok-chars.ensures ends) c.end.ensures

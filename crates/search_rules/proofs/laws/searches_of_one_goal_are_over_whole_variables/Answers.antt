@@ -1,5 +1,8 @@
-use Rattle.search_rules.proofs.OneGoal.{answer_on, answer_back, search_on, search_back}
+use Rattle.search_rules.proofs.OneGoal.{comes_whole, answer_on, answer_back, search_on, search_back}
 use Rattle.search_rules.proofs.laws.searches_of_one_goal_are_over_whole_variables.Goals as goal
+
+pub returns-clause-moments : goal.returns-clause-moments
+returns-clause-moments c = λ I t m good whole k. comes_whole I good t whole m k
 
 pub returns-clause-on : goal.returns-clause-on
 returns-clause-on c = λ I t o d good whole a. answer_on I good t whole o d a

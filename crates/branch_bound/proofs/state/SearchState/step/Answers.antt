@@ -1,0 +1,87 @@
+use Rattle.std.proofs.Common.{rules, ◌≡◌, suc, ◌+◌, ◌<◌, ◌≤◌, true, false, [], ◌∷◌, ◌++◌, length, sym, ◌∙◌, subst}
+use Rattle.simplex.specs.Answers.{was_stopped}
+use Rattle.simplex.specs.Memory.{ended_with}
+use Rattle.simplex_rules.specs.Ends as Ended
+use Rattle.simplex_rules.specs.Looks.{went_on}
+use Rattle.branch_bound.proofs.Ready.{walk_at}
+use Rattle.branch_bound.proofs.CaseSteps.{stopped_is, not_killed}
+use Rattle.branch_bound.proofs.CaseMoments.{limit_carries, look_carries, stop_carries, ran_to, visit_carries}
+use Rattle.branch_bound.proofs.state.SearchState.step.Goals as goal
+
+pub returns-then-self-len-clause-moments : goal.returns-then-self-len-clause-moments
+returns-then-self-len-clause-moments g c =
+    let a = c.args in
+    let s = a.self.now in
+    let at = walk_at (length a.instance.now.vars) a.depth s.walk c.requires.state.walk c.requires.at in
+    let low : a.limits.nodes ≤ s.level.before + length s.walk.nodes = search rules in
+    record {
+      looks = 0;
+      killed = false;
+      is = c.give_up.ensures.killed;
+      came = g.met.W.Watch.stays a.watch.now;
+      carries = limit_carries a.instance.now a.limits s.relaxation s.level s.walk a.depth at s.level c.give_up.new.walk c.give_up.result c.give_up.ensures.told low;
+    }
+
+pub returns-then-look-clause-moments : goal.returns-then-look-clause-moments
+returns-then-look-clause-moments g c =
+    let a = c.args in
+    let s = a.self.now in
+    let at = walk_at (length a.instance.now.vars) a.depth s.walk c.requires.state.walk c.requires.at in
+    let low : s.level.before + length s.walk.nodes < a.limits.nodes = search rules in
+    record {
+      looks = 0;
+      killed = true;
+      is = c.give_up-then-look.ensures.killed;
+      came = subst (λ b. g.W.Watch.came a.watch.now c.look.new.self (b ∷ [])) c.if-look.true c.look.ensures.came;
+      carries = look_carries a.instance.now a.limits s.relaxation s.level s.walk a.depth at s.level c.give_up-then-look.new.walk c.give_up-then-look.result low c.give_up-then-look.ensures.told;
+    }
+
+pub returns-then-is_stop-clause-moments : goal.returns-then-is_stop-clause-moments
+returns-then-is_stop-clause-moments g c =
+    let a = c.args in
+    let s = a.self.now in
+    let at = walk_at (length a.instance.now.vars) a.depth s.walk c.requires.state.walk c.requires.at in
+    let r = c.run_case-end.new.relaxation in
+    let low : s.level.before + length s.walk.nodes < a.limits.nodes = search rules in
+    let first = subst (λ b. g.W.Watch.came a.watch.now c.look.new.self (b ∷ [])) c.if-look.false c.look.ensures.came in
+    let on : was_stopped c.run_case-end.result ≡ true = sym c.is_stop.ensures ∙ c.if-is_stop.true in
+    let is : ended_with c.run_case-end.result r.work ≡ Ended.Stopped = stopped_is c.run_case-end.result r.work on in
+    let (k, came, run) = rw (on, is, c.as_slice.ensures.value) at c.run_case-end.ensures.run in
+    record {
+      looks = suc k;
+      killed = true;
+      is = c.give_up-then-is_stop.ensures.killed;
+      came = g.met.W.Watch.joined a.watch.now c.look.new.self c.run_case-end.new.watch (false ∷ []) (went_on k ++ true ∷ []) first came;
+      carries = stop_carries a.instance.now a.limits s.relaxation s.level s.walk a.depth at s.level c.give_up-then-is_stop.new.walk c.give_up-then-is_stop.result low c.give_up-then-is_stop.ensures.told r c.is_some-zero_goal.result k (sym c.is_some-zero_goal.ensures) (sym c.requires.state.most)
+          (λ D t looks given most tells. (run D t looks given most tells).0);
+    }
+
+pub visit-requires-clause-ran : goal.visit-requires-clause-ran
+visit-requires-clause-ran g c =
+    let a = c.args in
+    let s = a.self.now in
+    let at = walk_at (length a.instance.now.vars) a.depth s.walk c.requires.state.walk c.requires.at in
+    let low : s.level.before + length s.walk.nodes < a.limits.nodes = search rules in
+    let off : was_stopped c.run_case-end.result ≡ false = sym c.is_stop.ensures ∙ c.if-is_stop.false in
+    let (k, came, run) = rw (off, c.as_slice.ensures.value) at c.run_case-end.ensures.run in
+    ran_to a.instance.now a.limits s.relaxation s.level s.walk a.depth at c.run_case-end.new.relaxation _ c.run_case-end.ensures.given c.run_case-end.ensures.rows low c.is_some-zero_goal.result (sym c.is_some-zero_goal.ensures) (sym c.requires.state.most) k c.run_case-end.result run
+    (rw c.as_slice.ensures.value at c.run_case-end.ensures.basis)
+
+pub returns-clause-moments : goal.returns-clause-moments
+returns-clause-moments g c =
+    let a = c.args in
+    let s = a.self.now in
+    let at = walk_at (length a.instance.now.vars) a.depth s.walk c.requires.state.walk c.requires.at in
+    let r = c.run_case-end.new.relaxation in
+    let low : s.level.before + length s.walk.nodes < a.limits.nodes = search rules in
+    let first = subst (λ b. g.W.Watch.came a.watch.now c.look.new.self (b ∷ [])) c.if-look.false c.look.ensures.came in
+    let off : was_stopped c.run_case-end.result ≡ false = sym c.is_stop.ensures ∙ c.if-is_stop.false in
+    let (k, came, run) = rw (off, c.as_slice.ensures.value) at c.run_case-end.ensures.run in
+    record {
+      looks = suc k;
+      killed = false;
+      is = not_killed c.visit.result c.visit.ensures.went_on;
+      came = g.met.W.Watch.joined a.watch.now c.look.new.self c.run_case-end.new.watch (false ∷ []) (went_on k) first came;
+      carries = visit_carries a.instance.now a.limits s.relaxation s.level s.walk a.depth at r _ c.run_case-end.ensures.given c.run_case-end.ensures.rows low c.is_some-zero_goal.result (sym c.is_some-zero_goal.ensures) (sym c.requires.state.most) k c.run_case-end.result run
+          c.visit.new.relaxation c.visit.new.level c.visit.new.walk c.visit.ensures.turns c.visit.ensures.certs c.visit.result c.visit.ensures.ok c.visit.ensures.err;
+    }

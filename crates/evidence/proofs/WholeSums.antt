@@ -1,0 +1,58 @@
+-- Sums of whole numbers, and the next whole number above a number.
+use Rattle.std.proofs.Common.{◌≡◌, ℕ, zero, suc, ◌<◌, ℤ, pos, negsuc, ◌+ℤ◌, ◌≤ℤ◌, lit<, arith, refl}
+use Rattle.std.proofs.lemmas.Int.{ints, by_lt_z}
+use Rattle.rational.specs.Ratio.{Ratio, whole, sum, product, IsSame, IsNumber}
+use Rattle.rational.proofs.Integers.{more-times}
+use Rattle.evidence.specs.Sums.{none, total, IsWhole, IsCeiling}
+use Rattle.evidence.proofs.Numbers.{◌≈◌, ◌≲◌, ≈-refl, ◌⊙◌, sum-≈, product-≈, product-none}
+use Rattle.evidence.proofs.Totals.{total-number}
+use Rattle.evidence.proofs.Columns.{none-number}
+
+pub whole-number : (n : ℤ) → IsNumber (whole n)
+whole-number n = lit< tt
+
+pub near_whole : (x : Ratio) → IsNumber x → (w : IsWhole x) → x ≈ whole w.number
+near_whole x p w = record { left = p; right = whole-number w.number; is = w.same }
+
+-- a sum of whole numbers is whole
+pub sum-whole : (x y : Ratio) → IsNumber x → IsNumber y → IsWhole x → IsWhole y → IsWhole (sum x y)
+sum-whole x y p q v w =
+    let all : sum x y ≈ sum (whole v.number) (whole w.number) = sum-≈ (near_whole x p v) (near_whole y q w) in
+    let k : ℤ = (sum (whole v.number) (whole w.number)).num in
+    record { number = k; same = all.is }
+
+pub total-whole : (n : ℕ) (f : ℕ → Ratio) → ((j : ℕ) → IsNumber (f j)) → ((j : ℕ) → j < n → IsWhole (f j)) → IsWhole (total none n f)
+total-whole zero f p w = record { number = pos 0; same = refl }
+total-whole (suc n) f p w = sum-whole (total none n f) (f n) (total-number none n f none-number p) (p n) (total-whole n f p (λ j h. w j (omega arith))) (w n (omega arith))
+
+pub product-whole : (c : ℤ) (x : Ratio) → IsNumber x → IsWhole x → IsWhole (product (whole c) x)
+product-whole c x p w =
+    let C : whole c ≈ whole c = ≈-refl (whole-number c) in
+    let all : product (whole c) x ≈ product (whole c) (whole w.number) = product-≈ C (near_whole x p w) in
+    let k : ℤ = (product (whole c) (whole w.number)).num in
+    record { number = k; same = all.is }
+
+pub no_product-whole : (c : ℤ) (x : Ratio) → IsNumber x → c ≡ pos 0 → IsWhole (product (whole c) x)
+no_product-whole c x p e = rw e (let z = product-none x p in record { number = pos 0; same = z.is })
+
+-- a whole number that isn't below x isn't below the next whole number
+pub at_ceiling : (x : Ratio) (k n : ℤ) → IsCeiling x k → x ≲ whole n → k ≤ℤ n
+at_ceiling x k n c h =
+    by_lt_z n k
+    (λ below.
+    let t = more-times n (k +ℤ negsuc 0) x.den (omega (arith, ints)) in
+    let up = h.is in
+    let low = c.low in
+    absurd (omega (arith, ints)))
+    (λ done. done)
+
+-- the same number is whole too
+pub same-whole : (x y : Ratio) → x ≈ y → IsWhole y → IsWhole x
+same-whole x y e w = let all = e ⊙ near_whole y e.right w in record { number = w.number; same = all.is }
+
+pub none_product-whole : (a x : Ratio) → IsNumber a → IsNumber x → IsSame a none → IsWhole (product a x)
+none_product-whole a x pa p e =
+    let C : x ≈ x = ≈-refl p in
+    let here : a ≈ none = record { left = pa; right = none-number; is = e } in
+    let z : product a x ≈ none = product-≈ here C ⊙ product-none x p in
+    record { number = pos 0; same = z.is }

@@ -1,0 +1,153 @@
+-- The search of a problem by rules: which variable divides a case, and by which rules the cases are run, are choices; the dictionary of one run may be where the next begins.
+use Rattle.std.specs.Prelude.{◌≡◌, ℕ, ◌⊎◌, ℤ, Option, None, Some, List, [], ◌∷◌}
+use Rattle.std.specs.Option.{is_some}
+use Rattle.rational.specs.Ratio.{Ratio}
+use Rattle.evidence.specs.Instance.{Problem, width, minimising}
+use Rattle.evidence.specs.Cases.{Multiplier, ClashAt, FarkasBy, BoundBy, IsBranch, IsZeroBranch}
+use Rattle.certificate.specs.declared.causes.Step.TheVariants.{Ray, Round}
+use Rattle.certificate.specs.declared.causes.Cause.TheVariants.{Killed, TurnLimit, Memory}
+use Rattle.simplex_rules.specs.declared.columns.Status.{Status}
+use Rattle.simplex_rules.specs.Ends.{Terms, Clock, End, Clash, Empty, Best, Endless, TurnsOut, TooWide, Stopped}
+use Rattle.simplex_rules.specs.Runs.{looked_once}
+use Rattle.simplex_rules.specs.Rules.{Given, Rules, AreLegalRules, AreSingleRules, bland}
+use Rattle.simplex_rules.specs.RuleRuns.{Finish, Ends, Passed, RunBy}
+use Rattle.search_rules.specs.Branching.{Case, AreMetBelow, IsSplit, IsDividedAt, IsFirstMoving, NoneMoves}
+use Rattle.search_rules.specs.Cuts.{Trial, NoCut, WideCut, Cut, TriesBasis}
+use Rattle.search_rules.specs.Rays.{IsScaled}
+use Rattle.search_rules.specs.Search.{Found, Level, SearchMoment, Outcome, NextOfSearch, To, Out, first, reached, early, too_wide, closed_by_leaf, branch, divide, with_cut, IsPassed, IsHopeful, MayCut, TakesPoint, StopsBefore, BeginsCase, ClosesLevel}
+
+-- what a branching sees: the case, the basis with its places with which its run ended, and the point
+pub record BranchView : Type 0 where
+  pub case : Case
+  pub basis : Given
+  pub point : List Ratio
+
+pub record SearchRules : Type 1 where
+  -- of each case's run
+  pub runs : Rules
+  -- variable j divides the case, by the whole number k, or into 0 and its further ends
+  pub Splits : BranchView → ℕ → ℤ → Type 0
+  pub Divides : BranchView → ℕ → Type 0
+
+-- all that is asked for the outcome to be shown: a whole variable splits, and one that may be 0 besides divides
+pub record AreLegalSearches (S : SearchRules) : Type 0 where
+  pub runs : AreLegalRules S.runs
+  pub splits : (h : BranchView) (j : ℕ) (k : ℤ) → S.Splits h j k → IsBranch h.case.program j k
+  pub divides : (h : BranchView) (j : ℕ) → S.Divides h j → IsZeroBranch h.case.program j
+
+-- all that is asked for one outcome: no choice has two answers, and a case is divided only where a value isn't as it must be
+pub record AreSingleSearches (S : SearchRules) : Type 0 where
+  pub runs : AreSingleRules S.runs
+  pub splits : (h : BranchView) (i j : ℕ) (k l : ℤ) → S.Splits h i k → S.Splits h j l → (i ≡ j) × (k ≡ l)
+  pub divides : (h : BranchView) (i j : ℕ) → S.Divides h i → S.Divides h j → i ≡ j
+  pub either : (h : BranchView) (i j : ℕ) (k : ℤ) → S.Splits h i k → S.Divides h j → ⊥
+  pub split_unmet : (h : BranchView) (j : ℕ) (k : ℤ) → S.Splits h j k → AreMetBelow h.case.program h.point (width h.case.program) → ⊥
+  pub divided_unmet : (h : BranchView) (j : ℕ) → S.Divides h j → AreMetBelow h.case.program h.point (width h.case.program) → ⊥
+
+-- the least variable whose value isn't as it must be, from the rows by least indices
+abbrev pub bland_search : SearchRules
+bland_search = record {
+  runs = bland;
+  Splits = λ h j k. IsSplit h.case.program h.point j k;
+  Divides = λ h j. IsDividedAt h.case.program h.point j;
+}
+
+-- a search under way, and the basis with which the last run ended
+pub record MomentBy : Type 0 where
+  pub moment : SearchMoment
+  pub basis : Given
+
+pub data NextBy : Type 0 where
+  On : MomentBy → NextBy
+  Off : Outcome → Clock → NextBy
+
+-- the next moment with that basis, or the end
+abbrev pub with_basis : Given → NextOfSearch → NextBy
+with_basis g (To m) = On (record { moment = m; basis = g })
+with_basis g (Out o c) = Off o c
+
+-- the value that a bound is measured by: the best point's, turned so that less is better
+abbrev pub best_value : Level → Option Found → Option Ratio
+best_value l None = None
+best_value l (Some f) = Some (minimising l.program (reached l f))
+
+-- P is searched by rules S within these terms
+module _ (S : SearchRules) (P : Problem) (t : Terms) where
+  abbrev pub BranchesBy : Given → Case → List Case → SearchMoment → List Ratio → NextOfSearch → Type 0
+  BranchesBy g C rest m x next =
+      ((j : ℕ) × (k : ℤ) × S.Splits (record { case = C; basis = g; point = x }) j k × (next ≡ To (branch m C rest j k)))
+      ⊎ ((j : ℕ) × S.Divides (record { case = C; basis = g; point = x }) j × (next ≡ To (divide m C rest j)))
+
+  abbrev pub MeetsBy : Given → Case → List Case → SearchMoment → List Ratio → List Multiplier → NextOfSearch → Type 0
+  MeetsBy g C rest m x ms next = BranchesBy g C rest m x next ⊎ TakesPoint P t C rest m x ms next
+
+  abbrev pub TriedBy : Given → Case → List Case → SearchMoment → List Ratio → Trial → NextOfSearch → Type 0
+  TriedBy g C rest m x NoCut next = BranchesBy g C rest m x next
+  TriedBy g C rest m x WideCut next = next ≡ Out (too_wide m Round) m.clock
+  TriedBy g C rest m x (Cut ms cs k) next = next ≡ To (with_cut m C rest ms cs k)
+
+  -- the basis of a cut is that with which the run ended
+  abbrev pub HopesBy : Given → Case → List Case → SearchMoment → Ratio → List Ratio → List Multiplier → NextOfSearch → Type 0
+  HopesBy g C rest m b x ms next =
+      TakesPoint P t C rest m x ms next
+      ⊎ ((MayCut P t m → ⊥) × BranchesBy g C rest m x next)
+      ⊎ ((ss : List Status) × (trial : Trial) × MayCut P t m × (AreMetBelow C.program x (width C.program) → ⊥) × (g ≡ Some ss) × TriesBasis C.program x ss trial × TriedBy g C rest m x trial next)
+
+  abbrev pub BestBy : Option (List Ratio) → Given → Case → List Case → SearchMoment → Ratio → List Ratio → List Multiplier → NextOfSearch → Type 0
+  BestBy None g C rest m b x ms next =
+      (IsPassed m.level m.best b × (next ≡ To (closed_by_leaf m rest (BoundBy ms)))) ⊎ (IsHopeful m.level m.best b × HopesBy g C rest m b x ms next)
+  BestBy (Some r) g C rest m b x ms next = MeetsBy g C rest m x ms next
+
+  abbrev pub AlongBy : Given → Case → List Case → SearchMoment → List Ratio → List Ratio → NextOfSearch → Type 0
+  AlongBy g C rest m x d next =
+      ((j : ℕ) × IsFirstMoving C d j × (next ≡ To (divide m C rest j)))
+      ⊎ (NoneMoves C d × ((r : List Ratio) → IsScaled P.program d r → ⊥) × (next ≡ Out (too_wide m Ray) m.clock))
+      ⊎ ((r : List Ratio) × NoneMoves C d × IsScaled P.program d r × MeetsBy g (record C { ray = Some r }) rest m x [] next)
+
+  -- from the end of the run of case C on, which ended with basis g; a bound that was enough closes the case
+  abbrev pub GoesBy : Given → Case → List Case → SearchMoment → Finish → NextOfSearch → Type 0
+  GoesBy g C rest m (Ends (Clash c)) next = next ≡ To (closed_by_leaf m rest (ClashAt c))
+  GoesBy g C rest m (Ends (Empty ms)) next = next ≡ To (closed_by_leaf m rest (FarkasBy ms))
+  GoesBy g C rest m (Ends (Best b x ms)) next = BestBy C.ray g C rest m b x ms next
+  GoesBy g C rest m (Ends (Endless x d)) next = AlongBy g C rest m x d next
+  GoesBy g C rest m (Ends TurnsOut) next = next ≡ Out (early m.best (TurnLimit t.turns)) m.clock
+  GoesBy g C rest m (Ends (TooWide s)) next = next ≡ Out (too_wide m s) m.clock
+  GoesBy g C rest m (Ends Stopped) next = next ≡ Out (early m.best Killed) m.clock
+  GoesBy g C rest m (Passed b ms) next = IsPassed m.level m.best b × (next ≡ To (closed_by_leaf m rest (BoundBy ms)))
+
+  pub record IsRunOfCase (s : MomentBy) (f : Finish) (c : Clock) (h : Given) : Type 0 where
+    pub case : Case
+    pub rest : List Case
+    pub is : s.moment.waiting ≡ case ∷ rest
+    pub begins : BeginsCase P t s.moment
+    pub run : RunBy S.runs case.program (is_some case.ray) t s.basis (best_value s.moment.level s.moment.best) (looked_once s.moment.clock) f c h
+
+  pub record IsVisitBy (s : MomentBy) (next : NextBy) : Type 0 where
+    pub finish : Finish
+    pub clock : Clock
+    pub basis : Given
+    pub visit : IsRunOfCase s finish clock basis
+    pub after : NextOfSearch
+    pub goes : GoesBy basis visit.case visit.rest (record (s.moment) { clock = clock }) finish after
+    pub is : next ≡ with_basis basis after
+
+  abbrev pub IsNextBy : MomentBy → NextBy → Type 0
+  IsNextBy s next =
+      ((n : NextOfSearch) × (s.moment.waiting ≡ []) × ClosesLevel P t s.moment s.moment.best s.moment.level.later n × (next ≡ with_basis s.basis n))
+      ⊎ ((n : NextOfSearch) × (s.moment.waiting ≡ [] → ⊥) × StopsBefore P t s.moment n × (next ≡ with_basis s.basis n))
+      ⊎ IsVisitBy s next
+
+  -- in the beginning no run has ended
+  pub data ComesBy : MomentBy → Type 0 where
+    begins : ComesBy (record { moment = first P; basis = None })
+    goes_on : {m n : MomentBy} → ComesBy m → IsNextBy m (On n) → ComesBy n
+
+  pub record SearchBy (o : Outcome) (c : Clock) : Type 0 where
+    pub last : MomentBy
+    pub comes : ComesBy last
+    pub ends : IsNextBy last (Off o c)
+
+  pub data IsAnswerBy : Outcome → Clock → Type 0 where
+    searched : {o : Outcome} {c : Clock} → SearchBy o c → IsAnswerBy o c
+    given_up : {m : MomentBy} → ComesBy m → IsAnswerBy (early m.moment.best Memory) m.moment.clock
+    given_up_after : {m : MomentBy} {f : Finish} {c : Clock} {h : Given} → ComesBy m → IsRunOfCase m f c h → IsAnswerBy (early m.moment.best Memory) c

@@ -1,0 +1,95 @@
+//! A watch that says to stop once a time is over.
+ghost use Rattle.std.specs.Prelude.{◌≡◌, None, false};
+
+use os_io::Watch;
+use std::time::{Clock, Duration, Instant};
+
+/// Why a look said to stop.
+#[derive(Clone, Copy, PartialEq, Eq, Debug, Drop)]
+pub enum Reason {
+    /// The watch that is asked first said so.
+    Killed,
+    /// The time was over.
+    Time,
+}
+
+/// A time that is over once so many seconds have gone since it began, by this clock. What a clock tells is said by no contract. Where
+/// it can't be read, the time isn't over; where it couldn't when the time was to begin, it begins at the first reading.
+#[derive(Drop)]
+pub struct Deadline<T> {
+    clock: T,
+    begun: Option<Instant>,
+    limit: Option<u64>,
+}
+
+impl<T: Clock> Deadline<T> {
+    /// So many seconds from now on, or, without a limit, a time that is never over.
+    pub fn new(clock: T, limit: Option<u64>) -> Deadline<T>
+        ensures { result.limit ≡ limit }
+    {
+        let begun = match limit {
+            Some(_) => Instant::now(&clock).ok(),
+            None => None,
+        };
+        Deadline {
+            clock,
+            begun,
+            limit,
+        }
+    }
+
+    /// Whether it is over. The clock is read only where there is a limit.
+    pub fn is_over(&mut self) -> bool
+        ensures limit { self.new.limit ≡ self.old.limit }
+        ensures only { self.old.limit ≡ None → result ≡ false }
+    {
+        let Some(seconds) = self.limit else {
+            return false;
+        };
+        let Some(begun) = self.begun else {
+            self.begun = Instant::now(&self.clock).ok();
+            return seconds == 0;
+        };
+        match begun.elapsed(&self.clock) {
+            Ok(gone) => gone >= Duration::from_secs(seconds),
+            Err(_) => false,
+        }
+    }
+}
+
+/// A watch around another one, which is asked first at each look; where that one says to go on, it says to stop if the time is over.
+pub struct Until<'a, W: Watch, T: Clock> {
+    pub watch: &'a mut W,
+    pub deadline: Deadline<T>,
+    /// How often it was the time that said to stop.
+    pub times: u64,
+}
+
+impl<'a, W: Watch, T: Clock> Watch for Until<'a, W, T> {
+    ghost use Rattle.std.specs.Prelude.{◌≡◌, ◌+◌, List, Bool};
+    ghost use Rattle.std.proofs.Common.{refl, ◌∙◌};
+    ghost use Rattle.stop_reasons.specs.Laws.{until_without, until_then, until_counts};
+    ghost use Rattle.stop_reasons.specs.Reasons.{CameUntil};
+
+    ghost stops = { λ u. W.stops u.watch.now + u.times };
+
+    /// The watch inside is lent still, the limit stays, and each look had its answer from the watch inside, or from the time.
+    ghost came = { λ u v answers. (v.watch.ghost_name ≡ u.watch.ghost_name) × (v.deadline.limit ≡ u.deadline.limit) × CameUntil (W.came u.watch.now v.watch.now) u.deadline.limit u.times v.times answers };
+
+    fn look(&mut self) -> bool {
+        if self.watch.look() {
+            return true;
+        }
+        let over = self.deadline.is_over();
+        if over {
+            self.times += 1;
+        }
+        over
+    }
+
+    ghost stays = { λ u. (refl, refl, until_without (W.came u.watch.now u.watch.now) u.deadline.limit u.times (W.stays u.watch.now)) };
+
+    ghost joined = { λ u v w a b p q. (q.0 ∙ p.0, q.1 ∙ p.1, until_then (W.came u.watch.now v.watch.now) (W.came v.watch.now w.watch.now) (W.came u.watch.now w.watch.now) (W.joined u.watch.now v.watch.now w.watch.now) u.deadline.limit v.deadline.limit p.1 u.times v.times w.times a b p.2 q.2) };
+
+    ghost counts = { λ u v answers p. until_counts (W.came u.watch.now v.watch.now) (W.stops u.watch.now) (W.stops v.watch.now) (W.counts u.watch.now v.watch.now) u.deadline.limit u.times v.times answers p.2 };
+}
