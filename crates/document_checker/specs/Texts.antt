@@ -1,5 +1,5 @@
 -- The texts of answers.
-use Rattle.std.specs.Prelude.{◌≡◌, ℕ, Option, None, Some, Result, Ok, Err, List, [], ◌∷◌, ◌++◌, cond, nat_eq, codes, decimal}
+use Rattle.std.specs.Prelude.{◌≡◌, ℕ, Option, None, Some, Result, Ok, Err, List, [], ◌∷◌, ◌++◌, codes}
 use Rattle.fraction.specs.Frac.{ratio}
 use Rattle.fraction.specs.declared.frac.Frac.{Frac}
 use Rattle.decimal_text.specs.Exact.{ratio_text}
@@ -8,9 +8,7 @@ use Rattle.osrl_grammar.specs.Texts as results
 use Rattle.document_checker.specs.declared.documents.Kind.{Kind}
 use Rattle.document_checker.specs.declared.documents.Kind.TheVariants.{Optimal, Infeasible, Unbounded, BestSoFar, Unsure}
 use Rattle.cert_checker.specs.declared.refused.Refused.{Refused}
-use Rattle.cert_checker.specs.declared.refused.Refused.TheVariants.{NotFeasible, WidePoint, Value, Round, WideRound, Levels, Level, NoClaim}
-use Rattle.cert_checker.specs.declared.refused.Unshown.{Unshown}
-use Rattle.cert_checker.specs.declared.refused.Unshown.TheVariants.{Tree, Sign, Form, Step, Sum, Direction, Wide}
+use Rattle.cert_checker.specs.Words.{refused_words}
 use Rattle.document_checker.specs.declared.fault.CheckFault.{CheckFault}
 use Rattle.document_checker.specs.declared.fault.CheckFault.TheVariants as faults
 
@@ -27,44 +25,12 @@ kind_words Unbounded = codes "unbounded"
 kind_words (BestSoFar bound) = codes "bestSoFar" ++ within_words bound
 kind_words (Unsure bound) = codes "unsure" ++ within_words (Some bound)
 
--- a name with a number, and with two; one space between
-abbrev pub numbered : List ℕ → ℕ → List ℕ
-numbered name n = name ++ (32 ∷ decimal n)
-
-abbrev pub placed : List ℕ → ℕ → ℕ → List ℕ
-placed name n m = numbered name n ++ (32 ∷ decimal m)
-
 abbrev pub reason : List ℕ → List ℕ
 reason words = codes "refused " ++ words
 
 -- a document's name, and what its own text says
 abbrev pub quoted : (name : List ℕ) → List ℕ → List ℕ
 quoted name told = reason name ++ (32 ∷ told)
-
--- why a certificate or a direction is refused
-abbrev pub unshown_words : Unshown → List ℕ
-unshown_words (Tree n) = numbered (codes "Tree") n
-unshown_words (Sign n c) = placed (codes "Sign") n c
-unshown_words (Form n c) = placed (codes "Form") n c
-unshown_words (Step n c) = placed (codes "Step") n c
-unshown_words (Sum n) = numbered (codes "Sum") n
-unshown_words (Direction c) = numbered (codes "Direction") c
-unshown_words (Wide n) = numbered (codes "Wide") n
-
--- its level, from the second on
-abbrev pub level_words : ℕ → List ℕ
-level_words level = cond (nat_eq level 1) [] (numbered (codes "Level") level ++ (32 ∷ []))
-
--- why a claim is refused
-abbrev pub refused_words : Refused → List ℕ
-refused_words (NotFeasible c) = numbered (codes "NotFeasible") c
-refused_words WidePoint = numbered (codes "Wide") 0
-refused_words Value = codes "Value"
-refused_words (Round n c) = placed (codes "Round") n c
-refused_words (WideRound n) = numbered (codes "WideRound") n
-refused_words (Levels n) = numbered (codes "Levels") n
-refused_words (Level level why) = level_words level ++ unshown_words why
-refused_words NoClaim = codes "NoClaim"
 
 -- the text of a reason for which a claim is refused
 abbrev pub refused_text : Refused → List ℕ

@@ -4,17 +4,22 @@ use cert_checker::Refused;
 use osil_grammar::OsilFault;
 use osrl_grammar::OsrlFault;
 use std::alloc::AllocError;
+use thiserror::Error;
 
 /// Why two documents aren't accepted.
-#[derive(Drop)]
+#[derive(Debug, Drop, Error)]
 pub enum CheckFault {
     /// The instance's document is refused.
+    #[error("refused Instance {0}")]
     Instance(OsilFault),
     /// The result document is refused.
+    #[error("refused Result {0}")]
     Result(OsrlFault),
     /// What the result document claims is refused of the instance, or it claims nothing.
+    #[error("refused {0}")]
     Claim(Refused),
     /// There was no memory.
+    #[error("there was no memory")]
     Memory,
 }
 

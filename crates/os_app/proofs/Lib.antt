@@ -10,3 +10,4 @@ pub mod WithinTurns
 pub mod Summaries
 pub mod Calls
 pub mod CompactRuns
+pub mod AtOnce

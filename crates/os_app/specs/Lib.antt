@@ -1,3 +1,4 @@
+pub mod AtOnce
 pub mod Checks
 pub mod CompactRuns
 pub mod Safe

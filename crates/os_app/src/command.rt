@@ -1,10 +1,12 @@
 //! What each command does, and the status that it ends with.
-ghost use Rattle.std.specs.Prelude.{◌≡◌, map, IfOk, OnErr};
+ghost use Rattle.std.specs.Prelude.{◌≡◌, ℕ, List, map, Some, IfErr, IfOk, OnErr};
 ghost use Rattle.std.specs.Process.{exit_status};
 ghost use Rattle.std.specs.String.{string_bytes};
-ghost use Rattle.os_io.specs.Streams.{SameInput, SameOutput};
+ghost use Rattle.os_io.specs.Files.{Held};
+ghost use Rattle.os_io.specs.Streams.{SameInput, SameOutput, Tells};
 ghost use Rattle.command_answers.specs.Outputs.{IsTold};
-ghost use Rattle.command_line.specs.Words.{AsksForNoLink, NamesNoFile, usage};
+ghost use Rattle.command_line.specs.Words.{AsksForNoLink, NamesNoFile, asks, meant, usage};
+ghost use Rattle.os_app.specs.AtOnce.{IsAskedFor, asked_by};
 ghost use Rattle.os_app.specs.Ends.{AnswerEnds, from_memory};
 ghost use Rattle.os_app.specs.Grounds.{AnswersAreOne};
 ghost use Rattle.os_app.specs.ProgramRuns.{NamesNoJournal, setup_of, stores_run};
@@ -99,6 +101,125 @@ fn documents_are_judged_once()
     documents_have_one_answer();
 }
 
+/// What words ask for that waits for others.
+#[derive(Clone, Copy)]
+pub enum Waits<'w> {
+    /// A session, over the journal in a file, if it is named.
+    Session { journal: Option<&'w str> },
+    /// Links are served.
+    Serve(ServeWords<'w>),
+}
+
+/// Does what the words ask for, as [`run`] does, where that waits for nobody but the files, disks, links and the output: it has no handle
+/// by which it might wait, start threads or run on for ever. Of words that ask for a session or a server it says so, and does nothing.
+pub fn run_at_once<'w, F: Files, K: Stores, O: Sink, N: Listener>(
+    alloc: Global,
+    words: &'w [String],
+    files: &mut F,
+    stores: &mut K,
+    output: &mut O,
+    net: &mut N,
+) -> Result<u8, Waits<'w>>
+    // What a run does, whatever its input tells, which it hasn't.
+    ensures runs { IfOk result (λ status. (input : Tells) → Runs K.Store.Disk (stores.new ≡ stores.old) status (record {
+      words = map string_bytes words.now;
+      held = F.held files.old;
+      file_faults = F.faults files.old;
+      file_faults_after = F.faults files.new;
+      input = input;
+      input_after = input;
+      output = O.tells output.old;
+      output_after = O.tells output.new;
+      net = N.tells net.old;
+      net_after = N.tells net.new;
+    }) (stores_run K.held K.back K.opened K.faults stores.old stores.new)) }
+    ensures waits { IfErr result (λ it. asks (map string_bytes words.now) ≡ Some (meant (asked_by it))) }
+    ensures asked { IfErr result IsAskedFor }
+    ensures untouched { OnErr result ((files.new ≡ files.old) × (stores.new ≡ stores.old) × (output.new ≡ output.old) × (net.new ≡ net.old)) }
+    ensures input_of_output { SameInput (O.tells output.old) (O.tells output.new) }
+    ensures held { F.held files.new ≡ F.held files.old }
+    ensures unread { NamesNoFile (map string_bytes words.now) → files.new ≡ files.old }
+    ensures unlinked { AsksForNoLink (map string_bytes words.now) → net.new ≡ net.old }
+    ensures unkept { NamesNoJournal (map string_bytes words.now) → stores.new ≡ stores.old }
+{
+    match read_words(alloc, words) {
+        Ok(Some(Asked::Session { journal })) => Err(Waits::Session { journal }),
+        Ok(Some(Asked::Serve(to))) => Err(Waits::Serve(to)),
+        Ok(Some(Asked::Check { osil, osrl })) => {
+            documents_are_judged_once();
+            Ok(tell(output, answer_about(alloc, files, osil, osrl)))
+        }
+        Ok(
+            Some(
+                Asked::Solve {
+                    osil,
+                    options,
+                    safe,
+                },
+            ),
+        ) => { Ok(tell(output, solve_files(alloc, files, osil, options, safe))) }
+        Ok(Some(Asked::Generate { variables })) => {
+            numbers_are_within_their_ends();
+            Ok(tell(output, from_memory(generate(alloc, variables))))
+        }
+        Ok(Some(Asked::Call(call))) => Ok(make_call(alloc, call, files, output, net)),
+        Ok(Some(Asked::Compact { old, new })) => {
+            Ok(compact_named(alloc, stores, old, new, output))
+        }
+        Ok(None) => Ok(tell_usage(output)),
+        Err(AllocError) => Ok(NO_MEMORY),
+    }
+}
+
+/// Does what waits for others, and says how it went.
+fn serve_for<K: Stores, I: Source, O: Sink, N: Listener, R: Threads + Wait + Sync>(
+    rt: &R,
+    alloc: Global,
+    waits: Waits<'_>,
+    stores: &mut K,
+    input: &mut I,
+    output: &mut O,
+    net: &mut N,
+) -> u8
+where
+    N::Conn: Send + Drop,
+    K::Store: Send + Sync,
+    requires { IsAskedFor waits }
+    ensures runs { (words : List (List ℕ)) (held : List ℕ → Held) (faults : ℕ) → asks words ≡ Some (meant (asked_by waits.entry)) → Runs K.Store.Disk (stores.new ≡ stores.old) result (record {
+      words = words;
+      held = held;
+      file_faults = faults;
+      file_faults_after = faults;
+      input = I.tells input.old;
+      input_after = I.tells input.new;
+      output = O.tells output.old;
+      output_after = O.tells output.new;
+      net = N.tells net.old;
+      net_after = N.tells net.new;
+    }) (stores_run K.held K.back K.opened K.faults stores.old stores.new) }
+    ensures output_of_input { SameOutput (I.tells input.old) (I.tells input.new) }
+    ensures input_of_output { SameInput (O.tells output.old) (O.tells output.new) }
+    ensures unlinked { (words : List (List ℕ)) → asks words ≡ Some (meant (asked_by waits.entry)) → AsksForNoLink words → net.new ≡ net.old }
+    ensures unkept { (words : List (List ℕ)) → asks words ≡ Some (meant (asked_by waits.entry)) → NamesNoJournal words → stores.new ≡ stores.old }
+{
+    match waits {
+        Waits::Session { journal } => match journal {
+            None => session_status(serve_session(rt, alloc, input, output)),
+            Some(name) => keep_session(rt, alloc, stores, name, input, output),
+        },
+        Waits::Serve(to) => {
+            numbers_are_within_their_ends();
+            let setup = setup_of(to);
+            match to.journal {
+                None => serve_status(serve(rt, alloc, net, output, to.host, to.port, setup)),
+                Some(name) => keep_server(
+                    rt, alloc, stores, name, net, output, to.host, to.port, setup,
+                ),
+            }
+        }
+    }
+}
+
 /// Does what the words ask for, and says how it went. The words begin with the program's name. `session` serves the
 /// requests that come on the input, over a table of jobs of its own, and writes the answers to the output. `check` reads two
 /// files, an instance's document and a result document, and writes `accepted` and what is accepted, or `refused` and why, in
@@ -149,41 +270,8 @@ where
     ensures unlinked { AsksForNoLink (map string_bytes words.now) → net.new ≡ net.old }
     ensures unkept { NamesNoJournal (map string_bytes words.now) → stores.new ≡ stores.old }
 {
-    match read_words(alloc, words) {
-        Ok(Some(Asked::Session { journal })) => match journal {
-            None => session_status(serve_session(rt, alloc, input, output)),
-            Some(name) => keep_session(rt, alloc, stores, name, input, output),
-        },
-        Ok(Some(Asked::Check { osil, osrl })) => {
-            documents_are_judged_once();
-            tell(output, answer_about(alloc, files, osil, osrl))
-        }
-        Ok(
-            Some(
-                Asked::Solve {
-                    osil,
-                    options,
-                    safe,
-                },
-            ),
-        ) => { tell(output, solve_files(alloc, files, osil, options, safe)) }
-        Ok(Some(Asked::Generate { variables })) => {
-            numbers_are_within_their_ends();
-            tell(output, from_memory(generate(alloc, variables)))
-        }
-        Ok(Some(Asked::Call(call))) => make_call(alloc, call, files, output, net),
-        Ok(Some(Asked::Compact { old, new })) => compact_named(alloc, stores, old, new, output),
-        Ok(Some(Asked::Serve(to))) => {
-            numbers_are_within_their_ends();
-            let setup = setup_of(to);
-            match to.journal {
-                None => serve_status(serve(rt, alloc, net, output, to.host, to.port, setup)),
-                Some(name) => keep_server(
-                    rt, alloc, stores, name, net, output, to.host, to.port, setup,
-                ),
-            }
-        }
-        Ok(None) => tell_usage(output),
-        Err(AllocError) => NO_MEMORY,
+    match run_at_once(alloc, words, files, stores, output, net) {
+        Ok(status) => status,
+        Err(waits) => serve_for(rt, alloc, waits, stores, input, output, net),
     }
 }

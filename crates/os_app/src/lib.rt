@@ -9,6 +9,9 @@
 //! `--journal FILE` has a session or a server keep its jobs in a file, and `compact OLD NEW` writes such a file again, without what
 //! jobs that are gone had. The program `os_main` hands in the real ends and ends with the status of `run`, [`exit_code`]. The laws say
 //! what the words mean, and when `solve --safe` doesn't end at its limit of turns.
+//!
+//! What waits for nobody but its files, disks, link and output is done by [`run_at_once`], which has no handle to wait by; only a session
+//! and a server wait for others ([`Waits`]).
 #![tactic(auto)]
 
 mod checking;
@@ -20,6 +23,6 @@ mod solving;
 mod statuses;
 mod stored;
 
-pub use command::{exit_code, run};
+pub use command::{Waits, exit_code, run, run_at_once};
 pub use command_line::{commands_have_their_words, numbers_are_within_their_ends};
 pub use laws::safe_solves_stay_within_turns;

@@ -5,11 +5,11 @@
 //! OSOL] [--safe]` writes the result document of an instance, and `generate N` says how a generated one was solved. `serve`
 //! serves connections over TCP, and `call` makes a call of such a server; `--journal FILE` keeps jobs in a file, and
 //! `compact OLD NEW` writes such a file again without what jobs had that are gone. The program is [`os_app::run`] over the real words,
-//! files, input, output and links, and ends with its status.
+//! files, input, output and links, and ends with its status; what waits for nobody is done by [`os_app::run_at_once`] before.
 #![tactic(auto)]
 
 use disks::FileStores;
-use os_app::{exit_code, run};
+use os_app::{exit_code, run, run_at_once};
 use os_io::{DiskFiles, Memory, StdSink, StdSource};
 use std::alloc::AllocError;
 use std::env;
@@ -38,14 +38,26 @@ fn main(rt: HostRuntime) -> ExitCode {
     let mut input = StdSource::new(rt.stdin());
     let mut output = StdSink::new(rt.stdout());
     let mut net = TcpNet::new(&rt);
-    exit_code(Ok(run(
-        &rt,
+    let words = words.as_slice();
+    let ran = run_at_once(
         rt.alloc(),
-        words.as_slice(),
+        words,
         &mut files,
         &mut stores,
-        &mut input,
         &mut output,
         &mut net,
-    )))
+    );
+    exit_code(Ok(match ran {
+        Ok(status) => status,
+        Err(_) => run(
+            &rt,
+            rt.alloc(),
+            words,
+            &mut files,
+            &mut stores,
+            &mut input,
+            &mut output,
+            &mut net,
+        ),
+    }))
 }
