@@ -2,7 +2,7 @@ use Rattle.std.proofs.Common.{ap, arith, ◌∙◌, ◌<◌, length}
 use Rattle.desk.specs.declared.view.View.{View}
 use Rattle.server_threads.specs.Serving.{taken}
 use Rattle.server_threads.proofs.Rounds.{taken_fewer, going_so, going_more}
-use Rattle.server_threads.proofs.links.take_links.Goals as goal
+use Rattle.server_threads.proofs.links.LinkHost+E+J+T+N+N+Conn+R+S+B.take_links.Goals as goal
 
 pub loop-number-preserved : goal.loop-number-preserved
 loop-number-preserved g c =
@@ -12,14 +12,14 @@ loop-number-preserved g c =
     let s = c.split-theirs.ensures in
     let p = c.serve_link-place.ensures in
     let q = c.put_in.ensures in
-    let long = c.free_place-at.new.running.places.ok.0 in
+    let long = c.free_place-at.new.self.running.places.ok.0 in
     let within = way.within in
-    let items = c.free_place-at.new.running.places.items in
+    let items = c.free_place-at.new.self.running.places.items in
     let below : c.free_place-at.result < length items = omega arith in
     let fewer : length (taken items) < length items = taken_fewer items c.free_place-at.result below way.free in
     let more = ap (λ (v : View). v.given) s.seat.1 in
     let given = before.given in
-    let same = way.given in
+    let same = way.stays.given in
     let room = before.room in
     let kept = way.len in record {
       goes = record {
@@ -30,5 +30,6 @@ loop-number-preserved g c =
       };
       given = omega arith;
       room = q.len ∙ (way.len ∙ before.room);
-      faults = a.counted ∙ (way.faults ∙ before.faults);
+      kept = record { means = way.stays.kept.means ∙ before.kept.means; before = way.stays.kept.before ∙ before.kept.before };
+      faults = a.counted ∙ (way.stays.faults ∙ before.faults);
     }

@@ -1,6 +1,6 @@
 use Rattle.std.proofs.Common.{arith, ap, sym, ◌∙◌, [], ◌∷◌, ◌++◌}
 use Rattle.server_threads.proofs.Rounds.{taken_last, taken_free, taken_empty, going_so, going_as, going_over}
-use Rattle.server_threads.proofs.links.join_all.Goals as goal
+use Rattle.server_threads.proofs.links.LinkHost+E+J+T+N+N+Conn+R+S+B.join_all.Goals as goal
 
 pub join_one-requires-clause-goes : goal.join_one-requires-clause-goes
 join_one-requires-clause-goes g c κs within =
@@ -18,12 +18,11 @@ loop-last-preserved g c =
         few = before.goes.few;
         going = going_as _ _ _ _ _ _ _ _ _ _ (sym (taken_free _ _ (c.in-Some.ensures.items ∙ ap (λ o. c.pop.new.self.items ++ o ∷ []) c.in_default-last.is))) before.goes.going;
       };
-      given = before.given;
-      faults = before.faults;
+      stays = before.stays;
     }
 
 pub returns-clause-over : goal.returns-clause-over
 returns-clause-over g c =
     let none = c.in_default.ensures.cases.0 in
-    let long = c.loop-last.running.places.ok.0 in
-    going_over _ _ _ _ _ _ _ _ _ c.loop-last.invariant.goes.going (taken_empty c.loop-last.running.places.items (omega arith))
+    let long = c.loop-last.self.running.places.ok.0 in
+    going_over _ _ _ _ _ _ _ _ _ c.loop-last.invariant.goes.going (taken_empty c.loop-last.self.running.places.items (omega arith))
