@@ -271,7 +271,11 @@ impl<
             Some(at) => at,
             None => self.running.left.recv(self.means.rt).unwrap_or(0),
         };
-        let at = if hint < self.running.places.len() { hint } else { 0 };
+        let at = if hint < self.running.places.len() {
+            hint
+        } else {
+            0
+        };
         self.free_at(net, at);
         at
     }

@@ -129,7 +129,12 @@ pub(crate) fn start_workers<
 }
 
 /// Joins the worker that came first, and takes its seat in.
-fn join_first_worker<J: Verdicts + Send + Sync, T: Slotted<J> + Send + Sync, R: Threads, S: Service<J>>(
+fn join_first_worker<
+    J: Verdicts + Send + Sync,
+    T: Slotted<J> + Send + Sync,
+    R: Threads,
+    S: Service<J>,
+>(
     means: &Means<'_, J, T, R, S>,
     was: &Snapshot<SeatOf<T>>,
     first: &mut SeatOf<T>,

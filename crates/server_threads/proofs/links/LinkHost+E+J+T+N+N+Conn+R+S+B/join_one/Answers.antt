@@ -8,8 +8,8 @@ join-done-requires g c = place_due _ _ _ _ _ _ _ _ _ _ c.requires.goes.going
 pub meet-requires-clause-other : goal.meet-requires-clause-other
 meet-requires-clause-other g c = seat_of_desk _ _ _ _ _ _ _ _ _ _ _ _ c.requires.goes.going c.join-done.ensures
 
-pub overflow_add-running : goal.overflow_add-running
-overflow_add-running g c =
+pub overflow_add-self : goal.overflow_add-self
+overflow_add-self g c =
     let few = going_few _ _ _ _ _ _ _ _ _ c.requires.goes.going c.requires.goes.few in
     omega (arith, few, c.number_of.ensures.at_most)
 
