@@ -3,8 +3,7 @@
 //! Whoever reads a document by its tree asks for elements at a [`Spot`]: the one child element of a name ([`only_child`]);
 //! all child elements, whatever their names ([`child_elements`]); and their own text ([`plain_text`] where it is to be all
 //! that they hold). Whoever writes one tells a `TreeBuilder` whole elements by [`open`], [`close`] and [`leaf`]; what was
-//! told is known whatever comes behind it. [`refusal_at`] and [`tree_fault_text`] are the texts of refusals, and
-//! [`told_name`] is what they tell of a name.
+//! told is known whatever comes behind it. [`told_name`] is what the text of a refusal tells of a name.
 //!
 //! The definitions say, for all kinds of documents at once, what bytes are as documents, and which nodes are those of XML.
 #![tactic(auto)]
@@ -19,7 +18,7 @@ mod telling;
 
 pub use children::{only_child, only_one};
 pub use content::{child_elements, plain_text};
-pub use faults::{refusal_at, told_name, tree_fault_text};
+pub use faults::told_name;
 pub use laws::{documents_are_of_characters, texts_part_at_ascii, tree_faults_have_one_text};
 pub use spot::Spot;
 pub use telling::{

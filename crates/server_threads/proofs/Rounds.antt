@@ -17,12 +17,13 @@ use Rattle.desk.proofs.Histories.{starts_again}
 use Rattle.desk.specs.Rule.{HasMet, one_if, one_more, newcomer, met_as}
 use Rattle.desk.specs.SeatMoves.{IsSeatOf, Meets}
 use Rattle.server_threads.specs.declared.means.ServeFault.{ServeFault}
+use Rattle.server_threads.specs.declared.links.LinkHost.{LinkHost}
 use Rattle.server_threads.specs.declared.promise.Finished.{Finished}
 use Rattle.desk.specs.SeatHistory.{AskedBy}
 use Rattle.server_threads.specs.Talks.{DeskSeat, LinkTalk, Shift, talk_met, shift_met, short_of, Came, GivenBack, AllTalked, AllWorked, IsShift, AnyHistory, Acts}
 use Rattle.server_threads.specs.Promises.{Due}
 use Rattle.server_threads.specs.Serving.{Stand, taken, Opens, AtOnce, ServesLinks, EndsServing}
-use Rattle.server_threads.specs.OpenLinks.{IsSplitOff, AreNumberedFrom, KeepsSeats, Visit, visit, AreAmong, Begun, AllBegun, Conversing, promised, seat_out, number_out, visit_out, served_so, Going, Working, shift_promised, workers_out, worked_so, Hired, Staffed, LinksServed, HaveLeft, CameSo, served_result}
+use Rattle.server_threads.specs.OpenLinks.{IsSplitOff, AreNumberedFrom, KeepsSeats, Visit, visit, AreAmong, Begun, AllBegun, Conversing, promised, seat_out, number_out, visit_out, served_so, Going, Working, shift_promised, workers_out, worked_so, Hired, Staffed, LinksServed, HaveLeft, CameSo, served_result, KeepsMeans}
 
 pub starts_through : (a b c : List SeatEntry) → StartsWith b a → StartsWith c b → StartsWith c a
 starts_through a b c ab bc = (ab.0 ++ bc.0, bc.1 ∙ (ap (λ l. l ++ bc.0) ab.1 ∙ append_assoc a ab.0 bc.0))
@@ -689,3 +690,15 @@ serves_none made talked servers count old = record {
   number = refl;
   out = refl;
 }
+
+-- ---- what a host keeps
+
+module _ {E J T N L R S B : Type 0} {host host' : LinkHost E J T N L R S B} (kept : KeepsMeans host host') where
+  pub same_start : host'.before.seat.value.me.0.given ≡ host.before.seat.value.me.0.given
+  same_start i = (kept.before i).seat.value.me.0.given
+
+  pub same_servers : host'.means.limits.servers ≡ host.means.limits.servers
+  same_servers i = (kept.means i).limits.servers
+
+  pub same_connections : host'.means.limits.connections ≡ host.means.limits.connections
+  same_connections i = (kept.means i).limits.connections

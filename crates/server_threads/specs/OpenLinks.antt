@@ -12,12 +12,10 @@ use Rattle.desk.specs.History.{StartsWith}
 use Rattle.desk.specs.Rule.{HasMet}
 use Rattle.desk.specs.SeatMoves.{desk_id, IsSeatOf}
 use Rattle.server_threads.specs.declared.means.ServeLimits.{ServeLimits}
-use Rattle.server_threads.specs.declared.means.Means.{Means}
 use Rattle.server_threads.specs.declared.means.Room.{Room}
 use Rattle.server_threads.specs.declared.means.ServeFault.{ServeFault}
 use Rattle.server_threads.specs.declared.means.ServeFault.TheVariants.{Failed}
-use Rattle.server_threads.specs.declared.links.Before.{Before}
-use Rattle.server_threads.specs.declared.links.Running.{Running}
+use Rattle.server_threads.specs.declared.links.LinkHost.{LinkHost}
 use Rattle.server_threads.specs.declared.places.Started.{Started}
 use Rattle.server_threads.specs.declared.promise.Finished.{Finished}
 use Rattle.server_threads.specs.declared.promise.ToServe.{ToServe}
@@ -106,15 +104,27 @@ module _ {J T L S B : Type 0} where
       pub reached : new.reached ≡ old.reached
       pub shorts : short ≡ short_of talks
 
-    -- what holds of the first seat and of the listener while links are being served by these means, in these places
-    pub record GoesOn {N R : Type 0} (net_tells : N → NetTells) (means : Means J T R S) (before : Before T N) (seat : DeskSeat T) (net : N) (short : ℕ) (places : List (Conversing J T L S B)) : Type 0 where
-      pub seat_is : IsSeatOf (desk_id means.desk.now) seat
-      pub few : seat.me.0.given ≤ before.seat.value.me.0.given + 2 ^ 32
-      pub going : Going means.limits.servers (desk_id means.desk.now) (stand net_tells before.seat.value before.net.value) (stand net_tells seat net) short places
+    -- what holds of a host and of the listener while links are being served in these places
+    pub record GoesOn {E N R : Type 0} (net_tells : N → NetTells) (host : LinkHost E J T N L R S B) (net : N) (places : List (Conversing J T L S B)) : Type 0 where
+      pub seat_is : IsSeatOf (desk_id host.means.desk.now) host.seat
+      pub few : host.seat.me.0.given ≤ host.before.seat.value.me.0.given + 2 ^ 32
+      pub going : Going host.means.limits.servers (desk_id host.means.desk.now) (stand net_tells host.before.seat.value host.before.net.value) (stand net_tells host.seat net) host.running.short places
 
-    -- and by those that run
-    abbrev pub Goes : {N R : Type 0} → (N → NetTells) → Means J T R S → Before T N → DeskSeat T → N → Running J T L S B → Type 0
-    Goes net_tells means before seat net running = GoesOn net_tells means before seat net running.short (taken running.places.items)
+    -- and in its own
+    abbrev pub Goes : {E N R : Type 0} → (N → NetTells) → LinkHost E J T N L R S B → N → Type 0
+    Goes net_tells host net = GoesOn net_tells host net (taken host.running.places.items)
+
+module _ {E J T N L R S B : Type 0} where
+  -- what a host uses, and what stood before the first link came, stay
+  pub record KeepsMeans (host host' : LinkHost E J T N L R S B) : Type 0 where
+    pub means : host'.means ≡ host.means
+    pub before : host'.before ≡ host.before
+
+  -- so many seats were split off as before, and the listener failed no more often
+  pub record Stays (net_tells : N → NetTells) (host : LinkHost E J T N L R S B) (net : N) (host' : LinkHost E J T N L R S B) (net' : N) : Type 0 where
+    pub kept : KeepsMeans host host'
+    pub given : host'.seat.me.0.given ≡ host.seat.me.0.given
+    pub faults : (net_tells net').faults ≡ (net_tells net).faults
 
 -- links came in this order, were served, each by a seat of its own, and were given back, perhaps in another order, so that none is being served any more
 pub record LinksServed (talked : Tells → List Said → Tells → Bool → Type 0) (servers : ℕ) (old new : Stand) : Type 0 where

@@ -6,7 +6,7 @@ ghost use Rattle.desk.specs.SeatMoves.{desk_id, IsSeatOf};
 ghost use Rattle.server_threads.specs.Talks.{Acts, AnyHistory, short_of};
 ghost use Rattle.server_threads.specs.Promises.{promise_of, Due};
 ghost use Rattle.server_threads.specs.Serving.{stand, taken, MayTake};
-ghost use Rattle.server_threads.specs.OpenLinks.{GoesOn, Goes, LinksServed, CameSo, served_result, served_so};
+ghost use Rattle.server_threads.specs.OpenLinks.{GoesOn, Goes, Stays, KeepsMeans, LinksServed, CameSo, served_result, served_so};
 
 use crate::means::{Means, ServeFault};
 use crate::places::{Started, put_in, take_out};
@@ -150,131 +150,29 @@ fn number_of(so: bool) -> u64
     if so { 1 } else { 0 }
 }
 
-/// Joins a thread, takes its seat in, and gives its link back.
-fn join_one<
-    J: Verdicts + Send + Sync,
-    T: Slotted<J> + Send + Sync,
-    N: Listener,
-    R: Threads,
+/// Links that are being served: what all threads use, the bell of the workers, where threads are started, how the first seat and the listener stood before the first link came, that seat, and
+/// what runs. The listener is lent to each method.
+#[derive(Drop)]
+pub(crate) struct LinkHost<
+    's,
+    E,
+    J: Verdicts,
+    T: Slotted<J>,
+    N,
+    L: Link,
+    R,
     S: Service<J>,
     B: Bell,
->(
-    means: &Means<'_, J, T, R, S>,
-    before: &Before<T, N>,
-    seat: &mut SeatOf<T>,
-    net: &mut N,
-    running: &mut Running<J, T, N::Conn, S, B>,
-    place: StartedLink<J, T, N::Conn, S, B>,
-)
-    requires goes { GoesOn AnyHistory (S.talked B.rang) N.Conn.tells N.tells means.now before.now seat.old net.old running.old.short (place ∷ taken running.old.places.items) }
-    ensures goes { Goes AnyHistory (S.talked B.rang) N.Conn.tells N.tells means.now before.now seat.new net.new running.new }
-    ensures given { seat.new.me.0.given ≡ seat.old.me.0.given }
-    ensures faults { (N.tells net.new).faults ≡ (N.tells net.old).faults }
-    ensures places { running.new.places ≡ running.old.places }
-{
-    let done = place.join(means.rt);
-    means.desk.meet(seat, done.seat);
-    net.done(done.link);
-    running.short += number_of(done.short);
+> {
+    means: Means<'s, J, T, R, S>,
+    bell: &'s B,
+    scope: &'s Scope<'s, E>,
+    before: Before<T, N>,
+    seat: SeatOf<T>,
+    running: Running<J, T, L, S, B>,
 }
 
-/// Joins the thread that is in this place, if any is, so that the place is free.
-fn clear<
-    J: Verdicts + Send + Sync,
-    T: Slotted<J> + Send + Sync,
-    N: Listener,
-    R: Threads,
-    S: Service<J>,
-    B: Bell,
->(
-    means: &Means<'_, J, T, R, S>,
-    before: &Before<T, N>,
-    seat: &mut SeatOf<T>,
-    net: &mut N,
-    running: &mut Running<J, T, N::Conn, S, B>,
-    at: usize,
-)
-    requires goes { Goes AnyHistory (S.talked B.rang) N.Conn.tells N.tells means.now before.now seat.old net.old running.old }
-    requires within { at < vec_len running.old.places }
-    ensures goes { Goes AnyHistory (S.talked B.rang) N.Conn.tells N.tells means.now before.now seat.new net.new running.new }
-    ensures given { seat.new.me.0.given ≡ seat.old.me.0.given }
-    ensures faults { (N.tells net.new).faults ≡ (N.tells net.old).faults }
-    ensures free { slice_index_or running.new.places.items at None ≡ None }
-    ensures len { vec_len running.new.places ≡ vec_len running.old.places }
-{
-    if let Some(place) = take_out(&mut running.places, at) {
-        join_one(means, before, seat, net, running, place);
-    }
-}
-
-/// Joins the threads that have said that their places become free.
-fn join_left<
-    J: Verdicts + Send + Sync,
-    T: Slotted<J> + Send + Sync,
-    N: Listener,
-    R: Threads + Wait,
-    S: Service<J>,
-    B: Bell,
->(
-    means: &Means<'_, J, T, R, S>,
-    before: &Before<T, N>,
-    seat: &mut SeatOf<T>,
-    net: &mut N,
-    running: &mut Running<J, T, N::Conn, S, B>,
-)
-    requires goes { Goes AnyHistory (S.talked B.rang) N.Conn.tells N.tells means.now before.now seat.old net.old running.old }
-    ensures goes { Goes AnyHistory (S.talked B.rang) N.Conn.tells N.tells means.now before.now seat.new net.new running.new }
-    ensures given { seat.new.me.0.given ≡ seat.old.me.0.given }
-    ensures faults { (N.tells net.new).faults ≡ (N.tells net.old).faults }
-    ensures len { vec_len running.new.places ≡ vec_len running.old.places }
-{
-    for _ in 0..means.limits.servers {
-        let Ok(at) = running.left.try_recv(means.rt) else {
-            break;
-        };
-        if at < running.places.len() {
-            clear(means, before, seat, net, running, at);
-            let _ = running.free.push(at);
-        }
-    }
-}
-
-/// A place that is free; where none is, the next that becomes so is waited for.
-fn free_place<
-    J: Verdicts + Send + Sync,
-    T: Slotted<J> + Send + Sync,
-    N: Listener,
-    R: Threads + Wait,
-    S: Service<J>,
-    B: Bell,
->(
-    means: &Means<'_, J, T, R, S>,
-    before: &Before<T, N>,
-    seat: &mut SeatOf<T>,
-    net: &mut N,
-    running: &mut Running<J, T, N::Conn, S, B>,
-) -> usize
-    requires goes { Goes AnyHistory (S.talked B.rang) N.Conn.tells N.tells means.now before.now seat.old net.old running.old }
-    requires some { 0 < vec_len running.old.places }
-    ensures goes { Goes AnyHistory (S.talked B.rang) N.Conn.tells N.tells means.now before.now seat.new net.new running.new }
-    ensures given { seat.new.me.0.given ≡ seat.old.me.0.given }
-    ensures faults { (N.tells net.new).faults ≡ (N.tells net.old).faults }
-    ensures within { result < vec_len running.new.places }
-    ensures free { slice_index_or running.new.places.items result None ≡ None }
-    ensures len { vec_len running.new.places ≡ vec_len running.old.places }
-{
-    join_left(means, before, seat, net, running);
-    let hint = match running.free.pop() {
-        Some(at) => at,
-        None => running.left.recv(means.rt).unwrap_or(0),
-    };
-    let at = if hint < running.places.len() { hint } else { 0 };
-    clear(means, before, seat, net, running, at);
-    at
-}
-
-/// Takes so many links, and has each served by a seat of its own, so many at once at most.
-pub(crate) fn take_links<
+impl<
     's,
     E,
     J: Verdicts + Send + Sync,
@@ -283,62 +181,151 @@ pub(crate) fn take_links<
     R: Threads + Wait + Sync,
     S: Service<J> + Sync,
     B: Bell + Sync,
->(
-    means: &Means<'s, J, T, R, S>,
-    bell: &'s B,
-    scope: &'s Scope<'s, E>,
-    before: &Before<T, N>,
-    seat: &mut SeatOf<T>,
-    net: &mut N,
-    running: &mut Running<J, T, N::Conn, S, B>,
-) -> Result<(), Failed>
-where
-    N::Conn: Send + Drop + 's,
-    requires goes { Goes AnyHistory (S.talked B.rang) N.Conn.tells N.tells means.now before.now seat.old net.old running.old }
-    requires given { seat.old.me.0.given ≡ before.now.seat.value.me.0.given }
-    requires may { MayTake means.now.limits running.old }
-    ensures goes { Goes AnyHistory (S.talked B.rang) N.Conn.tells N.tells means.now before.now seat.new net.new running.new }
-    ensures came { CameSo result means.now.limits.connections seat.old.me.0.given seat.new.me.0.given (N.tells net.old).faults (N.tells net.new).faults }
-{
-    for number in 0..means.limits.connections {
-        let at = free_place(means, before, seat, net, running);
-        let link = net.accept()?;
-        let theirs = means.desk.split(seat);
-        let place = serve_link(means, bell, scope, theirs, link, at);
-        put_in(&mut running.places, at, place);
-    }
-    Ok(())
-}
-
-/// Joins all threads, and says how many links ended for want of memory.
-pub(crate) fn join_all<
-    J: Verdicts + Send + Sync,
-    T: Slotted<J> + Send + Sync,
-    N: Listener,
-    R: Threads,
-    S: Service<J>,
-    B: Bell,
->(
-    means: &Means<'_, J, T, R, S>,
-    before: &Before<T, N>,
-    seat: &mut SeatOf<T>,
-    net: &mut N,
-    mut running: Running<J, T, N::Conn, S, B>,
-) -> u64
-where
-    N::Conn: Drop,
-    requires goes { Goes AnyHistory (S.talked B.rang) N.Conn.tells N.tells means.now before.now seat.old net.old running }
-    ensures seat { IsSeatOf (desk_id means.now.desk.now) seat.new }
-    ensures over { (o : LinksServed (S.talked B.rang) means.now.limits.servers (stand N.tells before.now.seat.value before.now.net.value) (stand N.tells seat.new net.new)) × (result ≡ short_of o.links) }
-    ensures given { seat.new.me.0.given ≡ seat.old.me.0.given }
-    ensures faults { (N.tells net.new).faults ≡ (N.tells net.old).faults }
-{
-    while let Some(last) = running.places.pop() {
-        if let Some(place) = last {
-            join_one(means, before, seat, net, &mut running, place);
+> LinkHost<'s, E, J, T, N, N::Conn, R, S, B> {
+    /// No link has come.
+    pub(crate) fn new(
+        means: &Means<'s, J, T, R, S>,
+        bell: &'s B,
+        scope: &'s Scope<'s, E>,
+        seat: SeatOf<T>,
+        net: &N,
+        running: Running<J, T, N::Conn, S, B>,
+    ) -> LinkHost<'s, E, J, T, N, N::Conn, R, S, B>
+        requires seat { IsSeatOf (desk_id means.now.desk.now) seat }
+        requires first { seat.me.0.number ≡ 0 }
+        requires may { MayTake means.now.limits running }
+        ensures goes { Goes AnyHistory (S.talked B.rang) N.Conn.tells N.tells result net.now }
+        ensures given { result.seat.me.0.given ≡ seat.me.0.given }
+        ensures may { MayTake result.means.limits result.running }
+        ensures means { result.means ≡ means.now }
+        ensures stands { stand N.tells result.before.seat.value result.before.net.value ≡ stand N.tells seat net.now }
+    {
+        let before = Before::of(&seat, net);
+        LinkHost {
+            means: means.again(),
+            bell,
+            scope,
+            before,
+            seat,
+            running,
         }
     }
-    running.short
+
+    /// Joins a thread, takes its seat in, and gives its link back.
+    fn join_one(&mut self, net: &mut N, place: StartedLink<J, T, N::Conn, S, B>)
+        requires goes { GoesOn AnyHistory (S.talked B.rang) N.Conn.tells N.tells self.old net.old (place ∷ taken self.old.running.places.items) }
+        ensures goes { Goes AnyHistory (S.talked B.rang) N.Conn.tells N.tells self.new net.new }
+        ensures stays { Stays N.tells self.old net.old self.new net.new }
+        ensures places { self.new.running.places ≡ self.old.running.places }
+    {
+        let done = place.join(self.means.rt);
+        self.means.desk.meet(&mut self.seat, done.seat);
+        net.done(done.link);
+        self.running.short += number_of(done.short);
+    }
+
+    /// Joins the thread that is in this place, if any is, so that the place is free.
+    fn free_at(&mut self, net: &mut N, at: usize)
+        requires goes { Goes AnyHistory (S.talked B.rang) N.Conn.tells N.tells self.old net.old }
+        requires within { at < vec_len self.old.running.places }
+        ensures goes { Goes AnyHistory (S.talked B.rang) N.Conn.tells N.tells self.new net.new }
+        ensures stays { Stays N.tells self.old net.old self.new net.new }
+        ensures free { slice_index_or self.new.running.places.items at None ≡ None }
+        ensures len { vec_len self.new.running.places ≡ vec_len self.old.running.places }
+    {
+        if let Some(place) = take_out(&mut self.running.places, at) {
+            self.join_one(net, place);
+        }
+    }
+
+    /// Joins the threads that have said that their places become free.
+    fn join_left(&mut self, net: &mut N)
+        requires goes { Goes AnyHistory (S.talked B.rang) N.Conn.tells N.tells self.old net.old }
+        ensures goes { Goes AnyHistory (S.talked B.rang) N.Conn.tells N.tells self.new net.new }
+        ensures stays { Stays N.tells self.old net.old self.new net.new }
+        ensures len { vec_len self.new.running.places ≡ vec_len self.old.running.places }
+    {
+        for _ in 0..self.means.limits.servers {
+            let Ok(at) = self.running.left.try_recv(self.means.rt) else {
+                break;
+            };
+            if at < self.running.places.len() {
+                self.free_at(net, at);
+                let _ = self.running.free.push(at);
+            }
+        }
+    }
+
+    /// A place that is free; where none is, the next that becomes so is waited for.
+    fn free_place(&mut self, net: &mut N) -> usize
+        requires goes { Goes AnyHistory (S.talked B.rang) N.Conn.tells N.tells self.old net.old }
+        requires some { 0 < vec_len self.old.running.places }
+        ensures goes { Goes AnyHistory (S.talked B.rang) N.Conn.tells N.tells self.new net.new }
+        ensures stays { Stays N.tells self.old net.old self.new net.new }
+        ensures within { result < vec_len self.new.running.places }
+        ensures free { slice_index_or self.new.running.places.items result None ≡ None }
+        ensures len { vec_len self.new.running.places ≡ vec_len self.old.running.places }
+    {
+        self.join_left(net);
+        let hint = match self.running.free.pop() {
+            Some(at) => at,
+            None => self.running.left.recv(self.means.rt).unwrap_or(0),
+        };
+        let at = if hint < self.running.places.len() {
+            hint
+        } else {
+            0
+        };
+        self.free_at(net, at);
+        at
+    }
+
+    /// Takes so many links, and has each served by a seat of its own, so many at once at most.
+    pub(crate) fn take_links(&mut self, net: &mut N) -> Result<(), Failed>
+    where
+        N::Conn: Send + Drop + 's,
+        requires goes { Goes AnyHistory (S.talked B.rang) N.Conn.tells N.tells self.old net.old }
+        requires given { self.old.seat.me.0.given ≡ self.old.before.seat.value.me.0.given }
+        requires may { MayTake self.old.means.limits self.old.running }
+        ensures goes { Goes AnyHistory (S.talked B.rang) N.Conn.tells N.tells self.new net.new }
+        ensures kept { KeepsMeans self.old self.new }
+        ensures came { CameSo result self.old.means.limits.connections self.old.seat.me.0.given self.new.seat.me.0.given (N.tells net.old).faults (N.tells net.new).faults }
+    {
+        for number in 0..self.means.limits.connections {
+            let at = self.free_place(net);
+            let link = net.accept()?;
+            let theirs = self.means.desk.split(&mut self.seat);
+            let place = serve_link(&self.means, self.bell, self.scope, theirs, link, at);
+            put_in(&mut self.running.places, at, place);
+        }
+        Ok(())
+    }
+
+    /// Joins all threads, gives the seat back, and says how many links ended for want of memory.
+    pub(crate) fn join_all(mut self, net: &mut N) -> (SeatOf<T>, u64)
+    where
+        N::Conn: Drop,
+        requires goes { Goes AnyHistory (S.talked B.rang) N.Conn.tells N.tells self net.old }
+        ensures seat { IsSeatOf (desk_id self.entry.means.desk.now) result.0 }
+        ensures over { (o : LinksServed (S.talked B.rang) self.entry.means.limits.servers (stand N.tells self.entry.before.seat.value self.entry.before.net.value) (stand N.tells result.0 net.new)) × (result.1 ≡ short_of o.links) }
+        ensures given { result.0.me.0.given ≡ self.entry.seat.me.0.given }
+        ensures faults { (N.tells net.new).faults ≡ (N.tells net.old).faults }
+    {
+        while let Some(last) = self.running.places.pop() {
+            if let Some(place) = last {
+                self.join_one(net, place);
+            }
+        }
+        let LinkHost {
+            means: _,
+            bell: _,
+            scope: _,
+            before: _,
+            seat,
+            running,
+        } = self;
+        (seat, running.short)
+    }
 }
 
 /// What is answered where room was found.

@@ -54,6 +54,34 @@ pub(crate) struct Means<'s, J: Verdicts, T: Slotted<J>, R, S> {
     pub(crate) limits: ServeLimits,
 }
 
+impl<'s, J: Verdicts, T: Slotted<J>, R, S> Means<'s, J, T, R, S> {
+    /// The same once more.
+    pub(crate) fn again(&self) -> Means<'s, J, T, R, S>
+        ensures { result ≡ self.now }
+    {
+        let Means {
+            rt,
+            alloc,
+            desk,
+            service,
+            naps,
+            leaving,
+            missing,
+            limits,
+        } = *self;
+        Means {
+            rt,
+            alloc,
+            desk,
+            service,
+            naps,
+            leaving,
+            missing,
+            limits,
+        }
+    }
+}
+
 /// Room for the links that are served at once, and for the workers, with what wakes these.
 #[derive(Drop)]
 pub(crate) struct Room<J: Verdicts, T: Slotted<J>, L: Link, S: Service<J>> {

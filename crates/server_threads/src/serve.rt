@@ -6,10 +6,10 @@ ghost use Rattle.workers.specs.Bells.{Untold};
 ghost use Rattle.server_threads.specs.Serving.{HasServed, MayTake};
 ghost use Rattle.server_threads.specs.OpenLinks.{HasServedLinks, MayServe};
 
-use crate::links::{Before, ending, join_all, take_links};
+use crate::links::{LinkHost, ending};
 use crate::means::{Means, Room, ServeFault, ServeLimits};
 use crate::service::Service;
-use crate::staff::{relieve, staff};
+use crate::staff::{join_workers, start_workers};
 use desk::{DeskOf, SeatOf, Slotted};
 use job_table::Verdicts;
 use os_io::{Link, Listener};
@@ -50,7 +50,7 @@ where
         wake,
     } = room;
     let was = Snapshot::of(&seat);
-    staff(means, scope, &mut seat, &mut shifts);
+    start_workers(means, scope, &mut seat, &mut shifts);
     let bell = &wake;
     let (mut seat, net, served) = thread::scope(
         thread::scope_env(),
@@ -59,16 +59,15 @@ where
             requires { IsSeatOf (desk_id means.now.desk.now) seat × (seat.me.0.number ≡ 0) × MayTake means.now.limits running }
             ensures { (result.1.ghost_name ≡ net.entry.ghost_name) × IsSeatOf (desk_id means.entry.now.desk.now) result.0 × HasServedLinks (S.talked Untold) N.tells means.entry.now.limits seat result.0 net.entry.now result.1.now result.2 }
         {
-            let (mut first, mut running) = (seat, running);
-            let before = Before::of(&first, net);
-            let came = take_links(means, bell, scope, &before, &mut first, net, &mut running);
-            let short = join_all(means, &before, &mut first, net, running);
+            let mut host = LinkHost::new(means, bell, scope, seat, net, running);
+            let came = host.take_links(net);
+            let (first, short) = host.join_all(net);
             (first, net, ending(came, short))
         },
     );
     let _net = net;
     drop(wake);
-    relieve(means, &was, &mut seat, shifts);
+    join_workers(means, &was, &mut seat, shifts);
     (seat, served)
 }
 

@@ -100,7 +100,7 @@ fn hire<
 }
 
 /// Starts so many workers, each on a seat of its own.
-pub(crate) fn staff<
+pub(crate) fn start_workers<
     's,
     E,
     J: Verdicts + Send + Sync,
@@ -129,7 +129,12 @@ pub(crate) fn staff<
 }
 
 /// Joins the worker that came first, and takes its seat in.
-fn relieve_one<J: Verdicts + Send + Sync, T: Slotted<J> + Send + Sync, R: Threads, S: Service<J>>(
+fn join_first_worker<
+    J: Verdicts + Send + Sync,
+    T: Slotted<J> + Send + Sync,
+    R: Threads,
+    S: Service<J>,
+>(
     means: &Means<'_, J, T, R, S>,
     was: &Snapshot<SeatOf<T>>,
     first: &mut SeatOf<T>,
@@ -151,7 +156,7 @@ fn relieve_one<J: Verdicts + Send + Sync, T: Slotted<J> + Send + Sync, R: Thread
 }
 
 /// Joins all workers, the one that came first before the others.
-pub(crate) fn relieve<
+pub(crate) fn join_workers<
     J: Verdicts + Send + Sync,
     T: Slotted<J> + Send + Sync,
     R: Threads,
@@ -169,6 +174,6 @@ pub(crate) fn relieve<
     ensures seen { StartsWith first.new.me.0.seen first.old.me.0.seen }
 {
     while shifts.len() > 0 {
-        relieve_one(means, was, first, &mut shifts);
+        join_first_worker(means, was, first, &mut shifts);
     }
 }

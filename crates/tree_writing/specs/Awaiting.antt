@@ -1,14 +1,14 @@
 -- What a text becomes that is written event by event: which events are still to come for it to be a whole text.
-use Rattle.std.specs.Prelude.{◌≡◌, ℕ, ◌<◌, ◌≤◌, Bool, true, false, List, ◌∷◌, ◌++◌, length}
+use Rattle.std.specs.Prelude.{◌≡◌, ℕ, ◌<◌, ◌≤◌, Bool, true, false, List, [], ◌∷◌, ◌++◌, length}
 use Rattle.os_io.specs.Limits.{most_bytes}
 use Rattle.tree_grammar.specs.Elements.{Attribute, Event, Open}
 use Rattle.tree_grammar.specs.WrittenText.{written_attributes, written_events}
 use Rattle.tree_writing.specs.declared.text_writer.TextWriter.{TextWriter}
 
--- the text is what was kept and then the rest; or it is known to be longer than a document may be
+-- the text is what was kept and then the rest; or it is longer than a document may be, and nothing is kept
 abbrev pub IsFront : (passed : Bool) → (kept rest text : List ℕ) → Type 0
 IsFront false kept rest text = (text ≡ kept ++ rest) × (length kept ≤ most_bytes)
-IsFront true kept rest text = most_bytes < length text
+IsFront true kept rest text = (most_bytes < length text) × (kept ≡ [])
 
 -- with these events still to come it becomes this text
 abbrev pub Awaits : TextWriter → List Event → List ℕ → Type 0

@@ -11,8 +11,8 @@ use os_io::{Failed, MOST_BYTES, Memory, Text};
 use std::alloc::{AllocError, Global};
 use tree_grammar::written_in_document_order;
 
-/// The text of an element that is told event by event. Nothing of it is held but the text, and of a text that is longer
-/// than [`MOST_BYTES`] nothing more is kept. After want of memory it is of no use.
+/// The text of an element that is told event by event. Nothing is held but the text so far, of at most
+/// [`MOST_BYTES`], and nothing where it is longer. After want of memory it is of no use.
 pub struct TextWriter {
     out: Growing,
     /// Whether a start tag is open.
@@ -57,12 +57,15 @@ impl TextWriter {
         })
     }
 
-    /// Looks whether the text is too long now.
+    /// Looks whether the text is too long now. Of one that is nothing is kept.
     fn look(&mut self)
-        ensures same { self.new ≡ record self.old { passed = self.new.passed } }
-        ensures before { (rest text : List ℕ) → text ≡ self.old.out.text ++ rest → IsFront self.new.passed self.old.out.text rest text }
+        ensures same { self.new.is_open ≡ self.old.is_open }
+        ensures before { (rest text : List ℕ) → text ≡ self.old.out.text ++ rest → IsFront self.new.passed self.new.out.text rest text }
     {
         self.passed = self.out.text.len() as u64 > MOST_BYTES;
+        if self.passed {
+            self.out.text.truncate(0);
+        }
     }
 
     /// Begins an element, whose attributes come next.

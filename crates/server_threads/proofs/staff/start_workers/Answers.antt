@@ -1,7 +1,7 @@
 use Rattle.std.proofs.Common.{arith, ap, ◌∙◌}
 use Rattle.server_threads.specs.Talks.{DeskSeat}
 use Rattle.server_threads.proofs.Rounds.{hired_begins, hired_more}
-use Rattle.server_threads.proofs.staff.staff.Goals as goal
+use Rattle.server_threads.proofs.staff.start_workers.Goals as goal
 
 pub loop-number-init : goal.loop-number-init
 loop-number-init g c = record {

@@ -1,5 +1,5 @@
 use Rattle.server_threads.proofs.Rounds.{going_so}
-use Rattle.server_threads.proofs.links.clear.Goals as goal
+use Rattle.server_threads.proofs.links.LinkHost+E+J+T+N+N+Conn+R+S+B.free_at.Goals as goal
 
 pub join_one-requires-clause-goes : goal.join_one-requires-clause-goes
 join_one-requires-clause-goes g c κs within = record {

@@ -1,7 +1,7 @@
 use Rattle.std.proofs.Common.{arith}
 use Rattle.desk.proofs.Histories.{starts_again}
 use Rattle.server_threads.proofs.Rounds.{staffed_over, starts_through}
-use Rattle.server_threads.proofs.staff.relieve.Goals as goal
+use Rattle.server_threads.proofs.staff.join_workers.Goals as goal
 
 pub returns-clause-left : goal.returns-clause-left
 returns-clause-left g c =
@@ -12,7 +12,7 @@ returns-clause-left g c =
 pub loop-first-preserved : goal.loop-first-preserved
 loop-first-preserved g c =
     let before = c.loop-first.invariant in
-    let one = c.relieve_one.ensures in record {
+    let one = c.join_first_worker.ensures in record {
       seat = one.seat;
       some = (before.some.0, one.staffed before.some.0 before.some.1);
       all = λ met s. one.staffed met (before.all met s);

@@ -1,5 +1,5 @@
 use Rattle.server_threads.proofs.Rounds.{worker_of_desk, staffed_met}
-use Rattle.server_threads.proofs.staff.relieve_one.Goals as goal
+use Rattle.server_threads.proofs.staff.join_first_worker.Goals as goal
 
 pub meet-requires-clause-other : goal.meet-requires-clause-other
 meet-requires-clause-other g c = worker_of_desk _ _ _ _ _ _ _ _ _ c.in-Some.place _ _ c.requires.staffed.1 c.in-Some.ensures.items c.join-seat.ensures

@@ -3,7 +3,7 @@ use Rattle.std.specs.VecDeque.{deque_len, deque_capacity}
 use Rattle.desk.specs.SeatMoves.{desk_id, IsSeatOf}
 use Rattle.server_threads.specs.OpenLinks.{Hired}
 use Rattle.server_threads.specs.Talks.{AnyHistory}
-use Rattle.server_threads.proofs.staff.staff.Given as goal
+use Rattle.server_threads.proofs.staff.start_workers.Given as goal
 
 abbrev pub invariant-loop-number : goal.invariant-loop-number
 invariant-loop-number g l = record {

@@ -5,7 +5,7 @@ use Rattle.desk.specs.History.{StartsWith}
 use Rattle.desk.specs.SeatMoves.{desk_id, IsSeatOf}
 use Rattle.server_threads.specs.OpenLinks.{Staffed}
 use Rattle.server_threads.specs.Talks.{AnyHistory}
-use Rattle.server_threads.proofs.staff.relieve.Given as goal
+use Rattle.server_threads.proofs.staff.join_workers.Given as goal
 
 abbrev pub invariant-loop-first : goal.invariant-loop-first
 invariant-loop-first g l = record {
