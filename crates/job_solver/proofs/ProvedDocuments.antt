@@ -7,10 +7,9 @@ use Rattle.certificate.specs.Meanings as Means
 use Rattle.certificate.specs.declared.claims.Claim.{Claim}
 use Rattle.osil_grammar.specs.Reading.{IsInstanceText}
 use Rattle.osrl_writing.specs.declared.report.Report.{Report}
-use Rattle.osrl_writing.specs.Writing.{report_text}
 use Rattle.document_checker.specs.declared.documents.Kind.{Kind}
 use Rattle.document_checker.specs.Documents.{kind, IsAcceptedText}
-use Rattle.solve_run.specs.JobAnswers.{AnswersJob, Right}
+use Rattle.solve_run.specs.JobAnswers.{AnswersJob, TellsReport, Right}
 use Rattle.job_table.specs.declared.entries.TableMove.TheVariants.{Retrieve}
 use Rattle.job_table.specs.declared.entries.Retrieved.TheVariants as shown
 use Rattle.job_table.specs.declared.entries.Reply.TheVariants as reply
@@ -25,8 +24,8 @@ use Rattle.job_solver.specs.StoredDocuments.{IsShownFrom, ShownAreProvedFrom}
 -- what an answer claims is accepted
 abbrev Accepted : Type 0
 Accepted =
-    (osil osol : List ℕ) (asked : Bool) (r : Report) (c : Claim) (k : Kind) → AnswersJob osil osol asked r → r.claim ≡ Some c → kind c ≡ Some k
-    → IsAcceptedText osil (report_text r) k
+    (osil osol : List ℕ) (asked : Bool) (r : Report) (text : List ℕ) (c : Claim) (k : Kind) → AnswersJob osil osol asked r → TellsReport osil osol r text → r.claim ≡ Some c → kind c ≡ Some k
+    → IsAcceptedText osil text k
 
 -- and true
 abbrev IsTrue : Type 0
@@ -50,8 +49,7 @@ proved_of accepted is_true start n document before came =
       killed = came.killed;
       answers = answers;
       written = written;
-      accepted = λ c k claims is. subst (λ (d : List ℕ). IsAcceptedText came.osil d k) (sym written)
-          (accepted came.osil came.osol came.asked report c k answers claims is);
+      accepted = λ c k claims is. accepted came.osil came.osol came.asked report document c k answers written claims is;
       is_true = λ p c k reads claims is. is_true came.osil came.osol came.asked p report c k reads answers claims is;
     }
 

@@ -7,10 +7,9 @@ use Rattle.certificate.specs.Meanings as Means
 use Rattle.certificate.specs.declared.claims.Claim.{Claim}
 use Rattle.osil_grammar.specs.Reading.{IsInstanceText}
 use Rattle.osrl_writing.specs.declared.report.Report.{Report}
-use Rattle.osrl_writing.specs.Writing.{report_text}
 use Rattle.document_checker.specs.declared.documents.Kind.{Kind}
 use Rattle.document_checker.specs.Documents.{kind, IsAcceptedText}
-use Rattle.solve_run.specs.JobAnswers.{AnswersJob, Right}
+use Rattle.solve_run.specs.JobAnswers.{AnswersJob, TellsReport, Right}
 use Rattle.job_table.specs.declared.entries.TableMove.TheVariants.{Finish, Retrieve}
 use Rattle.job_table.specs.declared.entries.Finishing.TheVariants.{Kept}
 use Rattle.job_table.specs.declared.entries.Retrieved.TheVariants as shown
@@ -32,7 +31,7 @@ pub record IsProvedBy (had : List ℕ → List ℕ → List MoveEntry → Type 0
   pub brought : had osil osol until
   pub killed : asked ≡ true → WasKilled n until
   pub answers : AnswersJob osil osol asked report
-  pub written : document ≡ report_text report
+  pub written : TellsReport osil osol report document
   pub accepted : (c : Claim) (k : Kind) → report.claim ≡ Some c → kind c ≡ Some k → IsAcceptedText osil document k
   pub is_true : (p : Parts) (c : Claim) (k : Kind) → IsInstanceText osil p → report.claim ≡ Some c → kind c ≡ Some k → IsTrueOf (problem p) (Means.claim c)
 

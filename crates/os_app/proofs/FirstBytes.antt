@@ -18,6 +18,8 @@ use Rattle.osrl_grammar.specs.declared.fault.OsrlFault.{OsrlFault}
 use Rattle.document_tags.specs.Documents.{TreeFails}
 use Rattle.osrl_grammar.specs.Reading.{IsReportText}
 use Rattle.osrl_grammar.specs.Reading as osrl
+use Rattle.osrl_writing.specs.declared.told_names.NameLists.{NameLists}
+use Rattle.instance_names.specs.Reading.{GivesNames}
 
 -- so many bytes, and one more
 abbrev front : ℕ → List ℕ → List ℕ
@@ -75,8 +77,11 @@ read bytes = front document_limit bytes
 document : (bytes : List ℕ) (root : Element) → IsDocument (read bytes) root → IsDocument bytes root
 document bytes root d = subst (λ (b : List ℕ). IsDocument b root) (front_is_all document_limit bytes d.short) d
 
+document_front : (bytes : List ℕ) (root : Element) → IsDocument bytes root → IsDocument (read bytes) root
+document_front bytes root d = subst (λ (b : List ℕ). IsDocument b root) (sym (few_are_all document_limit bytes d.short)) d
+
 no_document : (bytes : List ℕ) → ((root : Element) → IsDocument (read bytes) root → ⊥) → (root : Element) → IsDocument bytes root → ⊥
-no_document bytes none root d = none root (subst (λ (b : List ℕ). IsDocument b root) (sym (few_are_all document_limit bytes d.short)) d)
+no_document bytes none root d = none root (document_front bytes root d)
 
 tree_fails : (bytes : List ℕ) (f : TreeFault) → TreeFails (read bytes) f → TreeFails bytes f
 tree_fails bytes f h = record { refusal = refusal document_limit bytes f h.refusal; none = no_document bytes h.none }
@@ -97,16 +102,20 @@ no_report bytes f (inr (inr text)) = inr (inr (record { root = text.root; docume
 pub record Shows (text bytes : List ℕ) : Type 0 where
   pub instance : (p : Parts) → IsInstanceText text p → IsInstanceText bytes p
   pub report : (r : Report) → IsReportText text r → IsReportText bytes r
+  pub names : (ns : NameLists) → GivesNames text ns → GivesNames bytes ns
+  pub names_first : (ns : NameLists) → GivesNames bytes ns → GivesNames text ns
   pub no_instance : (f : OsilFault) → osil.DecodeFails text f → osil.DecodeFails bytes f
   pub no_report : (f : OsrlFault) → osrl.DecodeFails text f → osrl.DecodeFails bytes f
 
 shows_itself : (text : List ℕ) → Shows text text
-shows_itself text = record { instance = λ p is. is; report = λ r is. is; no_instance = λ f fails. fails; no_report = λ f fails. fails }
+shows_itself text = record { instance = λ p is. is; report = λ r is. is; names = λ ns is. is; names_first = λ ns is. is; no_instance = λ f fails. fails; no_report = λ f fails. fails }
 
 front_shows : (bytes : List ℕ) → Shows (read bytes) bytes
 front_shows bytes = record {
   instance = λ p text. record { root = text.root; document = document bytes text.root text.document; means = text.means };
   report = λ r text. record { root = text.root; document = document bytes text.root text.document; is = text.is };
+  names = λ ns text. record { root = text.root; document = document bytes text.root text.document; is = text.is };
+  names_first = λ ns text. record { root = text.root; document = document_front bytes text.root text.document; is = text.is };
   no_instance = no_instance bytes;
   no_report = no_report bytes;
 }

@@ -5,9 +5,12 @@ use Rattle.std.specs.Borrow.{Bor}
 use Rattle.os_io.specs.Files.{Held, ReadsFirst}
 use Rattle.certificate.specs.declared.causes.Cause.TheVariants.{Memory}
 use Rattle.certificate.specs.declared.claims.Claim.TheVariants.{Unsure}
+use Rattle.osrl_writing.specs.declared.told_names.NameLists.{NameLists}
 use Rattle.osrl_writing.specs.declared.report.Report.{Report}
+use Rattle.osrl_writing.specs.Labels.{no_names}
+use Rattle.instance_names.specs.Reading.{GivesNames}
 use Rattle.solve_run.specs.declared.document.Document.{Document}
-use Rattle.solve_run.specs.JobAnswers.{AreJobTexts, IsBestOfSearch, AnswersJob, no_options, no_instance, solved, gave_up}
+use Rattle.solve_run.specs.JobAnswers.{AreJobTexts, IsBestOfSearch, AnswersJob, AskForNames, TellsReport, no_options, no_instance, solved, gave_up}
 use Rattle.command_answers.specs.FileNames.{ReadsNamed}
 use Rattle.command_answers.proofs.Outputs.{held_by}
 use Rattle.os_app.specs.Safe.{IsSafeText, HasNoSafeText, TakesOptions}
@@ -55,6 +58,14 @@ module _ (a osil osol : List ℕ) (shows : Shows a osil) where
       by (inl unsure) = inl unsure
       by (inr b) = inr (record { given = given_file b.given; moment = b.moment; comes = b.comes; tells = b.tells })
 
+  -- with its names
+  tells_file : (r : Report) (text : List ℕ) → TellsReport a osol r text → TellsReport osil osol r text
+  tells_file r text t = record { names = t.names; is = t.is; own = by t.own; asked = λ asks ns gives. t.asked asks ns (shows.names_first ns gives) }
+    where
+      by : (t.names ≡ no_names) ⊎ (AskForNames osol × GivesNames a t.names) → (t.names ≡ no_names) ⊎ (AskForNames osol × GivesNames osil t.names)
+      by (inl none) = inl none
+      by (inr own) = inr (own.0, shows.names t.names own.1)
+
 -- and what is taken for what was read
 safe_file : (a osil osol : List ℕ) (shows : Shows a osil) (text : List ℕ) → IsSafeText a osol text → IsSafeText osil osol text
 safe_file a osil osol shows text s = record { options = s.options; said = s.said; parts = s.parts; instance = shows.instance s.parts s.instance; limit = s.limit; enough = s.enough; is = s.is }
@@ -83,7 +94,7 @@ document_about instance options safe a osol status doc first second is (taken, t
       taken = taken;
       takes = takes_file a file.0 osol file.2 safe taken takes;
       answers = answers_file a file.0 taken file.2 false r answers;
-      written = written.text;
+      written = tells_file a file.0 taken file.2 r doc.text written.text;
       status_is = is ∙ ap solve_status written.error;
     }
 

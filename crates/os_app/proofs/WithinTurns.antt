@@ -32,7 +32,7 @@ use Rattle.osil_grammar.specs.declared.fault.OsilFault.TheVariants as instance_f
 use Rattle.osil_grammar.specs.Reading.{IsInstanceText}
 use Rattle.osil_grammar.specs.Reading as instances
 use Rattle.osrl_writing.specs.declared.report.Report.{Report}
-use Rattle.osrl_writing.specs.Writing.{report_text}
+use Rattle.osrl_writing.specs.Writing.{told_text}
 use Rattle.certificate.specs.GivenUp.{given_up}
 use Rattle.solve_run.specs.Judging.{checked, wide_check}
 use Rattle.solve_run.specs.Closings.{IsToldOf, IsFitted}
@@ -205,10 +205,11 @@ module _ (laws : Laws) (status : ℕ) (run : ProgramRun) (osil_name : List ℕ) 
   due_within it due line is asked told =
       let about : IsDocumentAbout (run.held osil_name) (option_map run.held options_name) true due line = subst (λ (x : Command). IsDue run.held x due line) is asked in
       let file : about.osil ≡ osil = subst (λ (h : Held). MayHold h about.osil) holds about.instance_file in
-      let its : IsTold due (report_text about.report) status run.output run.output_after = subst (λ (t : List ℕ). IsTold due t status run.output run.output_after) about.written told in
+      let its : IsTold due (told_text about.written.names about.report) status run.output run.output_after = subst (λ (t : List ℕ). IsTold due t status run.output run.output_after) about.written.is told in
       inr (record {
         report = about.report;
-        told = subst (λ (d : ℕ). IsTold d (report_text about.report) status run.output run.output_after) about.status_is its;
+        names = about.written.names;
+        told = subst (λ (d : ℕ). IsTold d (told_text about.written.names about.report) status run.output run.output_after) about.status_is its;
         within = answers_within laws about.osil about.osol about.taken p (subst (λ (t : List ℕ). IsInstanceText t p) (sym file) text) single plain ranges feasible few about.report about.takes about.answers;
       })
 

@@ -23,7 +23,8 @@ use Rattle.os_app.specs.Checks.{IsAnswerLine, IsAnswerAbout}
 use Rattle.os_app.specs.Solves.{IsDocumentAbout}
 use Rattle.os_app.specs.Summaries.{IsSummaryOf}
 use Rattle.osrl_writing.specs.declared.report.Report.{Report}
-use Rattle.osrl_writing.specs.Writing.{report_text}
+use Rattle.osrl_writing.specs.declared.told_names.NameLists.{NameLists}
+use Rattle.osrl_writing.specs.Writing.{told_text}
 use Rattle.os_app.specs.Safe.{says_turn_limit}
 use Rattle.os_app.specs.Statuses.{serve_status, session_status, solve_status}
 use Rattle.command_line.specs.Words.{Command, Session, Check, Solve, Generate, Call, Compact, Serve, asks, names_files, AsksSession, IsCheck, NamesNoFile, IsNoCommand, usage}
@@ -186,10 +187,11 @@ pub record EndsSo (Untouched Stored : Type 0) (status : ℕ) (run : ProgramRun) 
 abbrev pub Runs : {D : Type 0} → Ghosts D → (untouched : Type 0) → (status : ℕ) → ProgramRun → StoresRun → Type 0
 Runs g untouched status run stores = EndsSo untouched (StoredRunEnds g status run stores) status run
 
--- the text of a report that doesn't name the limit of turns was sent, with its status, or a first part of it
+-- the text of a report that doesn't name the limit of turns was sent, with its status, or a first part of it, with names or without
 pub record TellsWithinTurns (status : ℕ) (run : ProgramRun) : Type 0 where
   pub report : Report
-  pub told : IsTold (solve_status report.error) (report_text report) status run.output run.output_after
+  pub names : NameLists
+  pub told : IsTold (solve_status report.error) (told_text names report) status run.output run.output_after
   pub within : says_turn_limit report.claim ≡ false
 
 -- or nothing was written

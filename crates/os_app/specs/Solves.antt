@@ -3,8 +3,7 @@ use Rattle.std.specs.Prelude.{◌≡◌, ℕ, Bool, false, Option, List}
 use Rattle.os_io.specs.Files.{Held, MayHold}
 use Rattle.command_answers.specs.FileNames.{ReadsNamed}
 use Rattle.osrl_writing.specs.declared.report.Report.{Report}
-use Rattle.osrl_writing.specs.Writing.{report_text}
-use Rattle.solve_run.specs.JobAnswers.{AnswersJob}
+use Rattle.solve_run.specs.JobAnswers.{AnswersJob, TellsReport}
 use Rattle.solve_run.specs.declared.document.Document.{Document}
 use Rattle.solve_run.specs.Runs.{IsRight}
 use Rattle.os_app.specs.Safe.{TakesOptions}
@@ -25,5 +24,5 @@ pub record IsDocumentAbout (instance : Held) (options : Option Held) (safe : Boo
   pub taken : List ℕ
   pub takes : TakesOptions safe osil osol taken
   pub answers : AnswersJob osil taken false report
-  pub written : text ≡ report_text report
+  pub written : TellsReport osil taken report text
   pub status_is : status ≡ solve_status report.error

@@ -1,5 +1,5 @@
 -- The marks of a written document say the options that it was written of.
-use Rattle.std.proofs.Common.{◌≡◌, inr, inl, ℕ, ◌+◌, ◌≤◌, ◌==◌, Bool, true, false, not, ap, eqb-true, Option, None, Some, List, [], ◌∷◌, ◌++◌, length, leb, refl, sym, subst, arith}
+use Rattle.std.proofs.Common.{◌≡◌, inr, inl, ℕ, ◌+◌, ◌≤◌, ◌==◌, Bool, true, false, not, ap, ap₂, eqb-true, Option, None, Some, List, [], ◌∷◌, ◌++◌, length, leb, refl, sym, subst, arith}
 use Rattle.std.proofs.lemmas.Bool.{not-false}
 use Rattle.std.specs.Prelude.{codes, map}
 use Rattle.std.specs.Fmt.{decimal}
@@ -14,7 +14,7 @@ use Rattle.tag_tests.specs.Forms.{AreTaken}
 use Rattle.tag_tests.proofs.Forms.{taken_both}
 use Rattle.tag_tests.proofs.Characters.{chars_taken}
 use Rattle.osol_grammar.specs.declared.limit.Limit.{Limit}
-use Rattle.osol_grammar.specs.declared.limit.Limit.TheVariants.{Rounds}
+use Rattle.osol_grammar.specs.declared.limit.Limit.TheVariants.{Rounds, Names}
 use Rattle.osol_grammar.specs.declared.options.Options.{Options}
 use Rattle.osol_grammar.specs.declared.place.Place.{Place}
 use Rattle.osol_grammar.specs.declared.place.Place.TheVariants.{Outside, Osol, General, JobId, Optimization, SolverOptions, SolverOption}
@@ -73,11 +73,16 @@ untold : (n : ℕ) → not (n == 0) ≡ false → 0 ≡ n
 untold n is = sym (eqb-true n 0 (not-false (n == 0) is))
 
 all_said : (job : Option (List ℕ)) (amounts : Limit → ℕ) → made job amounts ≡ with_amounts (record no_options { job = job }) (made job amounts) (told_limits (made job amounts))
-all_said job amounts = by_rounds (not (amounts Rounds == 0)) refl
+all_said job amounts = by_both (not (amounts Rounds == 0)) (not (amounts Names == 0)) refl refl
   where
-    by_rounds : (b : Bool) → not (amounts Rounds == 0) ≡ b → made job amounts ≡ with_amounts (record no_options { job = job }) (made job amounts) (told_limits (made job amounts))
-    by_rounds true told = rw told refl
-    by_rounds false none = rw none (ap (λ (n : ℕ). let o : Options = record (made job amounts) { rounds = n } in o) (sym (untold (amounts Rounds) none)))
+    with_rounds : ℕ → ℕ → Options
+    with_rounds r n = let o : Options = record (made job amounts) { rounds = r; names = n } in o
+
+    by_both : (b c : Bool) → not (amounts Rounds == 0) ≡ b → not (amounts Names == 0) ≡ c → made job amounts ≡ with_amounts (record no_options { job = job }) (made job amounts) (told_limits (made job amounts))
+    by_both true true told names = rw (told, names) refl
+    by_both true false told none = rw (told, none) (ap (λ (n : ℕ). with_rounds (amounts Rounds) n) (sym (untold (amounts Names) none)))
+    by_both false true none names = rw (none, names) (ap (λ (r : ℕ). with_rounds r (amounts Names)) (sym (untold (amounts Rounds) none)))
+    by_both false false none bare = rw (none, bare) (ap₂ with_rounds (sym (untold (amounts Rounds) none)) (sym (untold (amounts Names) bare)))
 
 -- and what stands round them
 optimization_says : (n j : ℕ) (t : List ℕ) (o q : Options) → AreWithin o → o ≡ with_amounts q o (told_limits o) → Say (at Osol n j t q) (spread (nodes_events (optimization o) (Close (codes "osol") ∷ []))) o

@@ -4,24 +4,26 @@ use Rattle.tree_grammar.specs.Elements.{Attribute}
 use Rattle.document_tags.specs.Elements.{value_of}
 use Rattle.decimal_text.specs.Count.{IsCount}
 use Rattle.osol_grammar.specs.declared.limit.Limit.{Limit}
-use Rattle.osol_grammar.specs.declared.limit.Limit.TheVariants.{Nodes, Turns, Rounds}
+use Rattle.osol_grammar.specs.declared.limit.Limit.TheVariants.{Nodes, Turns, Rounds, Names}
 use Rattle.osol_grammar.specs.declared.options.Options.{Options}
 use Rattle.osol_grammar.specs.Limits.{limit_row}
 
 -- the options of a job's name and an amount for each limit
 abbrev pub made : Option (List ℕ) → (Limit → ℕ) → Options
-made job amounts = record { job = job; nodes = amounts Nodes; turns = amounts Turns; rounds = amounts Rounds }
+made job amounts = record { job = job; nodes = amounts Nodes; turns = amounts Turns; rounds = amounts Rounds; names = amounts Names }
 
 -- what options say of a limit, and the options that say another amount of it
 abbrev pub amount : Options → Limit → ℕ
 amount o Nodes = o.nodes
 amount o Turns = o.turns
 amount o Rounds = o.rounds
+amount o Names = o.names
 
 abbrev pub with_amount : Options → Limit → ℕ → Options
 with_amount o Nodes n = record o { nodes = n }
 with_amount o Turns n = record o { turns = n }
 with_amount o Rounds n = record o { rounds = n }
+with_amount o Names n = record o { names = n }
 
 -- no options: no job's name, and each limit by default
 abbrev pub no_options : Options

@@ -1,4 +1,4 @@
-//! How much may be done for a job.
+//! How much may be done for a job, and how its result is told.
 
 /// A limit that options set.
 #[derive(Clone, Copy)]
@@ -9,10 +9,12 @@ pub(crate) enum Limit {
     Turns,
     /// Rows that rounds add.
     Rounds,
+    /// Whether a result's values are told with names.
+    Names,
 }
 
 /// All limits, in the order in which their options are written.
-pub(crate) const LIMITS: [Limit; 3] = [Limit::Nodes, Limit::Turns, Limit::Rounds];
+pub(crate) const LIMITS: [Limit; 4] = [Limit::Nodes, Limit::Turns, Limit::Rounds, Limit::Names];
 
 /// What is known of a limit: the name of its option, the least and the greatest amount that it may have, the amount that it
 /// has where no option says one, and whether its option is also written where it has that amount.
@@ -56,6 +58,13 @@ impl Limit {
                 name: b"rounds",
                 least: 0,
                 most: 100,
+                default: 0,
+                always: false,
+            },
+            Limit::Names => LimitRow {
+                name: b"names",
+                least: 0,
+                most: 1,
                 default: 0,
                 always: false,
             },

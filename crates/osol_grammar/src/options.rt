@@ -4,13 +4,15 @@ use crate::limit::Limit;
 use os_io::Text;
 
 /// The job's name, if it has one, and how much may be done for it: so many nodes of the tree of cases, 1 to 1,000,000,
-/// so many turns of the simplex method, 1 to 100,000,000, and so many rows that rounds add, 0 to 100.
+/// so many turns of the simplex method, 1 to 100,000,000, and so many rows that rounds add, 0 to 100. The values of its
+/// result are told with names where `names` is 1, and without them where it is 0.
 #[derive(Drop)]
 pub struct Options {
     pub job: Option<Text>,
     pub nodes: u32,
     pub turns: u32,
     pub rounds: u32,
+    pub names: u32,
 }
 
 impl Options {
@@ -18,7 +20,7 @@ impl Options {
     ghost use Rattle.osol_grammar.specs.Options as said;
     ghost use Rattle.osol_grammar.specs.Meaning.{IsNoOptions};
 
-    /// No options: no job's name, 10,000 nodes, 1,000,000 turns and no rounds.
+    /// No options: no job's name, 10,000 nodes, 1,000,000 turns, no rounds and no names.
     pub fn none() -> Options
         ensures { IsNoOptions result }
     {
@@ -27,6 +29,7 @@ impl Options {
             nodes: Limit::Nodes.row().default,
             turns: Limit::Turns.row().default,
             rounds: Limit::Rounds.row().default,
+            names: Limit::Names.row().default,
         }
     }
 
@@ -38,6 +41,7 @@ impl Options {
             Limit::Nodes => self.nodes,
             Limit::Turns => self.turns,
             Limit::Rounds => self.rounds,
+            Limit::Names => self.names,
         }
     }
 
@@ -49,6 +53,7 @@ impl Options {
             Limit::Nodes => self.nodes = amount,
             Limit::Turns => self.turns = amount,
             Limit::Rounds => self.rounds = amount,
+            Limit::Names => self.names = amount,
         }
     }
 }

@@ -76,7 +76,7 @@ fn tell_options(b: &mut TreeBuilder, options: &Options) -> Result<(), Memory>
 }
 
 /// The text of options: a document with the namespace of the option language, the job's name where there is one, and the
-/// option of each limit, that of rounds only where there may be some.
+/// option of each limit, those of rounds and of names only where there may be some.
 pub fn encode(alloc: Global, options: &Options) -> Result<Text, Memory>
     ensures { IfOk result (λ text. text ≡ writing.options_text options.now) }
 {

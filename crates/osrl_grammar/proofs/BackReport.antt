@@ -1,5 +1,5 @@
 -- The document that a report is written as reports it.
-use Rattle.osrl_grammar.proofs.Names.{◌≡◌, ◌∙◌, ℕ, ◌+◌, Bool, true, false, ◌||◌, cond, Option, None, Some, List, [], ◌∷◌, ◌++◌, map, refl, ap, sym, subst, append-nil, append_assoc, codes, bytes_eq, is_some, length, AllZip, false≢true, Nodes, none, element, chars, Close, Start, Finish, trimmed, unless_empty, leaf, group, typed, TakesMark, Frac, Node, Mult, Cert, ProvedBound, Claim, Optimal, Infeasible, Unbounded, BestSoFar, Unsure, JobStatus, Report, Held, To, Part, Claiming, part_name, claiming_text, status_text, IsFraction, IsRound, IsCause, IsOutOfOrder, BadItem, next_level, cert, inl, inr, ◌⊎◌, ◌≤◌, ◌<◌, ◌^◌, ap₂, arith, lit≤, Ok, All, HaveColumns, MayHaveTrees, TreesComeBack, State, nothing_held, start, has, items, status_of, report_with, nonempty, report_of, MayHoldItems, with_part, AddsItem, osrl, IsReport, IsReportText, row_values, values_part_unless_none, variable_values, values_part, point_values, goal_values, tree_values, dual_values, node_text, round_text, level_texts, cause_text, item_nodes, certificate_part, fraction_texts, point_parts, ray_part, rounds_part, tree_parts, trees_parts, bound_parts, cause_part, solution, claim_nodes, leaf_of, optimization, general_type, general_nodes, status_nodes, report_element, report_text, IsBareOrNone, BoundComesBack, CauseComesBack, ClaimComesBack, ComesBack, keeps}
+use Rattle.osrl_grammar.proofs.Names.{◌≡◌, ◌∙◌, ℕ, ◌+◌, Bool, true, false, ◌||◌, cond, Option, None, Some, List, [], ◌∷◌, ◌++◌, map, refl, ap, sym, subst, append-nil, append_assoc, codes, bytes_eq, is_some, length, AllZip, false≢true, Nodes, none, element, chars, Close, Start, Finish, trimmed, unless_empty, leaf, group, typed, TakesMark, Frac, Node, Mult, Cert, ProvedBound, Claim, Optimal, Infeasible, Unbounded, BestSoFar, Unsure, JobStatus, Report, Held, To, Part, Claiming, part_name, claiming_text, status_text, IsFraction, IsRound, IsCause, IsOutOfOrder, BadItem, next_level, cert, inl, inr, ◌⊎◌, ◌≤◌, ◌<◌, ◌^◌, ap₂, arith, lit≤, Ok, All, HaveColumns, MayHaveTrees, TreesComeBack, State, nothing_held, start, has, items, status_of, report_with, nonempty, report_of, MayHoldItems, with_part, AddsItem, osrl, IsReport, IsReportText, row_values, values_part_unless_none, variable_values, values_part, point_values, goal_values, tree_values, dual_values, node_text, round_text, level_texts, cause_text, item_nodes, certificate_part, fraction_texts, point_parts, ray_part, rounds_part, tree_parts, trees_parts, bound_parts, cause_part, solution, claim_nodes, leaf_of, optimization, general_type, general_nodes, status_nodes, Labels, NameLists, AreXmlNames, no_names, named_element, named_text, report_text, told_text, document_limit, IsBareOrNone, BoundComesBack, CauseComesBack, ClaimComesBack, ComesBack, keeps}
 use Rattle.document_tags.specs.Writing.{only}
 use Rattle.certificate.specs.declared.nodes.Node.TheVariants as nodes
 use Rattle.certificate.specs.declared.causes.Cause as why
@@ -20,7 +20,9 @@ use Rattle.osrl_grammar.proofs.FewLevels.{levels_few}
 use Rattle.osrl_grammar.proofs.Steps.{start_in}
 use Rattle.osrl_grammar.proofs.Goings.{at, Goes, goes_none, goes_element, goes_leaf, goes_past}
 use Rattle.osrl_grammar.proofs.BackItems.{cause_back, fractions_back, rounds_back}
-use Rattle.osrl_grammar.proofs.BackText.{root_of, text_document}
+use Rattle.osrl_grammar.proofs.BackText.{root_of, named_document, text_document}
+use Rattle.std.proofs.lemmas.Bool.{leb-true}
+use Rattle.std.specs.Prelude.{nat_le}
 
 -- those of a list, in whatever part it is held
 adds_all : {X : Type 0} (type : Option (List ℕ)) (p : Part) (put : List X → Held) (Is : List ℕ → X → Type 0) → ((text : List ℕ) (h : Held) → IsOutOfOrder (next_level h) p text → ⊥) → ((text : List ℕ) → IsSilent type p text) → ((before : List X) (text : List ℕ) (x : X) → Is text x → AddsItem p text (put before) (put (before ++ x ∷ []))) → (texts : List (List ℕ)) (xs : List X) → AllZip Is texts xs → (before : List X) → Adds type p texts (put before) (put (before ++ xs))
@@ -151,11 +153,11 @@ module _ (s : State) (type : Option (List ℕ)) where
   abbrev Passes : (Nodes → Nodes) → Type 0
   Passes values = (more : Nodes) (z : State) → Goes more (solving s places.Solution type nothing_held) z → Goes (values more) (solving s places.Solution type nothing_held) z
 
-  point_passes : (x vs : List Frac) → Passes (point_values x vs)
-  point_passes x vs = λ more z behind.
+  point_passes : (ls : Labels) (x vs : List Frac) → Passes (point_values ls x vs)
+  point_passes ls x vs = λ more z behind.
       let here : State = solving s places.Solution type nothing_held in
       let objectives = values_part (codes "objectives") (codes "values") (goal_values 1 vs) more in
-      goes_past (codes "variables") [] (group (codes "values") (variable_values 0 x) none) objectives here z refl
+      goes_past (codes "variables") [] (group (codes "values") (variable_values ls 0 x) none) objectives here z refl
       (goes_past (codes "objectives") [] (group (codes "values") (goal_values 1 vs) none) more here z refl behind)
 
   rows_pass : (rows : Nodes) → Passes (values_part_unless_none (codes "constraints") (codes "dualValues") rows)
@@ -163,23 +165,23 @@ module _ (s : State) (type : Option (List ℕ)) where
   rows_pass (element n as' children rest) = λ more z behind. goes_past (codes "constraints") [] (group (codes "dualValues") (element n as' children rest) none) more (solving s places.Solution type nothing_held) z refl behind
   rows_pass (chars text rest) = λ more z behind. goes_past (codes "constraints") [] (group (codes "dualValues") (chars text rest) none) more (solving s places.Solution type nothing_held) z refl behind
 
-  tree_passes : (n : ℕ) (rs : List (List Mult)) (ns : List Node) → Passes (tree_values n rs ns)
-  tree_passes n (r ∷ rs) ns = λ more z behind. behind
-  tree_passes n [] [] = λ more z behind. behind
-  tree_passes n [] (nodes.Split j k ∷ ns) = λ more z behind. behind
-  tree_passes n [] (nodes.Zero j ∷ ns) = λ more z behind. behind
-  tree_passes n [] (nodes.Clash c ∷ ns) = λ more z behind. behind
-  tree_passes n [] (nodes.Farkas ms ∷ ns) = λ more z behind. behind
-  tree_passes n [] (nodes.Grid g ms ∷ ns) = λ more z behind. behind
-  tree_passes n [] (nodes.Bound ms ∷ []) = rows_pass (row_values n ms)
-  tree_passes n [] (nodes.Bound ms ∷ m ∷ ns) = λ more z behind. behind
+  tree_passes : (ls : Labels) (n : ℕ) (rs : List (List Mult)) (ns : List Node) → Passes (tree_values ls n rs ns)
+  tree_passes ls n (r ∷ rs) ns = λ more z behind. behind
+  tree_passes ls n [] [] = λ more z behind. behind
+  tree_passes ls n [] (nodes.Split j k ∷ ns) = λ more z behind. behind
+  tree_passes ls n [] (nodes.Zero j ∷ ns) = λ more z behind. behind
+  tree_passes ls n [] (nodes.Clash c ∷ ns) = λ more z behind. behind
+  tree_passes ls n [] (nodes.Farkas ms ∷ ns) = λ more z behind. behind
+  tree_passes ls n [] (nodes.Grid g ms ∷ ns) = λ more z behind. behind
+  tree_passes ls n [] (nodes.Bound ms ∷ []) = rows_pass (row_values ls n ms)
+  tree_passes ls n [] (nodes.Bound ms ∷ m ∷ ns) = λ more z behind. behind
 
-  duals_pass : (n : ℕ) (vs : List Frac) (cs : List Cert) → Passes (dual_values n vs cs)
-  duals_pass n [] cs = λ more z behind. behind
-  duals_pass n (v ∷ w ∷ vs) cs = λ more z behind. behind
-  duals_pass n (v ∷ []) [] = λ more z behind. behind
-  duals_pass n (v ∷ []) (c ∷ []) = tree_passes n c.rounds c.nodes
-  duals_pass n (v ∷ []) (c ∷ d ∷ cs) = λ more z behind. behind
+  duals_pass : (ls : Labels) (n : ℕ) (vs : List Frac) (cs : List Cert) → Passes (dual_values ls n vs cs)
+  duals_pass ls n [] cs = λ more z behind. behind
+  duals_pass ls n (v ∷ w ∷ vs) cs = λ more z behind. behind
+  duals_pass ls n (v ∷ []) [] = λ more z behind. behind
+  duals_pass ls n (v ∷ []) (c ∷ []) = tree_passes ls n c.rounds c.nodes
+  duals_pass ls n (v ∷ []) (c ∷ d ∷ cs) = λ more z behind. behind
 
 -- A SOLUTION, from its status on
 solution_goes : (s : State) (c : Claiming) (certificate : Nodes) (values : Nodes → Nodes) (h : Held) → Passes s (Some (claiming_text c)) values → Goes certificate (solving s places.Results (Some (claiming_text c)) nothing_held) (solving s places.Results (Some (claiming_text c)) h) → Goes (solution c certificate values) (solving s places.Solution None nothing_held) (solving s places.Solution (Some (claiming_text c)) h)
@@ -198,25 +200,25 @@ claimed_as (Unbounded x vs cs r) = claiming.Unbounded
 claimed_as (BestSoFar x vs c b) = claiming.BestSoFar
 claimed_as (Unsure c b) = claiming.Unsure
 
-claim_goes : (s : State) (c : Claim) → ClaimComesBack (Some c) → 2 + length (certs_of c) ≤ 2 ^ 32 → Goes (claim_nodes c) (solving s places.Solution None nothing_held) (solving s places.Solution (Some (claiming_text (claimed_as c))) (held_of c))
-claim_goes s (Optimal x vs cs) back few =
+claim_goes : (s : State) (ns : NameLists) (c : Claim) → ClaimComesBack (Some c) → 2 + length (certs_of c) ≤ 2 ^ 32 → Goes (claim_nodes ns c) (solving s places.Solution None nothing_held) (solving s places.Solution (Some (claiming_text (claimed_as c))) (held_of c))
+claim_goes s ns (Optimal x vs cs) back few =
     let type : Option (List ℕ) = Some (claiming_text claiming.Optimal) in
     let last : Held = held_of (Optimal x vs cs) in
-    solution_goes s claiming.Optimal (point_parts x vs (trees_parts cs)) (λ more. point_values x vs (dual_values (length x) vs cs more)) last (λ more z behind. point_passes s type x vs (dual_values (length x) vs cs more) z (duals_pass s type (length x) vs cs more z behind))
+    solution_goes s claiming.Optimal (point_parts x vs (trees_parts cs)) (λ more. point_values ns.variables x vs (dual_values ns.rows (length x) vs cs more)) last (λ more z behind. point_passes s type ns.variables x vs (dual_values ns.rows (length x) vs cs more) z (duals_pass s type ns.rows (length x) vs cs more z behind))
     (points_go s type x vs (trees_parts cs) (solving s places.Results type last) (trees_go s type (held_point x vs) cs refl refl refl refl refl refl few (may_have cs back.1)))
-claim_goes s (Infeasible c) back few = solution_goes s claiming.Infeasible (tree_parts c []) (λ more. more) (held_of (Infeasible c)) (λ more z behind. behind) (tree_goes s (Some (claiming_text claiming.Infeasible)) nothing_held c [] refl refl refl refl refl (inr refl) (omega (arith, few)) back)
-claim_goes s (Unbounded x vs cs r) back few =
+claim_goes s ns (Infeasible c) back few = solution_goes s claiming.Infeasible (tree_parts c []) (λ more. more) (held_of (Infeasible c)) (λ more z behind. behind) (tree_goes s (Some (claiming_text claiming.Infeasible)) nothing_held c [] refl refl refl refl refl (inr refl) (omega (arith, few)) back)
+claim_goes s ns (Unbounded x vs cs r) back few =
     let type : Option (List ℕ) = Some (claiming_text claiming.Unbounded) in
     let last : Held = held_of (Unbounded x vs cs r) in
-    solution_goes s claiming.Unbounded (point_parts x vs (ray_part r (trees_parts cs))) (point_values x vs) last (point_passes s type x vs)
+    solution_goes s claiming.Unbounded (point_parts x vs (ray_part r (trees_parts cs))) (point_values ns.variables x vs) last (point_passes s type ns.variables x vs)
     (points_go s type x vs (ray_part r (trees_parts cs)) (solving s places.Results type last) (ray_goes s type x vs r (trees_parts cs) (solving s places.Results type last) (trees_go s type (with_ray r (held_point x vs)) cs refl refl refl refl refl refl few back.1)))
-claim_goes s (BestSoFar x vs c b) back few =
+claim_goes s ns (BestSoFar x vs c b) back few =
     let type : Option (List ℕ) = Some (claiming_text claiming.BestSoFar) in
     let last : Held = held_of (BestSoFar x vs c b) in
     let rest = cause_part c (bound_parts b) in
     let bounds = bound_goes s type (with_cause c (held_point x vs)) b refl refl refl refl refl refl refl back.2 in
-    solution_goes s claiming.BestSoFar (point_parts x vs rest) (point_values x vs) last (point_passes s type x vs) (points_go s type x vs rest (solving s places.Results type last) (cause_goes s type (held_point x vs) c (bound_parts b) (solving s places.Results type last) refl refl back.1 bounds))
-claim_goes s (Unsure c b) back few =
+    solution_goes s claiming.BestSoFar (point_parts x vs rest) (point_values ns.variables x vs) last (point_passes s type ns.variables x vs) (points_go s type x vs rest (solving s places.Results type last) (cause_goes s type (held_point x vs) c (bound_parts b) (solving s places.Results type last) refl refl back.1 bounds))
+claim_goes s ns (Unsure c b) back few =
     let type : Option (List ℕ) = Some (claiming_text claiming.Unsure) in
     let last : Held = held_of (Unsure c b) in
     let bounds = bound_goes s type (with_cause c nothing_held) b refl refl refl refl refl refl refl back.1 in
@@ -234,15 +236,15 @@ held_in (Some c) = held_of c
 abbrev claimed : State → Option Claim → State
 claimed s o = record s { place = places.Osrl; depth = 0; claiming = type_in o; has_solution = is_some o; twice = false; level = None; bad = None; held = held_in o }
 
-optimization_goes : (s : State) (o : Option Claim) → ClaimComesBack o → 2 + length (certs_in o) ≤ 2 ^ 32 → Goes (optimization o) (claimed s None) (claimed s o)
-optimization_goes s None back few = goes_none (claimed s None)
-optimization_goes s (Some c) back few =
+optimization_goes : (s : State) (ns : NameLists) (o : Option Claim) → ClaimComesBack o → 2 + length (certs_in o) ≤ 2 ^ 32 → Goes (optimization ns o) (claimed s None) (claimed s o)
+optimization_goes s ns None back few = goes_none (claimed s None)
+optimization_goes s ns (Some c) back few =
     let type : Option (List ℕ) = Some (claiming_text (claimed_as c)) in
     let before : State = record (claimed s None) { place = places.Optimization } in
     let behind : State = solving s places.Optimization type (held_of c) in
     let last : State = claimed s (Some c) in
-    goes_element (codes "optimization") [] (group (codes "solution") (claim_nodes c) none) none (claimed s None) before behind last last (λ n t. (n, [], (tt, refl)))
-    (goes_element (codes "solution") [] (claim_nodes c) none before (solving s places.Solution None nothing_held) (solving s places.Solution type (held_of c)) behind behind (λ n t. (n, [], (tt, refl))) (claim_goes s c back few) (λ n t. (tt, refl)) (goes_none behind)) (λ n t. (tt, refl)) (goes_none last)
+    goes_element (codes "optimization") [] (group (codes "solution") (claim_nodes ns c) none) none (claimed s None) before behind last last (λ n t. (n, [], (tt, refl)))
+    (goes_element (codes "solution") [] (claim_nodes ns c) none before (solving s places.Solution None nothing_held) (solving s places.Solution type (held_of c)) behind behind (λ n t. (n, [], (tt, refl))) (claim_goes s ns c back few) (λ n t. (tt, refl)) (goes_none behind)) (λ n t. (tt, refl)) (goes_none last)
 
 -- WHAT IS SAID IN GENERAL, and of the job
 abbrev told : Bool → (job message status : Option (List ℕ)) → Place → State
@@ -266,13 +268,13 @@ general_goes error job message bare plain =
 abbrev reported : Report → State
 reported r = claimed (told r.error r.job r.message (Some (status_text r.status)) places.Osrl) r.claim
 
-children_go : (r : Report) → ComesBack r → Goes (report_element r).children (record start { place = places.Osrl }) (reported r)
-children_go r back =
+children_go : (ns : NameLists) (r : Report) → ComesBack r → Goes (named_element ns r).children (record start { place = places.Osrl }) (reported r)
+children_go ns r back =
     let with_status : Option (List ℕ) → Place → State = told r.error r.job r.message in
     let status : Option (List ℕ) = Some (status_text r.status) in
-    goes_element (codes "general") [] (general_nodes r) (status_nodes r.status (optimization r.claim)) (record start { place = places.Osrl }) (record start { place = places.General }) (with_status None places.General) (with_status None places.Osrl) (reported r) (λ n t. (n, [], (tt, refl))) (general_goes r.error r.job r.message back.job back.message) (λ n t. (tt, refl))
-    (goes_element (codes "job") [] (leaf (codes "status") (status_text r.status) none) (optimization r.claim) (with_status None places.Osrl) (with_status None places.Job) (with_status status places.Job) (with_status status places.Osrl) (reported r) (λ n t. (n, [], (tt, refl)))
-    (goes_leaf (codes "status") (status_text r.status) none (with_status None places.Job) (with_status None places.JobStatus) (with_status status places.Job) (with_status status places.Job) (λ n t. (n, (tt, refl))) refl (λ n. (tt, refl)) (goes_none (with_status status places.Job))) (λ n t. (tt, refl)) (optimization_goes (with_status status places.Osrl) r.claim back.claim (levels_few r back)))
+    goes_element (codes "general") [] (general_nodes r) (status_nodes r.status (optimization ns r.claim)) (record start { place = places.Osrl }) (record start { place = places.General }) (with_status None places.General) (with_status None places.Osrl) (reported r) (λ n t. (n, [], (tt, refl))) (general_goes r.error r.job r.message back.job back.message) (λ n t. (tt, refl))
+    (goes_element (codes "job") [] (leaf (codes "status") (status_text r.status) none) (optimization ns r.claim) (with_status None places.Osrl) (with_status None places.Job) (with_status status places.Job) (with_status status places.Osrl) (reported r) (λ n t. (n, [], (tt, refl)))
+    (goes_leaf (codes "status") (status_text r.status) none (with_status None places.Job) (with_status None places.JobStatus) (with_status status places.Job) (with_status status places.Job) (λ n t. (n, (tt, refl))) refl (λ n. (tt, refl)) (goes_none (with_status status places.Job))) (λ n t. (tt, refl)) (optimization_goes (with_status status places.Osrl) ns r.claim back.claim (levels_few r back)))
 
 -- THE REPORT: no part is miscounted, and all are there
 abbrev Miscounted : Held → Part → Type 0
@@ -377,12 +379,20 @@ root_ends r back n t =
     let says : report_of (at (reported r) n t) ≡ Some r = report_said r back in
     ((none_bad (has_one_level false (held_in r.claim).has_bound (type_in r.claim)), (false≢true, (value_counted r.claim back.claim, (tree_counted r.claim back.claim, (cause_counted r.claim, (bound_counted r.claim, ((λ none. let clash : Some r ≡ None = sym says ∙ none in absurd (cc)), tt))))))), (r, says, refl))
 
-root_reports : (r : Report) → ComesBack r → IsReport (root_of r) r
-root_reports r back =
+root_reports : (ns : NameLists) (r : Report) → ComesBack r → IsReport (root_of ns r) r
+root_reports ns r back =
     let last : State = record start { report = r } in
     let inside : State = record start { place = places.Osrl } in
-    (last, (inside, (tt, refl), children_go r back (Close (codes "osrl") ∷ []) last (λ n t. (last, root_ends r back n t, refl)) 0 []), refl)
+    (last, (inside, (tt, refl), children_go ns r back (Close (codes "osrl") ∷ []) last (λ n t. (last, root_ends r back n t, refl)) 0 []), refl)
 
 -- so does its text
 pub text_comes_back : (r : Report) → ComesBack r → IsReportText (report_text r) r
-text_comes_back r back = record { root = root_of r; document = text_document r back; is = root_reports r back }
+text_comes_back r back = record { root = root_of no_names r; document = text_document r back; is = root_reports no_names r back }
+
+-- and its text with names, where that is told
+pub told_comes_back : (ns : NameLists) → AreXmlNames ns → (r : Report) → ComesBack r → IsReportText (told_text ns r) r
+told_comes_back ns xml r back = go (nat_le (length (named_text ns r)) document_limit) refl
+  where
+    go : (b : Bool) → nat_le (length (named_text ns r)) document_limit ≡ b → IsReportText (cond b (named_text ns r) (report_text r)) r
+    go true short = record { root = root_of ns r; document = named_document ns xml r back (leb-true (length (named_text ns r)) document_limit short); is = root_reports ns r back }
+    go false long = text_comes_back r back

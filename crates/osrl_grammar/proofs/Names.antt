@@ -54,7 +54,9 @@ pub use Rattle.osrl_grammar.specs.Table.{around, item_refusal, kind, leads, refu
 pub use Rattle.osrl_grammar.specs.Values.{BeginsWithWord, IsCause, IsFraction, IsMult, IsMultOf, IsOne, IsOutOfOrder, IsPlace, IsRound, IsRoundOf, IsTreeItem, SaysCause, SaysNode, SaysTree, cause_head, node_head, tree_head}
 pub use Rattle.osrl_grammar.specs.Words.{worded}
 pub use Rattle.osrl_writing.specs.Words.{claiming_text, part_name, status_text}
-pub use Rattle.osrl_writing.specs.Writing.{bound_parts, cause_part, cause_text, certificate_part, claim_nodes, dual_values, fraction_texts, general_nodes, general_type, indexed, item_nodes, leaf_of, mult_text, node_text, optimization, point_parts, point_values, goal_values, level_text, level_texts, ray_part, report_element, report_text, round_text, rounds_part, row_values, solution, status_nodes, tree_parts, tree_values, trees_parts, values_part, values_part_unless_none, variable_values}
+pub use Rattle.osrl_writing.specs.Labels.{AreXmlLabels, AreXmlNames, Labels, name_at, no_names}
+pub use Rattle.osrl_writing.specs.declared.told_names.NameLists.{NameLists}
+pub use Rattle.osrl_writing.specs.Writing.{bound_parts, cause_part, cause_text, certificate_part, claim_nodes, dual_values, fraction_texts, general_nodes, general_type, indexed, item_nodes, leaf_of, mult_text, node_text, optimization, point_parts, point_values, goal_values, level_text, level_texts, name_attribute, named_element, named_text, ray_part, report_element, report_text, told_text, round_text, rounds_part, row_values, solution, status_nodes, tree_parts, tree_values, trees_parts, values_part, values_part_unless_none, variable_values}
 pub use Rattle.tag_tests.specs.declared.places.Led.{Led}
 pub use Rattle.tag_tests.specs.declared.places.Led.TheVariants.{OtherRoot, Over, To}
 pub use Rattle.osrl_grammar.specs.declared.fault.OsrlFault.{OsrlFault}

@@ -5,7 +5,9 @@ ghost use Rattle.document_tags.specs.Texts.{document_limit};
 ghost use Rattle.osrl_writing.specs.declared.report.Report.{Report};
 ghost use Rattle.osrl_grammar.specs.declared.fault.OsrlFault.{OsrlFault};
 ghost use Rattle.osrl_grammar.specs.declared.fault.OsrlFault.TheVariants.{Memory};
-ghost use Rattle.osrl_writing.specs.Writing.{report_text};
+ghost use Rattle.osrl_writing.specs.declared.told_names.NameLists.{NameLists};
+ghost use Rattle.osrl_writing.specs.Labels.{AreXmlNames};
+ghost use Rattle.osrl_writing.specs.Writing.{report_text, told_text};
 ghost use Rattle.osrl_grammar.specs.Reading.{IsReportText, DecodeFails};
 ghost use Rattle.osrl_grammar.specs.Back.{ComesBack};
 ghost use Rattle.osrl_grammar.specs.Grounds.{TextsAreOfCharacters};
@@ -22,6 +24,14 @@ use document_tags::{documents_are_of_characters, texts_part_at_ascii};
 pub fn written_texts_are_reports()
     ensures { (r : Report) → ComesBack r → IsReportText (report_text r) r }
 {}
+
+/// Law: where the text of a report is the document of that report, so is the text that tells it with names of characters of
+/// XML: names are passed over where a result document is read.
+pub fn named_texts_are_reports()
+    ensures { (ns : NameLists) (r : Report) → AreXmlNames ns → IsReportText (report_text r) r → IsReportText (told_text ns r) r }
+{
+    texts_are_of_characters();
+}
 
 /// The laws of documents' characters.
 pub(crate) fn texts_are_of_characters()

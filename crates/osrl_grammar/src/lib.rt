@@ -3,7 +3,7 @@
 //! [`decode`] gives the [`Report`](osrl_writing::Report) that a document says, or why it says none ([`OsrlFault`]), and
 //! [`Decoder`] that of one which comes in pieces: a document is read mark by mark, and no tree of it is held.
 //! [`written_texts_are_reports`] says that what [`encode`](osrl_writing::encode()) writes is the document of that report, if the
-//! report can come back (`specs/Back.antt`), and [`reports_are_read_back`] that a report which was read is read again from it, if
+//! report can come back (`specs/Back.antt`), [`named_texts_are_reports`] that names change nothing of that, and [`reports_are_read_back`] that a report which was read is read again from it, if
 //! it isn't too long. [`refusal_text`] says in words why a document is refused.
 #![tactic(auto)]
 
@@ -24,7 +24,7 @@ mod words;
 
 pub use decoder::Decoder;
 pub use fault::OsrlFault;
-pub use laws::{reports_are_read_back, written_texts_are_reports};
+pub use laws::{named_texts_are_reports, reports_are_read_back, written_texts_are_reports};
 pub use reading::decode;
 pub use reading_laws::{
     document_has_one_refusal, document_has_one_report, first_and_least_is_told, read_claims_fit,

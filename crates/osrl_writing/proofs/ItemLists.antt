@@ -1,20 +1,20 @@
 -- Lists that are told item by item.
-use Rattle.osrl_writing.proofs.Names.{◌≡◌, ℕ, ◌-◌, ◌<◌, ◌≤◌, Bool, cond, get_or, ◌≢◌, List, [], ◌∷◌, length, refl, ap, sym, lt-ltb, le-ltb, arith, decimal, codes, Nodes, none, element, chars, Event, nodes_events, ◌++◌, leaf, Frac, Mult, Cert, Node, Split, Zero, Clash, Farkas, Bound, Grid, indexed, row_values, values_part, values_part_unless_none, tree_values, dual_values, item_nodes, certificate_part, level_text, level_texts, node_text, round_text, rounds_part, ◌+◌, ◌∙◌, map, drop, ap₂}
+use Rattle.osrl_writing.proofs.Names.{◌≡◌, ℕ, ◌-◌, ◌<◌, ◌≤◌, Bool, cond, get_or, ◌≢◌, List, [], ◌∷◌, length, refl, ap, sym, lt-ltb, le-ltb, arith, decimal, codes, Nodes, none, element, chars, Event, nodes_events, ◌++◌, leaf, Frac, Mult, Cert, Node, Split, Zero, Clash, Farkas, Bound, Grid, indexed, Labels, name_at, row_values, values_part, values_part_unless_none, tree_values, dual_values, item_nodes, certificate_part, level_text, level_texts, node_text, round_text, rounds_part, ◌+◌, ◌∙◌, map, drop, ap₂}
 use Rattle.std.proofs.lemmas.List.{at_drop_more}
 use Rattle.osrl_writing.specs.declared.parts.Part.TheVariants.{Rounds}
 use Rattle.osrl_writing.specs.Writing.{rows_part}
 
 -- the value of a row's multiplier, and those behind it
-abbrev pub row_value : ℕ → Mult → Nodes → Nodes
-row_value n m more = indexed (codes "con") (decimal (m.col - n)) m.value more
+abbrev pub row_value : Labels → ℕ → Mult → Nodes → Nodes
+row_value ls n m more = indexed (codes "con") (decimal (m.col - n)) (name_at ls (m.col - n)) m.value more
 
 -- a multiplier of a variable is passed over
-pub passed : (n : ℕ) (m : Mult) (ms : List Mult) → m.col < n → row_values n (m ∷ ms) ≡ row_values n ms
-passed n m ms h = ap (λ (b : Bool). cond b (row_values n ms) (row_value n m (row_values n ms))) (lt-ltb m.col n h)
+pub passed : (ls : Labels) (n : ℕ) (m : Mult) (ms : List Mult) → m.col < n → row_values ls n (m ∷ ms) ≡ row_values ls n ms
+passed ls n m ms h = ap (λ (b : Bool). cond b (row_values ls n ms) (row_value ls n m (row_values ls n ms))) (lt-ltb m.col n h)
 
 -- one of a row isn't
-pub shown : (n : ℕ) (m : Mult) (ms : List Mult) → n ≤ m.col → row_values n (m ∷ ms) ≡ row_value n m (row_values n ms)
-shown n m ms h = ap (λ (b : Bool). cond b (row_values n ms) (row_value n m (row_values n ms))) (le-ltb m.col n h)
+pub shown : (ls : Labels) (n : ℕ) (m : Mult) (ms : List Mult) → n ≤ m.col → row_values ls n (m ∷ ms) ≡ row_value ls n m (row_values ls n ms)
+shown ls n m ms h = ap (λ (b : Bool). cond b (row_values ls n ms) (row_value ls n m (row_values ls n ms))) (le-ltb m.col n h)
 
 unless_none : (name list : List ℕ) (values more : Nodes) → (values ≡ none → ⊥) → values_part name list values more ≡ values_part_unless_none name list values more
 unless_none name list none more some = absurd (some refl)
@@ -22,28 +22,28 @@ unless_none name list (element n attributes children behind) more some = refl
 unless_none name list (chars text behind) more some = refl
 
 -- the part stands where there is a row's multiplier
-pub rows_shown : (n : ℕ) (ms : List Mult) → (row_values n ms ≡ none → ⊥) → (k : List Event) → nodes_events (values_part (codes "constraints") (codes "dualValues") (row_values n ms) none) k ≡ nodes_events (rows_part n ms none) k
-rows_shown n ms some k = ap (λ (nodes : Nodes). nodes_events nodes k) (unless_none (codes "constraints") (codes "dualValues") (row_values n ms) none some)
+pub rows_shown : (ls : Labels) (n : ℕ) (ms : List Mult) → (row_values ls n ms ≡ none → ⊥) → (k : List Event) → nodes_events (values_part (codes "constraints") (codes "dualValues") (row_values ls n ms) none) k ≡ nodes_events (rows_part ls n ms none) k
+rows_shown ls n ms some k = ap (λ (nodes : Nodes). nodes_events nodes k) (unless_none (codes "constraints") (codes "dualValues") (row_values ls n ms) none some)
 
 -- a tree of several nodes, or none, has no dual values, nor has one with rounds
-pub several : (n : ℕ) (rounds : List (List Mult)) (tree : List Node) → length tree ≢ 1 → (k : List Event) → k ≡ nodes_events (tree_values n rounds tree none) k
-several n (r ∷ rs) tree h k = refl
-several n [] [] h k = refl
-several n [] (Split j b ∷ more) h k = refl
-several n [] (Zero j ∷ more) h k = refl
-several n [] (Clash c ∷ more) h k = refl
-several n [] (Farkas ms ∷ more) h k = refl
-several n [] (Grid g ms ∷ more) h k = refl
-several n [] (Bound ms ∷ []) h k = absurd (h refl)
-several n [] (Bound ms ∷ m ∷ more) h k = refl
+pub several : (ls : Labels) (n : ℕ) (rounds : List (List Mult)) (tree : List Node) → length tree ≢ 1 → (k : List Event) → k ≡ nodes_events (tree_values ls n rounds tree none) k
+several ls n (r ∷ rs) tree h k = refl
+several ls n [] [] h k = refl
+several ls n [] (Split j b ∷ more) h k = refl
+several ls n [] (Zero j ∷ more) h k = refl
+several ls n [] (Clash c ∷ more) h k = refl
+several ls n [] (Farkas ms ∷ more) h k = refl
+several ls n [] (Grid g ms ∷ more) h k = refl
+several ls n [] (Bound ms ∷ []) h k = absurd (h refl)
+several ls n [] (Bound ms ∷ m ∷ more) h k = refl
 
 -- several values, or trees, have none
-pub many : (n : ℕ) (values : List Frac) (trees : List Cert) → (length values ≡ 1 → length trees ≡ 1 → ⊥) → (k : List Event) → k ≡ nodes_events (dual_values n values trees none) k
-many n [] cs h k = refl
-many n (v ∷ w ∷ vs) cs h k = refl
-many n (v ∷ []) [] h k = refl
-many n (v ∷ []) (c ∷ []) h k = absurd (h refl refl)
-many n (v ∷ []) (c ∷ d ∷ cs) h k = refl
+pub many : (ls : Labels) (n : ℕ) (values : List Frac) (trees : List Cert) → (length values ≡ 1 → length trees ≡ 1 → ⊥) → (k : List Event) → k ≡ nodes_events (dual_values ls n values trees none) k
+many ls n [] cs h k = refl
+many ls n (v ∷ w ∷ vs) cs h k = refl
+many ls n (v ∷ []) [] h k = refl
+many ls n (v ∷ []) (c ∷ []) h k = absurd (h refl refl)
+many ls n (v ∷ []) (c ∷ d ∷ cs) h k = refl
 
 -- items of two lists are those of the one and those of the other
 pub items_both : (xs ys : List (List ℕ)) (k : List Event) → nodes_events (item_nodes xs) (nodes_events (item_nodes ys) k) ≡ nodes_events (item_nodes (xs ++ ys)) k
@@ -56,23 +56,23 @@ rows_then_by name list (element n attributes children behind) more k = refl
 rows_then_by name list (chars text behind) more k = refl
 
 -- the dual values, and then more
-tree_then : (n : ℕ) (rounds : List (List Mult)) (tree : List Node) (more : Nodes) (k : List Event) → nodes_events (tree_values n rounds tree none) (nodes_events more k) ≡ nodes_events (tree_values n rounds tree more) k
-tree_then n (r ∷ rs) tree more k = refl
-tree_then n [] [] more k = refl
-tree_then n [] (Split j b ∷ ns) more k = refl
-tree_then n [] (Zero j ∷ ns) more k = refl
-tree_then n [] (Clash c ∷ ns) more k = refl
-tree_then n [] (Farkas ms ∷ ns) more k = refl
-tree_then n [] (Grid g ms ∷ ns) more k = refl
-tree_then n [] (Bound ms ∷ []) more k = rows_then_by (codes "constraints") (codes "dualValues") (row_values n ms) more k
-tree_then n [] (Bound ms ∷ m ∷ ns) more k = refl
+tree_then : (ls : Labels) (n : ℕ) (rounds : List (List Mult)) (tree : List Node) (more : Nodes) (k : List Event) → nodes_events (tree_values ls n rounds tree none) (nodes_events more k) ≡ nodes_events (tree_values ls n rounds tree more) k
+tree_then ls n (r ∷ rs) tree more k = refl
+tree_then ls n [] [] more k = refl
+tree_then ls n [] (Split j b ∷ ns) more k = refl
+tree_then ls n [] (Zero j ∷ ns) more k = refl
+tree_then ls n [] (Clash c ∷ ns) more k = refl
+tree_then ls n [] (Farkas ms ∷ ns) more k = refl
+tree_then ls n [] (Grid g ms ∷ ns) more k = refl
+tree_then ls n [] (Bound ms ∷ []) more k = rows_then_by (codes "constraints") (codes "dualValues") (row_values ls n ms) more k
+tree_then ls n [] (Bound ms ∷ m ∷ ns) more k = refl
 
-pub duals_then : (n : ℕ) (values : List Frac) (trees : List Cert) (more : Nodes) (k : List Event) → nodes_events (dual_values n values trees none) (nodes_events more k) ≡ nodes_events (dual_values n values trees more) k
-duals_then n [] cs more k = refl
-duals_then n (v ∷ w ∷ vs) cs more k = refl
-duals_then n (v ∷ []) [] more k = refl
-duals_then n (v ∷ []) (c ∷ []) more k = tree_then n c.rounds c.nodes more k
-duals_then n (v ∷ []) (c ∷ d ∷ cs) more k = refl
+pub duals_then : (ls : Labels) (n : ℕ) (values : List Frac) (trees : List Cert) (more : Nodes) (k : List Event) → nodes_events (dual_values ls n values trees none) (nodes_events more k) ≡ nodes_events (dual_values ls n values trees more) k
+duals_then ls n [] cs more k = refl
+duals_then ls n (v ∷ w ∷ vs) cs more k = refl
+duals_then ls n (v ∷ []) [] more k = refl
+duals_then ls n (v ∷ []) (c ∷ []) more k = tree_then ls n c.rounds c.nodes more k
+duals_then ls n (v ∷ []) (c ∷ d ∷ cs) more k = refl
 
 -- rounds, where there are any, and then more
 pub rounds_then : (rs : List (List Mult)) (more : Nodes) (k : List Event) → nodes_events (rounds_part rs none) (nodes_events more k) ≡ nodes_events (rounds_part rs more) k

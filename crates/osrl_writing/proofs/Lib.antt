@@ -1,3 +1,4 @@
 pub mod Names
+pub mod NamedTexts
 mod Cuts
 mod ItemLists

@@ -18,8 +18,10 @@ pub use Rattle.element_tree.specs.Building.{said}
 pub use Rattle.fraction.specs.Frac.{ratio}
 pub use Rattle.fraction.specs.declared.frac.Frac.{Frac}
 pub use Rattle.osrl_writing.specs.Cuts.{cut_size, cut_text, decimals, has_sign, without_zeros}
+pub use Rattle.osrl_writing.specs.Labels.{Labels, name_at, no_names}
 pub use Rattle.osrl_writing.specs.Words.{claiming_text, part_name}
-pub use Rattle.osrl_writing.specs.Writing.{certificate_part, dual_values, fraction_texts, indexed, item_nodes, mult_text, node_text, point_parts, point_values, goal_values, level_text, level_texts, report_element, round_text, rounds_part, row_values, tree_values, trees_parts, values_part, values_part_unless_none, variable_values}
+pub use Rattle.osrl_writing.specs.declared.told_names.NameLists.{NameLists}
+pub use Rattle.osrl_writing.specs.Writing.{certificate_part, dual_values, fraction_texts, indexed, item_nodes, mult_text, node_text, point_parts, point_values, goal_values, level_text, level_texts, name_attribute, named_element, named_text, report_element, report_text, told_text, round_text, rounds_part, row_values, tree_values, trees_parts, values_part, values_part_unless_none, variable_values}
 pub use Rattle.rational.specs.Ratio.{Ratio}
 pub use Rattle.rational.specs.Whole.{signed}
 pub use Rattle.tree_grammar.specs.Elements.{Close, Event, Nodes, chars, element, nodes_events, none}

@@ -1,3 +1,4 @@
 pub mod Cuts
 pub mod Words
+pub mod Labels
 pub mod Writing

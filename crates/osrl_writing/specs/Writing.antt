@@ -1,9 +1,10 @@
 -- The document that a report is written as (Optimization Services result language), and its text.
-use Rattle.std.specs.Prelude.{ℕ, ◌+◌, ◌-◌, Bool, true, false, Option, None, Some, nat_lt, cond, List, [], ◌∷◌, ◌++◌, map, flat_map, length, codes, decimal}
+use Rattle.std.specs.Prelude.{ℕ, ◌+◌, ◌-◌, Bool, true, false, Option, None, Some, nat_lt, nat_le, cond, List, [], ◌∷◌, ◌++◌, map, flat_map, length, codes, decimal}
 use Rattle.std.specs.Fmt.{signed_decimal}
-use Rattle.tree_grammar.specs.Elements.{Nodes, none, element, chars, Element}
+use Rattle.tree_grammar.specs.Elements.{Attribute, Nodes, none, element, chars, Element}
 use Rattle.tree_grammar.specs.WrittenText.{written}
-use Rattle.document_tags.specs.Writing.{only, text_nodes, leaf, group, typed, rooted}
+use Rattle.document_tags.specs.Texts.{document_limit}
+use Rattle.document_tags.specs.Writing.{only, with_attribute, text_nodes, leaf, group, typed, rooted}
 use Rattle.fraction.specs.Frac.{ratio}
 use Rattle.fraction.specs.declared.frac.Frac.{Frac}
 use Rattle.decimal_text.specs.Exact.{ratio_text}
@@ -16,9 +17,11 @@ use Rattle.certificate.specs.declared.causes.Cause.TheVariants as causes
 use Rattle.certificate.specs.declared.claims.ProvedBound.{ProvedBound}
 use Rattle.certificate.specs.declared.claims.Claim.{Claim}
 use Rattle.certificate.specs.declared.claims.Claim.TheVariants.{Optimal, Infeasible, Unbounded, BestSoFar, Unsure}
+use Rattle.osrl_writing.specs.declared.told_names.NameLists.{NameLists}
 use Rattle.osrl_writing.specs.declared.report.JobStatus.{JobStatus}
 use Rattle.osrl_writing.specs.declared.report.Report.{Report}
 use Rattle.osrl_writing.specs.Cuts.{cut_text}
+use Rattle.osrl_writing.specs.Labels.{Labels, name_at, no_names}
 use Rattle.osrl_writing.specs.declared.parts.Part.{Part}
 use Rattle.osrl_writing.specs.declared.parts.Part.TheVariants as parts
 use Rattle.osrl_writing.specs.declared.parts.Claiming.{Claiming}
@@ -26,19 +29,24 @@ use Rattle.osrl_writing.specs.declared.parts.Claiming.TheVariants as claiming
 use Rattle.certificate.specs.Words.{step_text}
 use Rattle.osrl_writing.specs.Words.{status_text, claiming_text, part_name, round_word}
 
--- an element with an index that holds a cut number, and then more
-abbrev pub indexed : (name index : List ℕ) → Frac → Nodes → Nodes
-indexed name index x more = element name (only (codes "idx") index) (text_nodes (cut_text (ratio x))) more
+-- the attribute that tells a name, if there is one
+abbrev pub name_attribute : Option (List ℕ) → List Attribute
+name_attribute None = []
+name_attribute (Some name) = only (codes "name") name
 
--- the values of the variables from j on
-abbrev pub variable_values : ℕ → List Frac → Nodes
-variable_values j [] = none
-variable_values j (x ∷ xs) = indexed (codes "var") (decimal j) x (variable_values (j + 1) xs)
+-- an element with an index, and with a name where there is one, that holds a cut number, and then more
+abbrev pub indexed : (element_name index : List ℕ) → (name : Option (List ℕ)) → Frac → Nodes → Nodes
+indexed element_name index name x more = element element_name (with_attribute (codes "idx") index (name_attribute name)) (text_nodes (cut_text (ratio x))) more
 
--- of n variables' and the rows' multipliers, those of the rows
-abbrev pub row_values : ℕ → List Mult → Nodes
-row_values n [] = none
-row_values n (m ∷ ms) = cond (nat_lt m.col n) (row_values n ms) (indexed (codes "con") (decimal (m.col - n)) m.value (row_values n ms))
+-- the values of the variables from j on, each with its name
+abbrev pub variable_values : Labels → ℕ → List Frac → Nodes
+variable_values ls j [] = none
+variable_values ls j (x ∷ xs) = indexed (codes "var") (decimal j) (name_at ls j) x (variable_values ls (j + 1) xs)
+
+-- of n variables' and the rows' multipliers, those of the rows, each with its row's name
+abbrev pub row_values : Labels → ℕ → List Mult → Nodes
+row_values ls n [] = none
+row_values ls n (m ∷ ms) = cond (nat_lt m.col n) (row_values ls n ms) (indexed (codes "con") (decimal (m.col - n)) (name_at ls (m.col - n)) m.value (row_values ls n ms))
 
 -- a part of a solution with its values, and then more
 abbrev pub values_part : (name list : List ℕ) → Nodes → Nodes → Nodes
@@ -53,25 +61,25 @@ values_part_unless_none name list (chars text behind) more = values_part name li
 -- the values of the objectives from the k-th on, whose indices are below 0
 abbrev pub goal_values : ℕ → List Frac → Nodes
 goal_values k [] = none
-goal_values k (v ∷ vs) = indexed (codes "obj") (45 ∷ decimal k) v (goal_values (k + 1) vs)
+goal_values k (v ∷ vs) = indexed (codes "obj") (45 ∷ decimal k) None v (goal_values (k + 1) vs)
 
 -- the values of the variables and of the objectives, and then more
-abbrev pub point_values : List Frac → List Frac → Nodes → Nodes
-point_values x vs more = values_part (codes "variables") (codes "values") (variable_values 0 x) (values_part (codes "objectives") (codes "values") (goal_values 1 vs) more)
+abbrev pub point_values : Labels → List Frac → List Frac → Nodes → Nodes
+point_values ls x vs more = values_part (codes "variables") (codes "values") (variable_values ls 0 x) (values_part (codes "objectives") (codes "values") (goal_values 1 vs) more)
 
 -- the multipliers of rows, where there are any, and then more
-abbrev pub rows_part : ℕ → List Mult → Nodes → Nodes
-rows_part n ms more = values_part_unless_none (codes "constraints") (codes "dualValues") (row_values n ms) more
+abbrev pub rows_part : Labels → ℕ → List Mult → Nodes → Nodes
+rows_part ls n ms more = values_part_unless_none (codes "constraints") (codes "dualValues") (row_values ls n ms) more
 
 -- those of a tree, where it is one leaf that bounds the objective, and there is no round, and then more
-abbrev pub tree_values : ℕ → List (List Mult) → List Node → Nodes → Nodes
-tree_values n [] (Bound ms ∷ []) more = rows_part n ms more
-tree_values n rs ns more = more
+abbrev pub tree_values : Labels → ℕ → List (List Mult) → List Node → Nodes → Nodes
+tree_values ls n [] (Bound ms ∷ []) more = rows_part ls n ms more
+tree_values ls n rs ns more = more
 
 -- the dual values, which stand where there is one objective and one tree, and then more
-abbrev pub dual_values : ℕ → List Frac → List Cert → Nodes → Nodes
-dual_values n (v ∷ []) (c ∷ []) more = tree_values n c.rounds c.nodes more
-dual_values n vs cs more = more
+abbrev pub dual_values : Labels → ℕ → List Frac → List Cert → Nodes → Nodes
+dual_values ls n (v ∷ []) (c ∷ []) more = tree_values ls n c.rounds c.nodes more
+dual_values ls n vs cs more = more
 
 -- a column and its multiplier behind a space
 abbrev pub mult_text : Mult → List ℕ
@@ -151,12 +159,12 @@ bound_parts (Some b) = certificate_part parts.Bound (fraction_texts (b.number �
 abbrev pub solution : Claiming → (certificate : Nodes) → (values : Nodes → Nodes) → Nodes
 solution c certificate values = typed (codes "status") (claiming_text c) (values (group (codes "otherSolutionResults") certificate none))
 
-abbrev pub claim_nodes : Claim → Nodes
-claim_nodes (Optimal x vs cs) = solution claiming.Optimal (point_parts x vs (trees_parts cs)) (λ more. point_values x vs (dual_values (length x) vs cs more))
-claim_nodes (Infeasible c) = solution claiming.Infeasible (tree_parts c []) (λ more. more)
-claim_nodes (Unbounded x vs cs r) = solution claiming.Unbounded (point_parts x vs (ray_part r (trees_parts cs))) (point_values x vs)
-claim_nodes (BestSoFar x vs c b) = solution claiming.BestSoFar (point_parts x vs (cause_part c (bound_parts b))) (point_values x vs)
-claim_nodes (Unsure c b) = solution claiming.Unsure (cause_part c (bound_parts b)) (λ more. more)
+abbrev pub claim_nodes : NameLists → Claim → Nodes
+claim_nodes ns (Optimal x vs cs) = solution claiming.Optimal (point_parts x vs (trees_parts cs)) (λ more. point_values ns.variables x vs (dual_values ns.rows (length x) vs cs more))
+claim_nodes ns (Infeasible c) = solution claiming.Infeasible (tree_parts c []) (λ more. more)
+claim_nodes ns (Unbounded x vs cs r) = solution claiming.Unbounded (point_parts x vs (ray_part r (trees_parts cs))) (point_values ns.variables x vs)
+claim_nodes ns (BestSoFar x vs c b) = solution claiming.BestSoFar (point_parts x vs (cause_part c (bound_parts b))) (point_values ns.variables x vs)
+claim_nodes ns (Unsure c b) = solution claiming.Unsure (cause_part c (bound_parts b)) (λ more. more)
 
 -- a text in an element of this name, if there is one, and then more
 abbrev pub leaf_of : (name : List ℕ) → Option (List ℕ) → Nodes → Nodes
@@ -164,9 +172,9 @@ leaf_of name None more = more
 leaf_of name (Some text) more = leaf name text more
 
 -- the claim's solution, if there is one
-abbrev pub optimization : Option Claim → Nodes
-optimization None = none
-optimization (Some c) = group (codes "optimization") (group (codes "solution") (claim_nodes c) none) none
+abbrev pub optimization : NameLists → Option Claim → Nodes
+optimization ns None = none
+optimization ns (Some c) = group (codes "optimization") (group (codes "solution") (claim_nodes ns c) none) none
 
 abbrev pub general_type : Bool → List ℕ
 general_type true = codes "error"
@@ -180,10 +188,22 @@ general_nodes r = typed (codes "generalStatus") (general_type r.error) (leaf_of 
 abbrev pub status_nodes : JobStatus → Nodes → Nodes
 status_nodes status more = group (codes "job") (leaf (codes "status") (status_text status) none) more
 
+-- the root that a report is written as with these names
+abbrev pub named_element : NameLists → Report → Element
+named_element ns r = rooted (codes "osrl") (group (codes "general") (general_nodes r) (status_nodes r.status (optimization ns r.claim)))
+
+-- the text of a report with these names
+abbrev pub named_text : NameLists → Report → List ℕ
+named_text ns r = written (named_element ns r)
+
 -- the root that a report is written as
 abbrev pub report_element : Report → Element
-report_element r = rooted (codes "osrl") (group (codes "general") (general_nodes r) (status_nodes r.status (optimization r.claim)))
+report_element r = named_element no_names r
 
 -- the text of a report
 abbrev pub report_text : Report → List ℕ
 report_text r = written (report_element r)
+
+-- what is told of a report where these are its names: its text with them, or without any where that would be too long
+abbrev pub told_text : NameLists → Report → List ℕ
+told_text ns r = cond (nat_le (length (named_text ns r)) document_limit) (named_text ns r) (report_text r)

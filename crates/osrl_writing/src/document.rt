@@ -4,6 +4,7 @@ ghost use Rattle.std.specs.Prelude.{◌≡◌, [], OnOk, IfOk, codes};
 ghost use Rattle.tree_grammar.specs.Elements.{none, nodes_events};
 ghost use Rattle.certificate.specs.declared.claims.Claim.TheVariants.{Optimal, Infeasible, Unbounded, BestSoFar, Unsure};
 ghost use Rattle.document_tags.specs.Writing as nodes;
+ghost use Rattle.osrl_writing.specs.Labels.{no_names};
 ghost use Rattle.osrl_writing.specs.Writing as writing;
 ghost use Rattle.osrl_writing.specs.Words as words;
 ghost use Rattle.document_tags.specs.Telling.{Told, whole_element};
@@ -13,13 +14,14 @@ use crate::certificates::{
 };
 use crate::parts::{Claiming, Part};
 use crate::report::{JobStatus, Report};
+use crate::told_names::NameLists;
 use crate::values::{tell_dual_values, tell_point_values};
 use crate::words::Worded;
 use certificate::{Cause, Cert, Claim, ProvedBound};
 use document_tags::{close, leaf, leaf_with, open, open_with, told_text};
 use element_tree::TreeBuilder;
 use fraction::Frac;
-use os_io::{Memory, Text};
+use os_io::{MOST_BYTES, Memory, Text};
 use std::alloc::Global;
 
 /// Tells an element whose type is all that it says.
@@ -42,16 +44,17 @@ fn tell_status(b: &mut TreeBuilder, claiming: Claiming) -> Result<(), Memory>
 fn tell_optimal(
     alloc: Global,
     b: &mut TreeBuilder,
+    names: &NameLists,
     point: &[Frac],
     values: &[Frac],
     certs: &[Cert],
 ) -> Result<(), Memory>
     requires { b.old.attributes ≡ [] }
-    ensures { OnOk result (Told b.old b.new (nodes_events (writing.claim_nodes (Optimal point.now values.now certs.now)))) }
+    ensures { OnOk result (Told b.old b.new (nodes_events (writing.claim_nodes names.now (Optimal point.now values.now certs.now)))) }
 {
     tell_status(b, Claiming::Optimal)?;
-    tell_point_values(alloc, b, point, values)?;
-    tell_dual_values(alloc, b, point.len(), values, certs)?;
+    tell_point_values(alloc, b, names.variables.as_slice(), point, values)?;
+    tell_dual_values(alloc, b, names.rows.as_slice(), point.len(), values, certs)?;
     open(b, b"otherSolutionResults")?;
     tell_point(alloc, b, point, values)?;
     tell_certs(alloc, b, certs)?;
@@ -61,7 +64,7 @@ fn tell_optimal(
 /// Tells the solution of a claim that no point is feasible.
 fn tell_infeasible(alloc: Global, b: &mut TreeBuilder, cert: &Cert) -> Result<(), Memory>
     requires { b.old.attributes ≡ [] }
-    ensures { OnOk result (Told b.old b.new (nodes_events (writing.claim_nodes (Infeasible cert.now)))) }
+    ensures { OnOk result (Told b.old b.new (nodes_events (writing.claim_nodes no_names (Infeasible cert.now)))) }
 {
     tell_status(b, Claiming::Infeasible)?;
     open(b, b"otherSolutionResults")?;
@@ -73,16 +76,17 @@ fn tell_infeasible(alloc: Global, b: &mut TreeBuilder, cert: &Cert) -> Result<()
 fn tell_unbounded(
     alloc: Global,
     b: &mut TreeBuilder,
+    names: &NameLists,
     point: &[Frac],
     values: &[Frac],
     certs: &[Cert],
     ray: &[Frac],
 ) -> Result<(), Memory>
     requires { b.old.attributes ≡ [] }
-    ensures { OnOk result (Told b.old b.new (nodes_events (writing.claim_nodes (Unbounded point.now values.now certs.now ray.now)))) }
+    ensures { OnOk result (Told b.old b.new (nodes_events (writing.claim_nodes names.now (Unbounded point.now values.now certs.now ray.now)))) }
 {
     tell_status(b, Claiming::Unbounded)?;
-    tell_point_values(alloc, b, point, values)?;
+    tell_point_values(alloc, b, names.variables.as_slice(), point, values)?;
     open(b, b"otherSolutionResults")?;
     tell_point(alloc, b, point, values)?;
     tell_numbers(alloc, b, Part::Ray, ray)?;
@@ -94,16 +98,17 @@ fn tell_unbounded(
 fn tell_best_so_far(
     alloc: Global,
     b: &mut TreeBuilder,
+    names: &NameLists,
     point: &[Frac],
     values: &[Frac],
     cause: Cause,
     bound: &Option<ProvedBound>,
 ) -> Result<(), Memory>
     requires { b.old.attributes ≡ [] }
-    ensures { OnOk result (Told b.old b.new (nodes_events (writing.claim_nodes (BestSoFar point.now values.now cause bound.now)))) }
+    ensures { OnOk result (Told b.old b.new (nodes_events (writing.claim_nodes names.now (BestSoFar point.now values.now cause bound.now)))) }
 {
     tell_status(b, Claiming::BestSoFar)?;
-    tell_point_values(alloc, b, point, values)?;
+    tell_point_values(alloc, b, names.variables.as_slice(), point, values)?;
     open(b, b"otherSolutionResults")?;
     tell_point(alloc, b, point, values)?;
     tell_cause(alloc, b, cause)?;
@@ -119,7 +124,7 @@ fn tell_unsure(
     bound: &Option<ProvedBound>,
 ) -> Result<(), Memory>
     requires { b.old.attributes ≡ [] }
-    ensures { OnOk result (Told b.old b.new (nodes_events (writing.claim_nodes (Unsure cause bound.now)))) }
+    ensures { OnOk result (Told b.old b.new (nodes_events (writing.claim_nodes no_names (Unsure cause bound.now)))) }
 {
     tell_status(b, Claiming::Unsure)?;
     open(b, b"otherSolutionResults")?;
@@ -129,9 +134,14 @@ fn tell_unsure(
 }
 
 /// Tells a claim's solution.
-fn tell_claim(alloc: Global, b: &mut TreeBuilder, claim: &Claim) -> Result<(), Memory>
+fn tell_claim(
+    alloc: Global,
+    b: &mut TreeBuilder,
+    names: &NameLists,
+    claim: &Claim,
+) -> Result<(), Memory>
     requires { b.old.attributes ≡ [] }
-    ensures { OnOk result (Told b.old b.new (nodes_events (writing.claim_nodes claim.now))) }
+    ensures { OnOk result (Told b.old b.new (nodes_events (writing.claim_nodes names.now claim.now))) }
 {
     match claim {
         Claim::Optimal {
@@ -141,6 +151,7 @@ fn tell_claim(alloc: Global, b: &mut TreeBuilder, claim: &Claim) -> Result<(), M
         } => tell_optimal(
             alloc,
             b,
+            names,
             point.as_slice(),
             values.as_slice(),
             certs.as_slice(),
@@ -154,6 +165,7 @@ fn tell_claim(alloc: Global, b: &mut TreeBuilder, claim: &Claim) -> Result<(), M
         } => tell_unbounded(
             alloc,
             b,
+            names,
             point.as_slice(),
             values.as_slice(),
             certs.as_slice(),
@@ -164,7 +176,15 @@ fn tell_claim(alloc: Global, b: &mut TreeBuilder, claim: &Claim) -> Result<(), M
             values,
             cause,
             bound,
-        } => tell_best_so_far(alloc, b, point.as_slice(), values.as_slice(), *cause, bound),
+        } => tell_best_so_far(
+            alloc,
+            b,
+            names,
+            point.as_slice(),
+            values.as_slice(),
+            *cause,
+            bound,
+        ),
         Claim::Unsure { cause, bound } => tell_unsure(alloc, b, *cause, bound),
     }
 }
@@ -173,17 +193,18 @@ fn tell_claim(alloc: Global, b: &mut TreeBuilder, claim: &Claim) -> Result<(), M
 fn tell_optimization(
     alloc: Global,
     b: &mut TreeBuilder,
+    names: &NameLists,
     claim: &Option<Claim>,
 ) -> Result<(), Memory>
     requires { b.old.attributes ≡ [] }
-    ensures { OnOk result (Told b.old b.new (nodes_events (writing.optimization claim.now))) }
+    ensures { OnOk result (Told b.old b.new (nodes_events (writing.optimization names.now claim.now))) }
 {
     let Some(claim) = claim else {
         return Ok(());
     };
     open(b, b"optimization")?;
     open(b, b"solution")?;
-    tell_claim(alloc, b, claim)?;
+    tell_claim(alloc, b, names, claim)?;
     close(b, b"solution")?;
     close(b, b"optimization")
 }
@@ -226,18 +247,32 @@ fn tell_job(b: &mut TreeBuilder, status: JobStatus) -> Result<(), Memory>
     close(b, b"job")
 }
 
-/// Tells a whole report.
-fn tell_report(alloc: Global, b: &mut TreeBuilder, report: &Report) -> Result<(), Memory>
+/// Tells a whole report with these names.
+fn tell_report(
+    alloc: Global,
+    b: &mut TreeBuilder,
+    names: &NameLists,
+    report: &Report,
+) -> Result<(), Memory>
     requires { b.old.attributes ≡ [] }
-    ensures { OnOk result (Told b.old b.new (whole_element (writing.report_element report.now))) }
+    ensures { OnOk result (Told b.old b.new (whole_element (writing.named_element names.now report.now))) }
 {
     open_with(b, b"osrl", b"xmlns", b"os.optimizationservices.org")?;
     open(b, b"general")?;
     tell_general(b, report)?;
     close(b, b"general")?;
     tell_job(b, report.status)?;
-    tell_optimization(alloc, b, &report.claim)?;
+    tell_optimization(alloc, b, names, &report.claim)?;
     close(b, b"osrl")
+}
+
+/// The text of a report with these names, however long it is.
+fn write_named(alloc: Global, names: &NameLists, report: &Report) -> Result<Text, Memory>
+    ensures { IfOk result (λ text. text ≡ writing.named_text names.now report.now) }
+{
+    let mut b = TreeBuilder::new(alloc);
+    tell_report(alloc, &mut b, names, report)?;
+    told_text(alloc, b)
 }
 
 /// The text of a report: its document with the namespace of the result language, the general status, the job's text and
@@ -246,7 +281,18 @@ fn tell_report(alloc: Global, b: &mut TreeBuilder, report: &Report) -> Result<()
 pub fn encode(alloc: Global, report: &Report) -> Result<Text, Memory>
     ensures { IfOk result (λ text. text ≡ writing.report_text report.now) }
 {
-    let mut b = TreeBuilder::new(alloc);
-    tell_report(alloc, &mut b, report)?;
-    told_text(alloc, b)
+    write_named(alloc, &NameLists::none(alloc), report)
+}
+
+/// The text of a report, as [`encode`] writes it, with these names: the value of a variable has its name, and the dual value
+/// of a row has the row's, as an attribute `name` behind `idx`. Where that would be longer than a document may be, the text is
+/// that without names.
+pub fn encode_named(alloc: Global, names: &NameLists, report: &Report) -> Result<Text, Memory>
+    ensures { IfOk result (λ text. text ≡ writing.told_text names.now report.now) }
+{
+    let text = write_named(alloc, names, report)?;
+    if text.len() as u64 <= MOST_BYTES {
+        return Ok(text);
+    }
+    encode(alloc, report)
 }

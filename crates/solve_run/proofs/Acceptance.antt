@@ -147,14 +147,14 @@ module _ (names : (bytes : List ℕ) (o : Options) → IsOptionsText bytes o →
       subst (λ (s : Report). IsReportText (report_text s) s) (sym g.is)
       (comes_back (claim_report g.job g.claim) (record { short = g.good.short; job = g.bare; message = tt; claim = g.back }))
 
-  good_accepted : (osil : List ℕ) (r : Report) (c : Claim) (k : Kind) → r.claim ≡ Some c → kind c ≡ Some k → IsGoodReport osil r → IsAcceptedText osil (report_text r) k
-  good_accepted osil r c k stands says g =
+  good_accepted : (osil : List ℕ) (r : Report) (text : List ℕ) (c : Claim) (k : Kind) → IsReportText text r → r.claim ≡ Some c → kind c ≡ Some k → IsGoodReport osil r → IsAcceptedText osil text k
+  good_accepted osil r text c k said stands says g =
       let same = same_claim r g.job g.claim c g.is stands in
       record {
         parts = g.parts;
         report = r;
         instance_text = g.instance_text;
-        report_text = good_read osil r g;
+        report_text = said;
         accepts = record {
           claim = c;
           stands = stands;
@@ -204,5 +204,9 @@ module _ (names : (bytes : List ℕ) (o : Options) → IsOptionsText bytes o →
           unsure_read a.job causes.Memory r named.0 named.1 tt (a.is ∙ ap (claim_report a.job) unsure)
       by (inr best) = good_read osil r (best_good osil osol a.job a.claim r a.whose best a.is)
 
+  -- from each text that is read as it
+  pub text_accepted : (osil osol : List ℕ) (asked : Bool) (r : Report) (text : List ℕ) (c : Claim) (k : Kind) → AnswersJob osil osol asked r → IsReportText text r → r.claim ≡ Some c → kind c ≡ Some k → IsAcceptedText osil text k
+  text_accepted osil osol asked r text c k a said stands says = good_accepted osil r text c k said stands says (answer_good osil osol asked r c k a stands says)
+
   pub answer_accepted : (osil osol : List ℕ) (asked : Bool) (r : Report) (c : Claim) (k : Kind) → AnswersJob osil osol asked r → r.claim ≡ Some c → kind c ≡ Some k → IsAcceptedText osil (report_text r) k
-  answer_accepted osil osol asked r c k a stands says = good_accepted osil r c k stands says (answer_good osil osol asked r c k a stands says)
+  answer_accepted osil osol asked r c k a stands says = text_accepted osil osol asked r (report_text r) c k a (answer_read osil osol asked r a) stands says

@@ -6,6 +6,7 @@ use Rattle.certificate.specs.declared.causes.Cause.{Cause}
 use Rattle.certificate.specs.declared.causes.Cause.TheVariants as causes
 use Rattle.certificate.specs.declared.claims.Claim.{Claim}
 use Rattle.certificate.specs.declared.claims.Claim.TheVariants.{Optimal, Infeasible, Unbounded, BestSoFar, Unsure}
+use Rattle.osrl_writing.specs.declared.told_names.NameLists.{NameLists}
 use Rattle.osrl_grammar.specs.Back.{CauseComesBack, ClaimComesBack}
 use Rattle.solve_run.specs.declared.document.Document.{Document}
 use Rattle.certificate.specs.GivenUp.{given_up}
@@ -30,13 +31,13 @@ fitted_back job c told (inl (short, same)) h = subst (λ (d : Claim). ClaimComes
 fitted_back job c told (inr (long, same)) h = subst (λ (d : Claim). ClaimComesBack (Some d)) (sym same) (given_back c causes.Length tt h)
 
 -- a claim that is shown, of few rounds, checked and fitted is told
-pub told : (p : Parts) (job : Option (List ℕ)) (turns : ℕ) (found : Claim) (width : Option ℕ) (doc : Document)
+pub told : (p : Parts) (ns : NameLists) (job : Option (List ℕ)) (turns : ℕ) (found : Claim) (width : Option ℕ) (doc : Document)
     → IsValid p → IsShownClaim p found → HasFewRounds found → HasCauses found → turns < 2 ^ 64 → IfSome width (λ n. n < 2 ^ 32)
-    → IsJudged p found width → IsFittedDocument job (checked found turns width) doc → IsClaimTold p job turns found doc
-told p job turns found width doc valid shown fewer causes few node judged (inl (c, fitted, is)) = inl (record {
+    → IsJudged p found width → IsFittedDocument ns job (checked found turns width) doc → IsClaimTold p ns job turns found doc
+told p ns job turns found width doc valid shown fewer causes few node judged (inl (c, fitted, is)) = inl (record {
   told = c;
   closed = record { width = width; judged = judged; fitted = fitted };
   numbers = fitted_back job (checked found turns width) c fitted (checked_back found turns width few node (shown_back p found valid shown fewer causes));
   is = is;
 })
-told p job turns found width doc valid shown fewer causes few node judged (inr memory) = inr memory
+told p ns job turns found width doc valid shown fewer causes few node judged (inr memory) = inr memory

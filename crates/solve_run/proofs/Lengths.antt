@@ -19,6 +19,7 @@ use Rattle.certificate.specs.declared.claims.Claim.TheVariants.{BestSoFar, Unsur
 use Rattle.osrl_writing.specs.Cuts.{cut_size, without_zeros, decimals, has_sign, cut_text}
 use Rattle.osrl_grammar.specs.Items.{step_text}
 use Rattle.osrl_writing.specs.Writing.{variable_values, goal_values, cause_text, item_nodes, fraction_texts, report_element, report_text, claim_nodes}
+use Rattle.osrl_writing.specs.Labels.{no_names}
 use Rattle.document_tags.specs.Texts.{document_limit}
 use Rattle.solve_run.specs.Closings.{claim_report, error_report, IsShort}
 
@@ -107,7 +108,7 @@ cause_size causes.Memory = omega arith
 
 -- ---- parts of a document
 
-values_size : (j : ℕ) (xs : List Frac) → nodes_size (variable_values j xs) ≤ 1200 * length xs
+values_size : (j : ℕ) (xs : List Frac) → nodes_size (variable_values [] j xs) ≤ 1200 * length xs
 values_size j [] = omega arith
 values_size j (x ∷ xs) =
     let rest = values_size (j + 1) xs in
@@ -135,26 +136,26 @@ items_size (x ∷ xs) =
 
 module _ (job : Option (List ℕ)) (short : IsShortName job) where
   -- the document is its claim's nodes and little more
-  around : (c : Claim) → nodes_size (report_element (claim_report job c)).children ≤ 3000 + nodes_size (claim_nodes c)
+  around : (c : Claim) → nodes_size (report_element (claim_report job c)).children ≤ 3000 + nodes_size (claim_nodes no_names c)
   around c = by job short
     where
-      by : (j : Option (List ℕ)) → IsShortName j → nodes_size (report_element (claim_report j c)).children ≤ 3000 + nodes_size (claim_nodes c)
+      by : (j : Option (List ℕ)) → IsShortName j → nodes_size (report_element (claim_report j c)).children ≤ 3000 + nodes_size (claim_nodes no_names c)
       by None s = omega arith
       by (Some name) s = let text = text_size name in omega (arith, text, s)
 
-  whole_size : (c : Claim) → nodes_size (claim_nodes c) ≤ 4000000 → IsShort job c
+  whole_size : (c : Claim) → nodes_size (claim_nodes no_names c) ≤ 4000000 → IsShort job c
   whole_size c few =
       let all = written_short (report_element (claim_report job c)) in
       let most = around c in
       omega (arith, all, most, few)
 
-  unsure_size : (c : Cause) → nodes_size (claim_nodes (Unsure c None)) ≤ 4000000
+  unsure_size : (c : Cause) → nodes_size (claim_nodes no_names (Unsure c None)) ≤ 4000000
   unsure_size c =
       let text = text_size (cause_text c) in
       let cause = cause_size c in
       omega (arith, text, cause)
 
-  best_size : (x vs : List Frac) (c : Cause) → length x ≤ 1000 → length vs ≤ 8 → nodes_size (claim_nodes (BestSoFar x vs c None)) ≤ 4000000
+  best_size : (x vs : List Frac) (c : Cause) → length x ≤ 1000 → length vs ≤ 8 → nodes_size (claim_nodes no_names (BestSoFar x vs c None)) ≤ 4000000
   best_size x vs c few asked =
       let text = text_size (cause_text c) in
       let cause = cause_size c in

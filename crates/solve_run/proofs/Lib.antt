@@ -18,3 +18,4 @@ pub mod OneClaim
 pub mod OneAnswer
 pub mod Acceptance
 pub mod Texts
+pub mod ToldNames

@@ -30,15 +30,17 @@ use Rattle.osol_grammar.specs.Texts as options_texts
 use Rattle.osil_grammar.specs.declared.fault.OsilFault.{OsilFault}
 use Rattle.osil_grammar.specs.Reading.{IsInstanceText}
 use Rattle.osil_grammar.specs.Reading as instances
+use Rattle.osrl_writing.specs.declared.told_names.NameLists.{NameLists}
 use Rattle.osrl_writing.specs.declared.report.Report.{Report}
 use Rattle.solve_run.specs.declared.document.Document.{Document}
 use Rattle.solve_run.specs.Judging.{IsShownClaim, AreFewRounds, HasFewRounds, IsFinal, IsJudged, checked}
 use Rattle.solve_run.specs.Closings.{claim_report, error_report, IsShort, IsFitted, IsToldOf}
 use Rattle.solve_run.specs.JobAnswers.{job_terms, AreJobTexts, IsJobOf, MayStop, AnswersJob, Right}
 use Rattle.solve_run.specs.JobAnswers as right
-use Rattle.solve_run.specs.Runs.{Reports, no_options, no_instance, solved, gave_up, TellsOutcome, TellsText, TellsDocument, IsRight, Ran, ClosesClaim, IsClaimTold, IsMemoryDocument, IsErrorDocument}
+use Rattle.solve_run.specs.Runs.{Reports, no_options, no_instance, solved, gave_up, TellsOutcome, TellsText, TellsDocument, IsRight, Ran, ClosesClaim, IsClaimTold, IsMemoryDocument, IsErrorDocument, AreDueNames}
 use Rattle.solve_run.proofs.Lengths.{IsShortName, best_short, unsure_short}
 use Rattle.solve_run.proofs.Names.{short_name}
+use Rattle.solve_run.proofs.ToldNames.{nameless, named_answer}
 use Rattle.solve_run.proofs.WidthRefusals.{decided, few_values}
 use Rattle.solve_run.proofs.ClaimNodes.{carried, none_bounded}
 use Rattle.solve_run.proofs.FewRounds.{answer_few}
@@ -79,13 +81,13 @@ memory_killed (Some f) = refl
 abbrev clock_after : (turns n : ℕ) (killed : Bool) → Clock
 clock_after turns n killed = record { turns = turns; looks = looks_after 0 n killed }
 
-module _ (osil osol : List ℕ) (o : Options) (p : Parts) (valid : IsValid p) (options_text : IsOptionsText osol o) (name : IsNameOrNone o.job) (instance_text : IsInstanceText osil p) where
+module _ (osil osol : List ℕ) (o : Options) (p : Parts) (valid : IsValid p) (options_text : IsOptionsText osol o) (name : IsNameOrNone o.job) (instance_text : IsInstanceText osil p) (ns : NameLists) (due : AreDueNames osil o ns) where
   abbrev given : AreJobTexts osil osol
   given = record { options = o; options_text = options_text; parts = p; valid = valid; instance_text = instance_text }
 
   module _ (found : Claim) (turns n : ℕ) (doc : Document) where
     -- memory was wanting in the search: the claim of its moment is told
-    wanted : (oc : Outcome) (m : SearchMoment) → ClaimTells found oc → IsShown (problem p) oc → ComesInSearch (problem p) (job_terms o (stop_after n (is_killed oc))) m → early m.best Memory ≡ oc → ClosesClaim p o.job turns found doc → TellsOutcome osil osol n (is_killed oc) doc
+    wanted : (oc : Outcome) (m : SearchMoment) → ClaimTells found oc → IsShown (problem p) oc → ComesInSearch (problem p) (job_terms o (stop_after n (is_killed oc))) m → early m.best Memory ≡ oc → ClosesClaim p ns o.job turns found doc → TellsOutcome osil osol n (is_killed oc) doc
     wanted oc m tells shown comes is closes =
         let early_told : ClaimTells found (early m.best Memory) = subst (ClaimTells found) (sym is) tells in
         let other = wanting found m.best early_told in
@@ -105,10 +107,10 @@ module _ (osil osol : List ℕ) (o : Options) (p : Parts) (valid : IsValid p) (o
             });
             is = refl;
           });
-          is = closes.is;
+          is = named_answer osil osol o options_text p instance_text ns due (claim_report o.job closes.told) doc closes.is;
         }
 
-    ended : (oc : Outcome) → ClaimTells found oc → Search (problem p) (job_terms o (stop_after n (is_killed oc))) oc (clock_after turns n (is_killed oc)) → ClosesClaim p o.job turns found doc → TellsOutcome osil osol n (is_killed oc) doc
+    ended : (oc : Outcome) → ClaimTells found oc → Search (problem p) (job_terms o (stop_after n (is_killed oc))) oc (clock_after turns n (is_killed oc)) → ClosesClaim p ns o.job turns found doc → TellsOutcome osil osol n (is_killed oc) doc
     ended oc tells ends closes = record {
       report = claim_report o.job closes.told;
       reports = solved (record {
@@ -123,10 +125,10 @@ module _ (osil osol : List ℕ) (o : Options) (p : Parts) (valid : IsValid p) (o
         numbers = closes.numbers;
         is = refl;
       });
-      is = closes.is;
+      is = named_answer osil osol o options_text p instance_text ns due (claim_report o.job closes.told) doc closes.is;
     }
 
-    answered : (oc of : Outcome) (d : Clock) → of ≡ oc → d ≡ clock_after turns n (is_killed oc) → ClaimTells found oc → IsShown (problem p) oc → IsSearchAnswer (problem p) (job_terms o (stop_after n (is_killed oc))) of d → ClosesClaim p o.job turns found doc → TellsOutcome osil osol n (is_killed oc) doc
+    answered : (oc of : Outcome) (d : Clock) → of ≡ oc → d ≡ clock_after turns n (is_killed oc) → ClaimTells found oc → IsShown (problem p) oc → IsSearchAnswer (problem p) (job_terms o (stop_after n (is_killed oc))) of d → ClosesClaim p ns o.job turns found doc → TellsOutcome osil osol n (is_killed oc) doc
     answered oc of d e f tells shown (searched s) closes =
         ended oc tells (subst (λ (x : Outcome). Search (problem p) (job_terms o (stop_after n (is_killed oc))) x (clock_after turns n (is_killed oc))) e
         (subst (λ (x : Clock). Search (problem p) (job_terms o (stop_after n (is_killed oc))) of x) f s)) closes
@@ -138,27 +140,27 @@ untold : (osil osol : List ℕ) (n : ℕ) (killed : Bool) (job : Option (List �
 untold osil osol n killed job doc whose is = record {
   report = claim_report job (Has.Unsure Memory None);
   reports = gave_up (record { job = job; whose = whose; claim = Has.Unsure Memory None; claims = inl refl; is = refl });
-  is = is;
+  is = nameless osil osol (claim_report job (Has.Unsure Memory None)) doc (λ ns. refl) is;
 }
 
 -- the run of an instance
-pub ran : {E : Type 0} (Came : List Bool → Type 0) (osil osol : List ℕ) (o : Options) (p : Parts) (found : Claim) (turns n : ℕ) (oc : Outcome) (result : Result Document E)
-    → IsValid p → IsNameOrNone o.job → IsOptionsText osol o → IsInstanceText osil p → ClaimTells found oc → IsShown (problem p) oc
+pub ran : {E : Type 0} (Came : List Bool → Type 0) (osil osol : List ℕ) (o : Options) (p : Parts) (ns : NameLists) (found : Claim) (turns n : ℕ) (oc : Outcome) (result : Result Document E)
+    → IsValid p → IsNameOrNone o.job → IsOptionsText osol o → IsInstanceText osil p → AreDueNames osil o ns → ClaimTells found oc → IsShown (problem p) oc
     → Came (answers n (is_killed oc))
     → ((stop : Option ℕ) → Agrees stop 0 n (is_killed oc) → IsSearchAnswer (problem p) (job_terms o stop) oc (clock_after turns n (is_killed oc)))
-    → IfOk result (IsClaimTold p o.job turns found) → Ran Came osil osol (TellsDocument osil osol result)
-ran {E} Came osil osol o p found turns n oc result valid name options_text instance_text tells shown came answer told =
+    → IfOk result (IsClaimTold p ns o.job turns found) → Ran Came osil osol (TellsDocument osil osol result)
+ran {E} Came osil osol o p ns found turns n oc result valid name options_text instance_text due tells shown came answer told =
     let is = answer (stop_after n (is_killed oc)) (agrees n (is_killed oc)) in
     record {
       went_on = n;
       killed = is_killed oc;
       came = came;
-      looks = inr (record { given = given osil osol o p valid options_text name instance_text; turns = turns; outcome = oc; answers = is });
-      tells = IfOk-weaker result (IsClaimTold p o.job turns found) (TellsOutcome osil osol n (is_killed oc)) (by is) told;
+      looks = inr (record { given = given osil osol o p valid options_text name instance_text ns due; turns = turns; outcome = oc; answers = is });
+      tells = IfOk-weaker result (IsClaimTold p ns o.job turns found) (TellsOutcome osil osol n (is_killed oc)) (by is) told;
     }
   where
-    by : IsSearchAnswer (problem p) (job_terms o (stop_after n (is_killed oc))) oc (clock_after turns n (is_killed oc)) → (doc : Document) → IsClaimTold p o.job turns found doc → TellsOutcome osil osol n (is_killed oc) doc
-    by is doc (inl closes) = answered osil osol o p valid options_text name instance_text found turns n doc oc oc (clock_after turns n (is_killed oc)) refl refl tells shown is closes
+    by : IsSearchAnswer (problem p) (job_terms o (stop_after n (is_killed oc))) oc (clock_after turns n (is_killed oc)) → (doc : Document) → IsClaimTold p ns o.job turns found doc → TellsOutcome osil osol n (is_killed oc) doc
+    by is doc (inl closes) = answered osil osol o p valid options_text name instance_text ns due found turns n doc oc oc (clock_after turns n (is_killed oc)) refl refl tells shown is closes
     by is doc (inr memory) = untold osil osol n (is_killed oc) o.job doc (inr (o, options_text, refl)) memory
 
 -- what was found is shown
@@ -197,7 +199,7 @@ quiet_options {E} Came osil osol fault message result came fails says is =
     by doc (inl (m, same, written)) = record {
       report = error_report None m;
       reports = no_options (record { fault = fault; fails = fails; message = m; says = message_of message (options_texts.IsFaultText fault) m same says; is = refl });
-      is = written;
+      is = nameless osil osol (error_report None m) doc (λ ns. refl) written;
     }
     by doc (inr memory) = untold osil osol 0 false None doc (inl refl) memory
 
@@ -209,7 +211,7 @@ quiet_instance {E} Came osil osol o fault message result came options_text fails
     by doc (inl (m, same, written)) = record {
       report = error_report o.job m;
       reports = no_instance (record { options = o; options_text = options_text; fault = fault; fails = fails; message = m; says = message_of message (instances.IsFaultText fault) m same says; is = refl });
-      is = written;
+      is = nameless osil osol (error_report o.job m) doc (λ ns. refl) written;
     }
     by doc (inr memory) = untold osil osol 0 false o.job doc (inr (o, options_text, refl)) memory
 

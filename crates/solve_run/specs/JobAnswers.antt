@@ -16,8 +16,11 @@ use Rattle.osol_grammar.specs.Texts as options_texts
 use Rattle.osil_grammar.specs.declared.fault.OsilFault.{OsilFault}
 use Rattle.osil_grammar.specs.Reading.{IsInstanceText}
 use Rattle.osil_grammar.specs.Reading as instances
+use Rattle.osrl_writing.specs.declared.told_names.NameLists.{NameLists}
 use Rattle.osrl_writing.specs.declared.report.Report.{Report}
-use Rattle.osrl_writing.specs.Writing.{report_text}
+use Rattle.osrl_writing.specs.Labels.{no_names}
+use Rattle.osrl_writing.specs.Writing.{told_text}
+use Rattle.instance_names.specs.Reading.{GivesNames}
 use Rattle.osrl_grammar.specs.Back.{ClaimComesBack}
 use Rattle.solve_run.specs.Closings.{error_report, claim_report, IsToldOf}
 
@@ -94,7 +97,18 @@ pub data AnswersJob (osil osol : List ℕ) (asked : Bool) (r : Report) : Type 0 
   solved : (stop : Option ℕ) (looks : ℕ) → MayStop asked stop looks → Solved osil osol stop looks r → AnswersJob osil osol asked r
   gave_up : GaveUp osil osol r → AnswersJob osil osol asked r
 
+-- the options ask for names
+abbrev pub AskForNames : List ℕ → Type 0
+AskForNames osol = (o : Options) × IsOptionsText osol o × (o.names ≡ 1)
+
+-- the text tells the report of a job with these texts. Where its options ask for names, it has those that the instance's document gives, and no others; where they don't, it has none. In each case it has none where its text with them would be too long
+pub record TellsReport (osil osol : List ℕ) (r : Report) (text : List ℕ) : Type 0 where
+  pub names : NameLists
+  pub is : text ≡ told_text names r
+  pub own : (names ≡ no_names) ⊎ (AskForNames osol × GivesNames osil names)
+  pub asked : AskForNames osol → (ns : NameLists) → GivesNames osil ns → text ≡ told_text ns r
+
 -- the document answers a job with these texts, which was asked to stop or wasn't; for want of memory there may be none
 abbrev pub Right : (osil osol : List ℕ) → (asked : Bool) → (doc : Option (List ℕ)) → Type 0
 Right osil osol asked None = Unit {0}
-Right osil osol asked (Some doc) = (r : Report) × AnswersJob osil osol asked r × (doc ≡ report_text r)
+Right osil osol asked (Some doc) = (r : Report) × AnswersJob osil osol asked r × TellsReport osil osol r doc

@@ -8,11 +8,15 @@ use Rattle.certificate.specs.declared.claims.Claim.TheVariants.{Optimal, Infeasi
 use Rattle.simplex_rules.specs.Looks.{answers, looks_after, stop_after}
 use Rattle.search_rules.specs.Search.{Outcome, IsSearchAnswer}
 use Rattle.osrl_writing.specs.declared.report.Report.{Report}
-use Rattle.osrl_writing.specs.Writing.{report_text}
+use Rattle.osrl_writing.specs.declared.told_names.NameLists.{NameLists}
+use Rattle.osrl_writing.specs.Labels.{no_names}
+use Rattle.osrl_writing.specs.Writing.{report_text, told_text}
+use Rattle.instance_names.specs.Reading.{MayGiveNames}
+use Rattle.osol_grammar.specs.declared.options.Options.{Options}
 use Rattle.osrl_grammar.specs.Back.{CauseComesBack, ClaimComesBack}
 use Rattle.solve_run.specs.Closings.{claim_report, error_report, IsFitted, IsToldOf}
 use Rattle.solve_run.specs.declared.document.Document.{Document}
-use Rattle.solve_run.specs.JobAnswers.{job_terms, RefusesOptions, RefusesInstance, AreJobTexts, Solved, GaveUp, AnswersJob}
+use Rattle.solve_run.specs.JobAnswers.{job_terms, RefusesOptions, RefusesInstance, AreJobTexts, Solved, GaveUp, AnswersJob, TellsReport}
 
 -- the looks are those of the search of the instance, up to its end or to where memory was wanting
 pub record AreSearched (osil osol : List ℕ) (n : ℕ) (killed : Bool) : Type 0 where
@@ -37,15 +41,30 @@ pub record IsDocumentOf (r : Report) (doc : Document) : Type 0 where
   pub text : doc.text ≡ report_text r
   pub error : doc.is_error ≡ r.error
 
+-- the same with these names
+pub record IsNamedDocument (ns : NameLists) (r : Report) (doc : Document) : Type 0 where
+  pub text : doc.text ≡ told_text ns r
+  pub error : doc.is_error ≡ r.error
+
+-- the document tells this report of a job with these texts, and says whether it reports an error
+pub record IsAnswer (osil osol : List ℕ) (r : Report) (doc : Document) : Type 0 where
+  pub text : TellsReport osil osol r doc.text
+  pub error : doc.is_error ≡ r.error
+
+-- the names that the result of a job with these options is told with: those that the instance's document gives where they are asked for, and else none
+pub record AreDueNames (osil : List ℕ) (o : Options) (ns : NameLists) : Type 0 where
+  pub asked : o.names ≡ 1 → MayGiveNames osil ns
+  pub unasked : (o.names ≡ 1 → ⊥) → ns ≡ no_names
+
 -- the document that is answered then
 pub record TellsOutcome (osil osol : List ℕ) (n : ℕ) (killed : Bool) (doc : Document) : Type 0 where
   pub report : Report
   pub reports : Reports osil osol n killed report
-  pub is : IsDocumentOf report doc
+  pub is : IsAnswer osil osol report doc
 
 -- the document answers a job with these texts, which was asked to stop or wasn't
 abbrev pub IsRight : (osil osol : List ℕ) → (asked : Bool) → Document → Type 0
-IsRight osil osol asked doc = (r : Report) × AnswersJob osil osol asked r × IsDocumentOf r doc
+IsRight osil osol asked doc = (r : Report) × AnswersJob osil osol asked r × IsAnswer osil osol r doc
 
 -- and its text
 abbrev pub TellsText : (osil osol : List ℕ) → ℕ → Bool → (text : List ℕ) → Type 0
@@ -75,9 +94,13 @@ IsTextOf r doc = IsDocumentOf r doc ⊎ IsMemoryDocument r.job doc
 abbrev pub IsErrorDocument : {E : Type 0} → (job : Option (List ℕ)) → (message : Result (List ℕ) E) → Document → Type 0
 IsErrorDocument {E} job message doc = ((m : List ℕ) × (message ≡ Ok m) × IsDocumentOf (error_report job m) doc) ⊎ IsMemoryDocument job doc
 
--- the document of a report with this claim, or with what is told of it where that is too long, or memory was wanting
-abbrev pub IsFittedDocument : (job : Option (List ℕ)) → Claim → Document → Type 0
-IsFittedDocument job c doc = ((told : Claim) × IsFitted job c told × IsDocumentOf (claim_report job told) doc) ⊎ IsMemoryDocument job doc
+-- the same with these names
+abbrev pub IsNamedTextOf : NameLists → Report → Document → Type 0
+IsNamedTextOf ns r doc = IsNamedDocument ns r doc ⊎ IsMemoryDocument r.job doc
+
+-- the document of a report with this claim, or with what is told of it where that is too long, with these names, or memory was wanting
+abbrev pub IsFittedDocument : NameLists → (job : Option (List ℕ)) → Claim → Document → Type 0
+IsFittedDocument ns job c doc = ((told : Claim) × IsFitted job c told × IsNamedDocument ns (claim_report job told) doc) ⊎ IsMemoryDocument job doc
 
 -- the numbers of a claim's cause are those of their types
 abbrev pub HasCauses : Claim → Type 0
@@ -87,13 +110,13 @@ HasCauses (Unbounded x vs cs r) = Unit {0}
 HasCauses (BestSoFar x vs c b) = CauseComesBack c
 HasCauses (Unsure c b) = CauseComesBack c
 
--- what is told of a claim that was found, closed
-pub record ClosesClaim (p : Parts) (job : Option (List ℕ)) (turns : ℕ) (found : Claim) (doc : Document) : Type 0 where
+-- what is told of a claim that was found, closed, with these names
+pub record ClosesClaim (p : Parts) (ns : NameLists) (job : Option (List ℕ)) (turns : ℕ) (found : Claim) (doc : Document) : Type 0 where
   pub told : Claim
   pub closed : IsToldOf p job turns found told
   pub numbers : ClaimComesBack (Some told)
-  pub is : IsDocumentOf (claim_report job told) doc
+  pub is : IsNamedDocument ns (claim_report job told) doc
 
 -- the document tells what was found, or memory was wanting
-abbrev pub IsClaimTold : (p : Parts) (job : Option (List ℕ)) (turns : ℕ) (found : Claim) → Document → Type 0
-IsClaimTold p job turns found doc = ClosesClaim p job turns found doc ⊎ IsMemoryDocument job doc
+abbrev pub IsClaimTold : (p : Parts) (ns : NameLists) (job : Option (List ℕ)) (turns : ℕ) (found : Claim) → Document → Type 0
+IsClaimTold p ns job turns found doc = ClosesClaim p ns job turns found doc ⊎ IsMemoryDocument job doc

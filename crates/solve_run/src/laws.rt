@@ -21,7 +21,7 @@ ghost use Rattle.cert_checker.specs.Refusals.{IsRefusedFor};
 ghost use Rattle.document_checker.specs.Documents.{kind, IsAcceptedText};
 ghost use Rattle.solve_run.specs.Judging.{IsFinal, IsWideAt};
 ghost use Rattle.solve_run.specs.Closings.{IsShort, claim_report};
-ghost use Rattle.solve_run.specs.JobAnswers.{job_terms, RefusesOptions, RefusesInstance, Solved, GaveUp, AnswersJob, Right};
+ghost use Rattle.solve_run.specs.JobAnswers.{job_terms, RefusesOptions, RefusesInstance, Solved, GaveUp, AnswersJob, TellsReport, Right};
 ghost use Rattle.solve_run.specs.Grounds.{OptionsAreOne, SearchesAreOne};
 
 use cert_checker::{
@@ -31,10 +31,11 @@ use document_checker::{accepted_documents_are_true, instances_are_one};
 use document_tags::tree_faults_have_one_text;
 use fraction::equal_fractions;
 use instance::problems_have_numbers;
+use instance_names::names_are_of_characters;
 use osol_grammar::{
     document_has_one_refusal, document_says_one, options_are_not_refused, options_have_names,
 };
-use osrl_grammar::written_texts_are_reports;
+use osrl_grammar::{named_texts_are_reports, written_texts_are_reports};
 use search_rules::{answers_are_shown, outcomes_are_shown, searches_have_one_outcome};
 
 /// The laws of options' texts.
@@ -102,11 +103,14 @@ pub fn ended_searches_are_told()
 }
 
 /// Law: whatever an answer says, be it a claim, that nothing is known, or why the options or the instance were refused, its document
-/// is read as that answer, and isn't longer than a document may be.
+/// is read as that answer, and isn't longer than a document may be, with names too where they are asked for.
 pub fn result_documents_are_read_back()
     ensures read { (osil osol : List ℕ) (asked : Bool) (r : Report) → AnswersJob osil osol asked r → IsReportText (report_text r) r }
     ensures short { (osil osol : List ℕ) (asked : Bool) (r : Report) → AnswersJob osil osol asked r → length (report_text r) ≤ document_limit }
+    ensures told { (osil osol : List ℕ) (asked : Bool) (r : Report) (text : List ℕ) → AnswersJob osil osol asked r → TellsReport osil osol r text → IsReportText text r }
 {
+    names_are_of_characters();
+    named_texts_are_reports();
     options_have_names();
     problems_have_numbers();
     answers_are_shown();
@@ -114,9 +118,10 @@ pub fn result_documents_are_read_back()
 }
 
 /// Law: what an answer claims, be it that a point is optimal, that none is feasible, that points have no best value, or a
-/// point, is accepted by the checker of documents from the bytes of the answer's document, and is true.
+/// point, is accepted by the checker of documents from the bytes of the answer's document, with names or without, and is true.
 pub fn claims_are_accepted()
     ensures accepted { (osil osol : List ℕ) (asked : Bool) (r : Report) (c : Claim) (k : Kind) → AnswersJob osil osol asked r → r.claim ≡ Some c → kind c ≡ Some k → IsAcceptedText osil (report_text r) k }
+    ensures told { (osil osol : List ℕ) (asked : Bool) (r : Report) (text : List ℕ) (c : Claim) (k : Kind) → AnswersJob osil osol asked r → TellsReport osil osol r text → r.claim ≡ Some c → kind c ≡ Some k → IsAcceptedText osil text k }
     ensures is_true { (osil osol : List ℕ) (asked : Bool) (p : Parts) (r : Report) (c : Claim) (k : Kind) → IsInstanceText osil p → AnswersJob osil osol asked r → r.claim ≡ Some c → kind c ≡ Some k → IsTrueOf (problem p) (Means.claim c) }
 {
     result_documents_are_read_back();

@@ -5,22 +5,55 @@ ghost use Rattle.osol_grammar.specs.Meaning.{IsOptionsText};
 ghost use Rattle.osil_grammar.specs.Reading.{IsInstanceText};
 ghost use Rattle.solve_run.specs.Judging.{AreFewRounds};
 ghost use Rattle.solve_run.specs.JobAnswers.{Right};
-ghost use Rattle.solve_run.specs.Runs.{Ran, IsRight, TellsDocument, TellsText};
+ghost use Rattle.solve_run.specs.Runs.{Ran, IsRight, AreDueNames, TellsDocument, TellsText};
 
 use crate::document::Document;
 use crate::finding::find;
 use crate::telling::{found_document, memory_document, refusal};
 use branch_bound::Searched;
 use instance::{Instance, problems_have_numbers};
+use instance_names::read_names;
 use os_io::{Memory, Text, Watch};
 use osil_grammar::OsilFault;
 use osol_grammar::{Options, OsolFault, options_have_names, read_options_come_back};
+use osrl_writing::NameLists;
 use search_rules::answers_are_shown;
 use std::alloc::Global;
 
-/// Runs a job whose options and instance are read.
+/// The names that a job's result is told with: those of its instance's document, where its options ask for them.
+fn due_names(alloc: Global, osil: &[u8], options: &Options) -> Result<NameLists, Memory>
+    ensures { IfOk result (AreDueNames osil.now options.now) }
+{
+    if options.names != 1 {
+        return Ok(NameLists::none(alloc));
+    }
+    read_names(alloc, osil)
+}
+
+/// Runs a job whose options, instance and names are read.
 fn run_instance<W: Watch>(
     alloc: Global,
+    instance: &Instance,
+    names: &NameLists,
+    options: Options,
+    watch: &mut W,
+) -> Result<Document, Memory>
+    requires valid { IsValid instance.now }
+    requires rounds { AreFewRounds options.rounds }
+    requires stops { W.stops watch.old < 2 ^ 64 - 1 }
+    ensures { (osil osol : List ℕ) → IsOptionsText osol options → IsInstanceText osil instance.now → AreDueNames osil options names.now → Ran (W.came watch.old watch.new) osil osol (TellsDocument osil osol result) }
+{
+    let Searched { claim, turns } = find(alloc, instance, &options, watch);
+    options_have_names();
+    problems_have_numbers();
+    answers_are_shown();
+    found_document(alloc, instance, names, options.job, claim, turns)
+}
+
+/// Runs a job whose options and instance are read.
+fn run_read<W: Watch>(
+    alloc: Global,
+    osil: &[u8],
     instance: &Instance,
     options: Options,
     watch: &mut W,
@@ -28,13 +61,12 @@ fn run_instance<W: Watch>(
     requires valid { IsValid instance.now }
     requires rounds { AreFewRounds options.rounds }
     requires stops { W.stops watch.old < 2 ^ 64 - 1 }
-    ensures { (osil osol : List ℕ) → IsOptionsText osol options → IsInstanceText osil instance.now → Ran (W.came watch.old watch.new) osil osol (TellsDocument osil osol result) }
+    ensures { (osol : List ℕ) → IsOptionsText osol options → IsInstanceText osil.now instance.now → Ran (W.came watch.old watch.new) osil.now osol (TellsDocument osil.now osol result) }
 {
-    let Searched { claim, turns } = find(alloc, instance, &options, watch);
-    options_have_names();
-    problems_have_numbers();
-    answers_are_shown();
-    found_document(alloc, instance, options.job, claim, turns)
+    match due_names(alloc, osil, &options) {
+        Ok(names) => run_instance(alloc, instance, &names, options, watch),
+        Err(_) => memory_document(alloc, options.job),
+    }
 }
 
 /// Runs a job whose options are read.
@@ -49,7 +81,7 @@ fn run_options<W: Watch>(
     ensures { (osol : List ℕ) → IsOptionsText osol options → Ran (W.came watch.old watch.new) osil.now osol (TellsDocument osil.now osol result) }
 {
     match osil_grammar::decode(alloc, osil) {
-        Ok(instance) => run_instance(alloc, &instance, options, watch),
+        Ok(instance) => run_read(alloc, osil, &instance, options, watch),
         Err(OsilFault::Memory) => memory_document(alloc, options.job),
         Err(fault) => {
             let message = osil_grammar::refusal_text(alloc, &fault);
@@ -83,7 +115,8 @@ fn run_texts<W: Watch>(
 /// instance; a text of white space alone says none. The watch is asked by the looks of the search alone.
 ///
 /// Where memory is wanting, the document says so, and may have the best point of some moment of the search; where there is
-/// none for such a document either, there is no document.
+/// none for such a document either, there is no document. Where the options ask for names, the instance's document is read
+/// for them before the search.
 pub fn answer_job<W: Watch>(
     alloc: Global,
     osil: &[u8],

@@ -7,14 +7,14 @@ ghost use Rattle.osrl_grammar.specs.Back.{CauseComesBack};
 ghost use Rattle.certificate.specs.GivenUp.{given_up};
 ghost use Rattle.solve_run.specs.Judging.{IsShownClaim, HasFewRounds};
 ghost use Rattle.solve_run.specs.Closings as specs;
-ghost use Rattle.solve_run.specs.Runs.{IsClaimTold, IsTextOf, IsFittedDocument, IsMemoryDocument, IsErrorDocument, HasCauses};
+ghost use Rattle.solve_run.specs.Runs.{IsClaimTold, IsTextOf, IsNamedTextOf, IsFittedDocument, IsMemoryDocument, IsErrorDocument, HasCauses};
 
 use crate::closing::{checked, judge};
 use crate::document::Document;
 use certificate::{Cause, Claim};
 use instance::Instance;
 use os_io::{MOST_BYTES, Memory, Text};
-use osrl_writing::{JobStatus, Report, encode};
+use osrl_writing::{JobStatus, NameLists, Report, encode, encode_named};
 use std::alloc::Global;
 
 /// A finished job's report with a claim.
@@ -68,6 +68,19 @@ fn document_or_memory(alloc: Global, mut report: Report) -> Result<Document, Mem
     }
 }
 
+/// The document of a report with these names, or for want of memory of one that claims nothing of the same job.
+fn named_or_memory(alloc: Global, names: &NameLists, mut report: Report) -> Result<Document, Memory>
+    ensures { IfOk result (IsNamedTextOf names.now report) }
+{
+    match encode_named(alloc, names, &report) {
+        Ok(text) => Ok(Document {
+            text,
+            is_error: report.error,
+        }),
+        Err(_) => memory_document(alloc, report.job.take()),
+    }
+}
+
 /// The document of a report of an error, for whose message there may have been no memory.
 pub fn refusal(
     alloc: Global,
@@ -92,21 +105,30 @@ fn shortened(mut report: Report) -> Report
     report
 }
 
-/// The document of a report with a claim, which is given up where the document would be longer than one may be.
-fn fitted(alloc: Global, job: Option<Text>, claim: Claim) -> Result<Document, Memory>
-    ensures { IfOk result (IsFittedDocument job claim) }
+/// The document of a report with a claim and these names. The claim is given up where its document without names would be
+/// longer than one may be.
+fn fitted(
+    alloc: Global,
+    names: &NameLists,
+    job: Option<Text>,
+    claim: Claim,
+) -> Result<Document, Memory>
+    ensures { IfOk result (IsFittedDocument names.now job claim) }
 {
     let mut report = claim_report(job, claim);
     let Ok(text) = encode(alloc, &report) else {
         return memory_document(alloc, report.job.take());
     };
-    if text.len() as u64 <= MOST_BYTES {
+    if text.len() as u64 > MOST_BYTES {
+        return named_or_memory(alloc, names, shortened(report));
+    }
+    if names.is_none() {
         return Ok(Document {
             text,
             is_error: false,
         });
     }
-    document_or_memory(alloc, shortened(report))
+    named_or_memory(alloc, names, report)
 }
 
 /// Reads the numbers of a cause, each of which is one of its type.
@@ -132,10 +154,11 @@ fn read_causes(claim: &Claim)
     }
 }
 
-/// The document that tells what a search found after so many turns, once it is checked and fitted.
+/// The document that tells what a search found after so many turns, once it is checked and fitted, with these names.
 pub fn found_document(
     alloc: Global,
     instance: &Instance,
+    names: &NameLists,
     job: Option<Text>,
     found: Claim,
     turns: u64,
@@ -143,11 +166,11 @@ pub fn found_document(
     requires valid { IsValid instance.now }
     requires shown { IsShownClaim instance.now found }
     requires few { HasFewRounds found }
-    ensures { IfOk result (IsClaimTold instance.now job turns found) }
+    ensures { IfOk result (IsClaimTold instance.now names.now job turns found) }
 {
     read_causes(&found);
     match judge(alloc, instance, &found) {
-        Ok(width) => fitted(alloc, job, checked(found, turns, width)),
+        Ok(width) => fitted(alloc, names, job, checked(found, turns, width)),
         Err(_) => memory_document(alloc, job),
     }
 }

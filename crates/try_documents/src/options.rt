@@ -36,6 +36,9 @@ impl Documents for Osol {
         if options.rounds > 0 {
             put_amount(&mut text, b" rounds ", options.rounds)?;
         }
+        if options.names > 0 {
+            put_amount(&mut text, b" names ", options.names)?;
+        }
         if let Some(job) = &options.job {
             text.extend(b" job ")?;
             text.extend(job.as_slice())?;

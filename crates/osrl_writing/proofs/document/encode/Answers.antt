@@ -1,11 +1,6 @@
-use Rattle.osrl_writing.proofs.Names.{refl, IfOk-weaker, report_element}
-use Rattle.document_tags.specs.Telling.{whole_element}
-use Rattle.document_tags.proofs.Tellings.{told_element, told_one}
+use Rattle.osrl_writing.proofs.Names.{◌≡◌, List, NameLists, ap, ◌∙◌, named_text}
+use Rattle.std.proofs.lemmas.Result.{IfOk-weaker}
 use Rattle.osrl_writing.proofs.document.encode.Goals as goal
 
-pub told_text-requires : goal.told_text-requires
-told_text-requires c = told_one _ _ (whole_element (report_element c.args.report.now)) (report_element c.args.report.now) c.new-b.ensures c.in_ok-tell_report.ensures refl
-
 pub returns : goal.returns
-returns c =
-    IfOk-weaker c.told_text.result _ _ (λ text writes. writes (report_element c.args.report.now) (told_element _ _ (whole_element (report_element c.args.report.now)) (report_element c.args.report.now) c.new-b.ensures c.in_ok-tell_report.ensures refl)) c.told_text.ensures
+returns c = IfOk-weaker c.write_named.result _ _ (λ text is. is ∙ ap (λ (ns : NameLists). named_text ns c.args.report.now) c.none.ensures) c.write_named.ensures

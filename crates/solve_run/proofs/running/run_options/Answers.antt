@@ -3,7 +3,7 @@ use Rattle.solve_run.proofs.Runs.{quiet_memory, quiet_instance}
 use Rattle.solve_run.proofs.running.run_options.Goals as goal
 
 pub returns-in-Ok : goal.returns-in-Ok
-returns-in-Ok g c = λ osol text. c.run_instance.ensures c.args.osil.now osol text c.in-Ok.ensures.ok
+returns-in-Ok g c = λ osol text. c.run_read.ensures osol text c.in-Ok.ensures.ok
 
 pub returns-in-Err-Memory : goal.returns-in-Err-Memory
 returns-in-Err-Memory g c = λ osol text.
