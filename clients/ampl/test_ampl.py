@@ -333,6 +333,8 @@ class Bad(unittest.TestCase):
             (" 0 0 0 0 0\n 12", " 3 4 0 0 0\n 12", "more whole variables than variables"),
             (" 4 3 1 0 0", " 1001 3 1 0 0", "1,001 variables"),
             (" 4 3 1 0 0", " 999999999 3 1 0 0", "999,999,999 variables"),
+            (" 4 3 1 0 0", " 4 999999999 1 0 0", "999,999,999 rows"),
+            (" 4 3 1 0 0", " 4 3 999999999 0 0", "999,999,999 goals"),
         ):
             with self.subTest(wanted):
                 self.assertIn(old, diet().text())
@@ -345,6 +347,17 @@ class Bad(unittest.TestCase):
                     if old == "2 2000" and bad == "Infinity":
                         continue  # an end that isn't there
                     self.refuses(diet().text().replace(old, f"{old[0]} {bad}", 1), wanted)
+        for old, new, wanted in (
+            ("\n2 2000", "\n2 Infinity", "row 0 has an end that is infinity"),
+            ("\n1 70", "\n1 -inf", "row 2 has an end that is minus infinity"),
+            ("\n2 60", "\n4 inf", "row 1 has an end that is infinity"),
+            ("\n0 0 8", "\n0 -inf -inf", "variable 0 has an end that is minus infinity"),
+        ):
+            self.assertIn(old, diet().text())
+            self.refuses(diet().text().replace(old, new, 1), wanted)
+        open_ends = diet().text().replace("\n2 60", "\n2 -Infinity").replace("\n1 70", "\n0 -inf +inf")
+        self.assertEqual([tuple(ends) for ends in read_nl(open_ends.encode()).row_ends], [(2000, None), (None, None), (None, None)])
+        self.refuses(diet().binary().replace(b"2" + struct.pack("<d", 2000.0), b"2" + struct.pack("<d", float("inf"))), "row 0 has an end that is infinity")
         self.refuses(diet().binary().replace(struct.pack("<d", 185.0), struct.pack("<d", float("nan"))), "is no number that a model has")
 
     def test_machines(self):

@@ -140,6 +140,8 @@ class Flat(unittest.TestCase):
             ("1.0,0.5]", "1e99,0.5]", "passes 128 bits"),
             ("var 0..7: x", "var 0..7: x@", "line 2: '@ .*' begins nothing"),
             ("pair :: output_array([1..2]) = [x,3]", "pair", "the array pair has no values"),
+            ("= [x,3]", "= [x,{1,3}]", "line 6: the array pair is to be told, and has what is no number"),
+            ("maximize y", "maximize c", "line 10: a number should stand there"),
         ):
             with self.subTest(new):
                 self.assertIn(old, SMALL)

@@ -253,6 +253,8 @@ class Flat:
             raise BadFlat(f"{tokens.where()}: the array {name[:40]} has no values")
         self.keep(name, None if is_set else value)
         if "output_array" in told:
+            if not all(isinstance(it, (FlatVariable, Fraction)) for it in value):
+                raise BadFlat(f"{tokens.where()}: the array {name[:40]} is to be told, and has what is no number and no variable")
             words = "".join(word for word in told["output_array"] if word not in "[]()")
             self.outputs.append(Output(name, value, words.split(",")))
 
@@ -274,7 +276,8 @@ class Flat:
         if self.sense not in ("satisfy", "minimize", "maximize"):
             raise BadFlat(f"{self.tokens.where()}: {self.sense[:20]!r} is nothing to solve")
         if self.sense != "satisfy":
-            self.goal = self.value()
+            goal = self.value()
+            self.goal = goal if isinstance(goal, FlatVariable) else self.as_number(goal)
 
     def constraint(self) -> None:
         tokens = self.tokens
