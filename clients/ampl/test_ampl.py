@@ -12,7 +12,6 @@ import json
 import os
 import shutil
 import signal
-import socket
 import struct
 import subprocess
 import sys
@@ -26,6 +25,7 @@ sys.path.insert(0, str(Path(__file__).resolve().parents[1] / "python"))
 from gubnatris import Error
 from gubnatris.ampl import main
 from gubnatris.nl import read_nl
+from peers import ending_server, nobody
 
 DRIVER = Path(__file__).resolve().with_name("gubnatris_ampl")
 INF = None
@@ -361,14 +361,13 @@ class Bad(unittest.TestCase):
         self.refuses(diet().binary().replace(struct.pack("<d", 185.0), struct.pack("<d", float("nan"))), "is no number that a model has")
 
     def test_machines(self):
-        with socket.create_server(("127.0.0.1", 0)) as free:
-            port = free.getsockname()[1]
-        with Room(diet().text()) as room:
+        with ending_server() as url, Room(diet().text()) as room:
             for given, wanted in (
                 ({"OS_PROGRAM": "/none"}, "/none is no program"),
                 ({"OS_PROGRAM": "/bin/false"}, "ended with status 1"),
-                ({"OS_SERVER": f"http://127.0.0.1:{port}"}, "nobody answers"),
+                ({"OS_SERVER": nobody()}, "nobody answers"),
                 ({"OS_SERVER": "nobody"}, "not the URL of a server"),
+                ({"OS_SERVER": url}, "no reply: "),
             ):
                 told = room.run("-AMPL", environment=given)
                 self.assertEqual((told.returncode, told.stderr.count("\n")), (1, 1))

@@ -8,7 +8,6 @@ import io
 import os
 import shutil
 import signal
-import socket
 import subprocess
 import sys
 import tempfile
@@ -19,6 +18,7 @@ from pathlib import Path
 HERE = Path(__file__).resolve().parent
 sys.path.insert(0, str(HERE.parent / "python"))
 from gubnatris.flatzinc import main
+from peers import ending_server, nobody
 
 DRIVER = HERE / "gubnatris_fzn"
 MODELS = sorted(HERE.glob("models/*.mzn"))
@@ -163,15 +163,14 @@ class Flat(unittest.TestCase):
             out, err, status = flat(SMALL, *words)
             self.assertEqual((out, status), ("=====ERROR=====\n", 1))
             self.assertRegex(err, wanted)
-        with socket.create_server(("127.0.0.1", 0)) as free:
-            port = free.getsockname()[1]
-        with tempfile.TemporaryDirectory() as folder:
+        with ending_server() as url, tempfile.TemporaryDirectory() as folder:
             Path(folder, "a.fzn").write_text(SMALL, encoding="utf-8")
             for given, wanted in (
                 ({"OS_PROGRAM": "/none"}, "/none is no program"),
                 ({"OS_PROGRAM": "/bin/false"}, "ended with status 1"),
-                ({"OS_SERVER": f"http://127.0.0.1:{port}"}, "nobody answers"),
+                ({"OS_SERVER": nobody()}, "nobody answers"),
                 ({"OS_SERVER": "nobody"}, "not the URL of a server"),
+                ({"OS_SERVER": url}, "no reply: "),
             ):
                 made = subprocess.run([DRIVER, f"{folder}/a.fzn"], capture_output=True, text=True, check=False, env={**os.environ, **given})
                 self.assertEqual((made.stdout, made.returncode, made.stderr.count("\n")), ("=====ERROR=====\n", 1, 1))

@@ -14,11 +14,9 @@ import os
 import random
 import re
 import signal
-import socket
 import subprocess
 import sys
 import tempfile
-import threading
 import time
 import unittest
 from decimal import Decimal
@@ -29,6 +27,7 @@ from gubnatris import (
     BadModel, Error, Model, NoProgram, NoReply, NotInstance, NotOffered, NotSent, Program, ProgramFailed, Refused, Server, names, read_result, solver,
 )  # fmt: skip
 from gubnatris.instances import read_instance
+from peers import ending_server
 
 ROOT = Path(__file__).resolve().parents[2]
 DIET, BUDGET = ROOT / "examples/diet.osil", ROOT / "examples/capital_budget.osil"
@@ -284,12 +283,8 @@ class Programs(unittest.TestCase):
             Program().solve("<osil>\ud800</osil>")
 
     def test_a_server_that_ends_within_a_call(self):
-        with socket.create_server(("127.0.0.1", 0)) as listener:
-            thread = threading.Thread(target=lambda: listener.accept()[0].close())
-            thread.start()
-            with self.assertRaises(NoReply):
-                Server(f"http://127.0.0.1:{listener.getsockname()[1]}", seconds=20).solve(DIET)
-            thread.join()
+        with ending_server() as url, self.assertRaises(NoReply):
+            Server(url, seconds=20).solve(DIET)
 
     def test_where_it_is(self):
         kept = dict(os.environ)

@@ -9,6 +9,7 @@ import signal
 import socket
 import subprocess
 import tempfile
+import threading
 from pathlib import Path
 from typing import Callable, Iterator, Optional, Union
 
@@ -90,7 +91,7 @@ class Program:
         """The program while it runs; it is ended where this is left. A signal that comes while it is begun waits, so that it isn't lost sight of."""
         process = None
         try:
-            with _held_signals() as let_go:
+            with held_signals() as let_go:
                 process = subprocess.Popen(
                     [self.path, *words], stdin=subprocess.DEVNULL, stdout=subprocess.PIPE, stderr=errors, preexec_fn=let_go
                 )
@@ -152,7 +153,8 @@ def _files(**texts: str) -> Iterator[str]:
     """A folder with these texts, while it is used."""
     with contextlib.ExitStack() as stack:
         try:
-            folder = stack.enter_context(tempfile.TemporaryDirectory(prefix="gubnatris-"))
+            with held_signals():
+                folder = stack.enter_context(tempfile.TemporaryDirectory(prefix="gubnatris-"))
             for name, text in texts.items():
                 Path(folder, name).write_text(text, encoding="utf-8", newline="")
         except (OSError, UnicodeEncodeError) as failure:
@@ -161,9 +163,10 @@ def _files(**texts: str) -> Iterator[str]:
 
 
 @contextlib.contextmanager
-def _held_signals() -> Iterator[Optional[Callable[[], object]]]:
-    """While this is used signals wait; what it gives lets them go, for a child that would inherit that. Nothing waits where signals can't."""
-    if not hasattr(signal, "pthread_sigmask"):
+def held_signals() -> Iterator[Optional[Callable[[], object]]]:
+    """While this is used signals wait; what it gives lets them go, for a child that would inherit that. Nothing waits where signals can't,
+    nor beside the main thread, which alone they interrupt."""
+    if not hasattr(signal, "pthread_sigmask") or threading.current_thread() is not threading.main_thread():
         yield None
         return
     before = signal.pthread_sigmask(signal.SIG_BLOCK, INTERRUPTS)
