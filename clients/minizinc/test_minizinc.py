@@ -118,6 +118,12 @@ class Flat(unittest.TestCase):
         out, _, _ = flat("var {2,5,9}: x :: output_var;\nconstraint int_le(x,8);\nsolve maximize x;\n")
         self.assertEqual(out, "x = 5;\n----------\n==========\n")
 
+    def test_arrays_have_their_own_type(self):
+        text = "var 0..1: i;\nvar bool: b;\nvar 1.0..5.0: f;\nvar 0.0..1.0: g;\nconstraint bool2int(b,i);\nconstraint int_le(1,i);\nconstraint int2float(i,g);\n"
+        for kind, inside, told in (("bool", "b,true,false", "true, true, false"), ("int", "i,7", "1, 7"), ("float", "f,2,g", "1.0, 2.0, 1.0"), ("1..9", "i", "1")):
+            out, _, _ = flat(f"{text}array [1..2] of var {kind}: a :: output_array([1..2]) = [{inside}];\nsolve minimize f;\n")
+            self.assertEqual(out, f"a = array1d(1..2, [{told}]);\n----------\n==========\n")
+
     def test_numbers(self):
         out, _, _ = flat("var 0.0..9.0: x :: output_var;\nconstraint float_le(x,8.800000000000001);\nsolve maximize x;\n")
         self.assertEqual(out, "x = 8.8;\n----------\n==========\n")  # as MiniZinc 2.6 writes 8.8

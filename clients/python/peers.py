@@ -5,7 +5,7 @@ from __future__ import annotations
 import contextlib
 import socket
 import threading
-from typing import Iterator
+from typing import Iterator, Optional
 
 
 def nobody() -> str:
@@ -15,14 +15,14 @@ def nobody() -> str:
 
 
 @contextlib.contextmanager
-def ending_server() -> Iterator[str]:
-    """The URL of a server that takes a call's first bytes, and ends."""
+def ending_server(heard: Optional[list[bytes]] = None) -> Iterator[str]:
+    """The URL of a server that takes a call's first bytes, which it may be asked to keep, and ends."""
 
     def serve() -> None:
         with contextlib.suppress(OSError):  # where nobody called
             link, _ = listener.accept()
             with link:
-                link.recv(1)
+                (heard if heard is not None else []).append(link.recv(65_536))
 
     with socket.create_server(("127.0.0.1", 0)) as listener:
         thread = threading.Thread(target=serve)

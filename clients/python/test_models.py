@@ -5,6 +5,7 @@
 What is expected is worked out from the models: by hand, by their duals' own sums, or by GLPK.
 """
 
+import base64
 import csv
 import doctest
 import io
@@ -19,6 +20,7 @@ import sys
 import tempfile
 import time
 import unittest
+import unittest.mock
 from decimal import Decimal
 from fractions import Fraction
 from pathlib import Path
@@ -285,6 +287,13 @@ class Programs(unittest.TestCase):
     def test_a_server_that_ends_within_a_call(self):
         with ending_server() as url, self.assertRaises(NoReply):
             Server(url, seconds=20).solve(DIET)
+
+    def test_user_and_password_are_those_of_the_environment(self):
+        heard = []
+        with ending_server(heard) as url, unittest.mock.patch.dict(os.environ, {"OS_SERVER": url, "OS_USER": "ann", "OS_PASSWORD": "p:q"}):
+            with self.assertRaises(NoReply):
+                solver().solve(DIET)
+        self.assertIn(b"\r\nAuthorization: Basic " + base64.b64encode(b"ann:p:q") + b"\r\n", heard[0])
 
     def test_where_it_is(self):
         kept = dict(os.environ)

@@ -65,11 +65,12 @@ class FlatVariable:
 
 
 class Output(NamedTuple):
-    """What is told of a solution: a variable or an array, with its dimensions."""
+    """What is told of a solution: a variable or an array, with its dimensions and the type of what stands in it."""
 
     name: str
     value: Value
     dimensions: list[str]
+    kind: str
 
 
 class Tokens:
@@ -232,7 +233,7 @@ class Flat:
         self.variables.append(made)
         self.keep(made.name, made)
         if "output_var" in self.annotations():
-            self.outputs.append(Output(made.name, made, []))
+            self.outputs.append(Output(made.name, made, [], kind))
         if tokens.has("="):
             self.row([(made, Fraction(1)), (self.value(), Fraction(-1))], "=", Fraction(0), "its value")
 
@@ -243,20 +244,20 @@ class Flat:
         while tokens.take() != "]":
             pass
         tokens.take("of")
-        is_set = False
+        words = []
         while tokens.peek() != ":":
-            is_set |= tokens.take() == "set"
+            words.append(tokens.take())
         tokens.take(":")
         name, told = tokens.take(), self.annotations()
         value = self.value() if tokens.has("=") else None
         if not isinstance(value, list):
             raise BadFlat(f"{tokens.where()}: the array {name[:40]} has no values")
-        self.keep(name, None if is_set else value)
+        self.keep(name, None if "set" in words else value)
         if "output_array" in told:
             if not all(isinstance(it, (FlatVariable, Fraction)) for it in value):
                 raise BadFlat(f"{tokens.where()}: the array {name[:40]} is to be told, and has what is no number and no variable")
-            words = "".join(word for word in told["output_array"] if word not in "[]()")
-            self.outputs.append(Output(name, value, words.split(",")))
+            dimensions = "".join(word for word in told["output_array"] if word not in "[]()").split(",")
+            self.outputs.append(Output(name, value, dimensions, "bool" if "bool" in words else "float" if "float" in words else "int"))
 
     def parameter(self) -> None:
         tokens = self.tokens
@@ -359,24 +360,23 @@ def _add_choice(model: Model, variable: FlatVariable) -> None:
     model.row([*zip(ones, variable.values), (_column(variable), -1)], 0, 0, f"{variable.name} is which")
 
 
-def shown(variable: Value, values: tuple[Fraction, ...]) -> str:
-    """A value as FlatZinc has it: of a float a float, of a bool true or false."""
-    if not isinstance(variable, FlatVariable):
-        return str(variable) if isinstance(variable, Fraction) and variable.denominator == 1 else repr(float(variable))  # type: ignore[arg-type]
-    value = values[_column(variable).number]
-    if variable.kind == "bool":
+def shown(told: Value, kind: str, values: tuple[Fraction, ...]) -> str:
+    """A variable's value, or a number, as FlatZinc has what is of this type: of a float a float, of a bool true or false."""
+    value = values[_column(told).number] if isinstance(told, FlatVariable) else told
+    assert isinstance(value, Fraction)
+    if kind == "bool":
         return "true" if value else "false"
-    return repr(float(value)) if variable.kind == "float" else str(value)
+    return str(value) if kind == "int" and value.denominator == 1 else repr(float(value))
 
 
 def solution(flat: Flat, values: tuple[Fraction, ...]) -> list[str]:
     lines = []
     for output in flat.outputs:
         if isinstance(output.value, list):
-            inside = ", ".join(shown(it, values) for it in output.value)
+            inside = ", ".join(shown(it, output.kind, values) for it in output.value)
             lines.append(f"{output.name} = array{len(output.dimensions)}d({', '.join(output.dimensions)}, [{inside}]);")
         else:
-            lines.append(f"{output.name} = {shown(output.value, values)};")
+            lines.append(f"{output.name} = {shown(output.value, output.kind, values)};")
     return [*lines, "----------"]
 
 
