@@ -213,9 +213,18 @@ def try_words(folder):
     for program, part in (("/bin/true", "no checker"), (f"{folder}/none", "isn't a program")):
         got = ran([KNAPSACK], env=os.environ | {"OS_PROGRAM": program})
         check(got.returncode == 6 and part in got.stderr and got.stderr.count("\n") == 1, f"OS_PROGRAM {program}", f"{got.returncode} {got.stderr!r}")
-    point = put(folder, "point", "parcel 1\n")
-    got = ran([KNAPSACK, "--point", point])
-    check(got.returncode == 6, "a point of no variable", f"{got.returncode} {got.stderr!r}")
+    for text, part in (
+        ("parcel 1\n", "line 1 isn't the name of a variable and its value"),
+        ("# a point\n\nvariable 0\n", "line 3 isn't the name of a variable and its value"),
+        ("variable 0 one\n", "the value in line 1 is 'one', which is no number"),
+        ("variable 0 1/0\n", "the value in line 1 is '1/0', which is no number"),
+        ("variable 0 1e400\n", "the value in line 1 is '1e400', which is no number"),
+        (f"variable 0 {'9' * 5000}/7\n", "which is no number"),
+    ):
+        got = ran([KNAPSACK, "--point", put(folder, "point", text)])
+        check(got.returncode == 6 and part in got.stderr and got.stderr.count("\n") == 1, f"a point that says {text[:40]!r}", f"{got.returncode} {got.stderr!r}")
+    got = ran([KNAPSACK, "--point", put(folder, "point", "variable 1 1\nvariable 2 2/2\n")])
+    check((got.returncode, got.stdout) == (0, "accepted optimal\n"), "a point of variables without names", f"{got.returncode} {got.stderr!r}")
     for file in sorted(glob.glob(f"{EXAMPLES}/*.osil") + [f"{EXAMPLES}/diet.lp", f"{EXAMPLES}/capital_budget.mps"]):
         got = ran([file, "--result", f"{folder}/result"])
         check(got.returncode == 0 and got.stdout.rstrip("\n") in DEFINITE, file, f"{got.returncode} {got.stdout!r} {got.stderr!r}")
@@ -373,10 +382,12 @@ def try_spoilt(name, text):
 def try_vipr_words(folder):
     """The two commands: what they write and how they end."""
     osil, osrl, out = KNAPSACK, f"{EXAMPLES}/knapsack.osrl", f"{folder}/vipr"
+    wide = put(folder, "wide", f"VER 1.1 VAR 1 x INT 0 OBJ min 1 0 {'1' * 5000}")
     for words, status, told in (
         (["vipr", osil, osrl, "--out", out], 0, ""),
         (["vipr_check", out], 0, "verified range 30 30\n"),
         (["vipr_check", osrl], 1, "refused: '<?xml' stands where VER has to\n"),
+        (["vipr_check", wide], 1, f"refused: '{'1' * 40}' is no number, or too long\n"),
         (["vipr_check", f"{folder}/none"], 3, ""),
         (["vipr_check"], 2, ""),
         (["vipr", osil, f"{EXAMPLES}/diet.osrl"], 1, ""),

@@ -121,14 +121,14 @@ def named_point(path, instance):
     numbers = {variable.name: j for j, variable in enumerate(instance.variables)}
     point = [0.0] * len(instance.variables)
     for k, line in enumerate(text.splitlines(), 1):
-        words = line.split()
+        words = line.strip().rsplit(None, 1)  # a name may have spaces
         if not words or words[0].startswith("#"):
             continue
         if len(words) != 2 or words[0] not in numbers:
             raise Complaint(f"line {k} isn't the name of a variable and its value")
         try:
             point[numbers[words[0]]] = float(instances.decimal(words[1], f"the value in line {k}") if "/" not in words[1] else fractions.Fraction(words[1]))
-        except (ValueError, ZeroDivisionError) as error:
+        except (ValueError, ArithmeticError) as error:
             raise Complaint(f"the value in line {k} is {words[1][:40]!r}, which is no number") from error
     return point
 
