@@ -25,7 +25,7 @@ from gubnatris import Model, Program
 from gubnatris_pulp import GUBNATRIS
 from test_ampl import Stub
 
-RUNS, MOST = 5, 0.3
+RUNS, MOST = 3, 0.3
 MADE = programs.transport(27, 37)
 
 
