@@ -14,6 +14,7 @@ import contextlib
 import fractions
 import glob
 import os
+import pathlib
 import pty
 import re
 import shutil
@@ -253,15 +254,15 @@ def try_stubs(folder):
 
 
 def left_behind(mark):
-    """Processes with this text in their words."""
+    """Processes with this text in their words or in their environment, which what they start has too."""
     found = []
-    for path in glob.glob("/proc/[0-9]*/cmdline"):
+    for path in glob.glob("/proc/[0-9]*"):
         try:
-            with open(path, "rb") as it:
-                if mark.encode() in it.read() and int(path.split("/")[2]) != os.getpid():
-                    found.append(path)
+            texts = [pathlib.Path(path, name).read_bytes() for name in ("cmdline", "environ")]
         except OSError:
             continue
+        if any(mark.encode() in text for text in texts) and int(path.split("/")[2]) != os.getpid():
+            found.append(texts[0].replace(b"\0", b" ").decode(errors="replace"))
     return found
 
 
