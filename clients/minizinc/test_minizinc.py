@@ -6,6 +6,7 @@
 import contextlib
 import io
 import os
+import re
 import shutil
 import signal
 import subprocess
@@ -113,6 +114,23 @@ class Flat(unittest.TestCase):
             self.assertTrue(out.endswith(wanted) or wanted in out, out)
         self.assertNotIn("==========", flat(SMALL.replace("maximize y", "satisfy"))[0])
         self.assertEqual(flat("var float: x;\nsolve maximize x;\n")[0], "=====UNBOUNDED=====\n")
+
+    def test_a_goal_that_an_equation_defines(self):
+        """It is no column and no row of its own; where its ends say more than those of its terms, they count all the same."""
+        text = "var 0..5: x :: output_var;\nvar 0..5: y :: output_var;\nvar {}: cost :: output_var;\nconstraint int_lin_eq([2,3,-1],[x,y,cost],-1);\n{}solve maximize cost;\n"
+        for kind, more, wanted, counts in (
+            ("0..100", "", 26, (2, 0)),
+            ("int", "", 26, (2, 0)),
+            ("0..17", "constraint int_le(3,y);\n", 17, (2, 2)),  # 2 x + 3 y is at most 16, as at 2, 4
+            ("0..100", "constraint int_le(cost,12);\n", 12, (3, 2)),  # another row has it too, so it stays a column
+        ):
+            out, err, status = flat(text.format(kind, more), "-s")
+            found = [int(re.search(rf"^{name} = (.*);$", out, re.M)[1]) for name in ("x", "y", "cost")]
+            told = tuple(int(re.search(rf"mzn-stat: {name}=(.*)$", out, re.M)[1]) for name in ("variables", "propagators"))
+            self.assertEqual((status, err, found[2], 2 * found[0] + 3 * found[1] + 1, told), (0, "", wanted, wanted, counts))
+            self.assertIn(f"mzn-stat: objective={wanted}.0\n", out)
+        out, _, _ = flat("var 0.0..9.0: x;\nvar int: n :: output_var;\nvar float: f;\nconstraint int2float(n,f);\nconstraint float_lin_eq([1.0,-2.0],[f,x],0.5);\nsolve maximize n;\n")
+        self.assertEqual(out, "n = 18;\n----------\n==========\n")  # n is 2 x + 1/2, whole, and x at most 9
 
     def test_sets_with_gaps(self):
         out, _, _ = flat("var {2,5,9}: x :: output_var;\nconstraint int_le(x,8);\nsolve maximize x;\n")

@@ -56,12 +56,37 @@ class FlatVariable:
         self.values: list[Fraction] = []
         self.tied: Optional[FlatVariable] = None
         self.column: Optional[Variable] = None
+        self.form: Optional[Form] = None
 
     def root(self) -> FlatVariable:
         at = self
         while at.tied:
             at = at.tied
         return at
+
+    def value_at(self, values: tuple[Fraction, ...]) -> Fraction:
+        """Its value where the columns have these."""
+        form = self.root().form
+        return values[_column(self).number] if form is None else form.constant + sum(factor * it.value_at(values) for it, factor in form.terms)
+
+
+class Form(NamedTuple):
+    """What a variable is that has no column of its own: a sum of others and a constant."""
+
+    terms: list[tuple[FlatVariable, Fraction]]
+    constant: Fraction
+
+    def is_whole(self) -> bool:
+        """Whether it is whole wherever its variables are."""
+        return self.constant.denominator == 1 and all(it.root().kind != "float" and factor.denominator == 1 for it, factor in self.terms)
+
+    def least(self) -> Optional[Fraction]:
+        """A number that it isn't below, by the ends of its variables; none where they have none."""
+        ends = [(it.root().low if factor > 0 else it.root().high, factor) for it, factor in self.terms if factor]
+        return None if any(end is None for end, _ in ends) else self.constant + sum(factor * end for end, factor in ends if end is not None)
+
+    def negative(self) -> Form:
+        return Form([(it, -factor) for it, factor in self.terms], -self.constant)
 
 
 class Output(NamedTuple):
@@ -331,9 +356,10 @@ class Flat:
     # The model
 
     def model(self) -> Model:
+        self.define_goal()
         model = Model()
         for it in self.variables:
-            if it.tied is None:
+            if it.tied is None and it.form is None:
                 it.column = model.variable(it.name, it.low, it.high, whole=it.kind != "float")
         for it in self.variables:
             it.column = it.root().column
@@ -342,10 +368,34 @@ class Flat:
         for terms, relation, side, name in self.rows:
             model.row([(_column(it), factor) for it, factor in terms], side if relation == "=" else None, side, name)
         if self.sense != "satisfy":
-            terms = {_column(self.goal): 1} if isinstance(self.goal, FlatVariable) else {}
-            constant = self.goal if isinstance(self.goal, Fraction) else 0
-            (model.maximise if self.sense == "maximize" else model.minimise)(terms, constant, "goal")
+            form = self.goal_form()
+            goal = model.maximise if self.sense == "maximize" else model.minimise
+            goal([(_column(it), factor) for it, factor in form.terms], form.constant, "goal")
         return model
+
+    def goal_form(self) -> Form:
+        if not isinstance(self.goal, FlatVariable):
+            return Form([], self.as_number(self.goal))
+        return self.goal.root().form or Form([(self.goal, Fraction(1))], Fraction(0))
+
+    def define_goal(self) -> None:
+        """Takes the goal's variable out, where one equation alone has it: MiniZinc makes a variable of each goal, and searches take much longer
+        over an equation that has as many terms as the goal. Its ends stay as rows where those of its terms don't imply them."""
+        goal = self.goal.root() if isinstance(self.goal, FlatVariable) else None
+        holding = [row for row in self.rows if any(it.root() is goal for it, _ in row[0])]
+        if goal is None or len(holding) != 1 or holding[0][1] != "=" or any(it.values and it.root() is goal for it in self.variables):
+            return
+        terms, _, side, name = holding[0]
+        own = sum((factor for it, factor in terms if it.root() is goal), Fraction(0))
+        form = Form([(it, -factor / own) for it, factor in terms if it.root() is not goal], side / own) if own else None
+        if form is None or (goal.kind != "float" and not form.is_whole()):
+            return
+        goal.form = form
+        self.rows.remove(holding[0])
+        for each, end in ((form.negative(), None if goal.low is None else -goal.low), (form, goal.high)):
+            least = each.negative().least()
+            if end is not None and (least is None or -least > end):
+                self.rows.append((each.terms, "<", end - each.constant, name))
 
 
 def _column(variable: FlatVariable) -> Variable:
@@ -362,7 +412,7 @@ def _add_choice(model: Model, variable: FlatVariable) -> None:
 
 def shown(told: Value, kind: str, values: tuple[Fraction, ...]) -> str:
     """A variable's value, or a number, as FlatZinc has what is of this type: of a float a float, of a bool true or false."""
-    value = values[_column(told).number] if isinstance(told, FlatVariable) else told
+    value = told.value_at(values) if isinstance(told, FlatVariable) else told
     assert isinstance(value, Fraction)
     if kind == "bool":
         return "true" if value else "false"
