@@ -1,5 +1,5 @@
-"""What each driver takes beside the program itself: the processor seconds of a transport of 999 variables and 64 rows by each of them, less
-those of the program on the same instance (MiniZinc makes a variable of the goal too, which is the 1,000th).
+"""What each driver takes beside the program itself: the processor seconds of a transport of 1,000 variables and 70 rows by each of them, less
+those of the program on the same instance.
 
     OS_PROGRAM=PROGRAM /usr/bin/python3 clients/driver_costs.py
 
@@ -26,7 +26,7 @@ from gubnatris_pulp import GUBNATRIS
 from test_ampl import Stub
 
 RUNS, MOST = 3, 0.3
-MADE = programs.transport(27, 37)
+MADE = programs.transport(20, 50)
 
 
 def spent():

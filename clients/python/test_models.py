@@ -21,6 +21,7 @@ import tempfile
 import time
 import unittest
 import unittest.mock
+import warnings
 from decimal import Decimal
 from fractions import Fraction
 from pathlib import Path
@@ -287,6 +288,20 @@ class Programs(unittest.TestCase):
     def test_a_server_that_ends_within_a_call(self):
         with ending_server() as url, self.assertRaises(NoReply):
             Server(url, seconds=20).solve(DIET)
+
+    def test_a_build_that_comes_first_is_told(self):
+        with tempfile.TemporaryDirectory() as folder:
+            script = Path(folder, "os")
+            script.write_text(f"#!/bin/sh\ncat '{DIET.with_suffix('.osrl')}'\n", encoding="utf-8")
+            script.chmod(0o755)
+            Path(folder, "crates.txt").touch()
+            with self.assertWarnsRegex(UserWarning, "first proves and builds the program"):
+                self.assertEqual(Program(script).solve(DIET).objective, Fraction(552, 275))
+            Path(folder, "crates/os_main/out").mkdir(parents=True)
+            Path(folder, "crates/os_main/out/os_main").touch()
+            with warnings.catch_warnings():
+                warnings.simplefilter("error")
+                Program(script).solve(DIET)
 
     def test_user_and_password_are_those_of_the_environment(self):
         heard = []

@@ -10,6 +10,7 @@ import socket
 import subprocess
 import tempfile
 import threading
+import warnings
 from pathlib import Path
 from typing import Callable, Iterator, Optional, Union
 
@@ -90,6 +91,7 @@ class Program:
     def _begun(self, *words: str, errors: Optional[int] = None) -> Iterator[subprocess.Popen[bytes]]:
         """The program while it runs; it is ended where this is left. A signal that comes while it is begun waits, so that it isn't lost sight of."""
         process = None
+        _warn_of_build(Path(self.path))
         try:
             with held_signals() as let_go:
                 process = subprocess.Popen(
@@ -146,6 +148,12 @@ def _found(path: Union[str, Path, None]) -> str:
         if found:
             return found
     raise NoProgram("there is no program: set OS_PROGRAM to it, put gubnatris on the PATH, or name a server by OS_SERVER")
+
+
+def _warn_of_build(path: Path) -> None:
+    """Warns where the program is `./os` of a checkout that has none built yet, since nothing is seen of that build."""
+    if path.name == "os" and (path.parent / "crates.txt").is_file() and not (path.parent / "crates/os_main/out/os_main").is_file():
+        warnings.warn(f"{path} first proves and builds the program, which takes many minutes; OS_PROGRAM names one that is there", stacklevel=2)
 
 
 @contextlib.contextmanager
