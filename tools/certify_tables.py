@@ -304,9 +304,10 @@ def try_signals(folder):
                 process.send_signal(number)
                 time.sleep(0.002)
             out, told = process.communicate(timeout=60)
-            is_over = process.returncode == 0 and out.startswith(b"accepted")
-            check((process.returncode == 128 + number or is_over) and b"Traceback" not in told, f"signal {number} behind {seconds} s", f"{process.returncode} {told!r}")
-            check(not os.listdir(scratch) and not left_behind(scratch), f"signal {number} behind {seconds} s: nothing stays", f"{os.listdir(scratch)} {left_behind(scratch)}")
+            is_over = process.returncode in (0, -number) and out.startswith(b"accepted")  # all was told, and Python itself was ending
+            name = f"signal {number}, {times} times, behind {seconds} s"
+            check((process.returncode == 128 + number or is_over) and b"Traceback" not in told, name, f"{process.returncode} {out!r} {told!r}")
+            check(not os.listdir(scratch) and not left_behind(scratch), f"{name}: nothing stays", f"{os.listdir(scratch)} {left_behind(scratch)}")
 
 
 def try_progress(folder):

@@ -4,14 +4,12 @@ The core (`tools/certify_core`) makes exact what floats find; solvers that are i
 here is trusted but the checker: where it refuses a claim a weaker one is made, and what it doesn't accept isn't told as an answer.
 """
 
-import contextlib
 import fractions
 import os
 import re
 import shutil
 import subprocess
 import sys
-import tempfile
 import time
 
 import float_solvers
@@ -21,7 +19,7 @@ import mps_reader
 import result_text
 from linear_program import Complaint, Unread, osil, read_bytes, read_text, write_whole
 from gubnatris import instances
-from gubnatris.program import held_signals
+from gubnatris.program import used_folder
 
 HERE = os.path.dirname(os.path.abspath(__file__))
 CORE_FOLDER = f"{HERE}/certify_core/out"
@@ -247,9 +245,7 @@ class Certifying:
 def certify(path, seconds, seed, words, point, result, show):
     """The answer of the checker to what was found of a model, or none, and notes; the result is written where that is asked."""
     run = Certifying(path, seconds, seed, words, show)
-    with contextlib.ExitStack() as stack:
-        with held_signals():
-            folder = stack.enter_context(tempfile.TemporaryDirectory(prefix="certify-"))
+    with used_folder("certify-") as folder:
         try:
             run.begin(folder)
             points = []

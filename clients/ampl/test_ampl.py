@@ -238,7 +238,7 @@ class Solved(unittest.TestCase):
         with Room(odd.text()) as room:
             begun = time.monotonic()
             room.run("-AMPL", "timelimit=1")
-            self.assertLess(time.monotonic() - begun, 6)
+            self.assertLess(time.monotonic() - begun, 30)  # a machine may have much else to do
             self.assertEqual(room.sol()[5], 400)
             self.assertIn("killed", room.sol()[0])
             Path(room.folder, "tmp").mkdir()

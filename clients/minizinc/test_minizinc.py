@@ -86,7 +86,7 @@ class Models(unittest.TestCase):
             begun = time.monotonic()
             found, _ = minizinc("gubnatris", "-t", "2000", f"{folder}/odd.fzn")
             self.assertEqual(found, ["=====UNKNOWN====="])
-            self.assertLess(time.monotonic() - begun, 10)
+            self.assertLess(time.monotonic() - begun, 30)  # a machine may have much else to do
 
 
 class Flat(unittest.TestCase):

@@ -251,7 +251,7 @@ class Programs(unittest.TestCase):
             try:
                 begun = time.monotonic()
                 result = Program().solve(odd_sums(), node_limit=1_000_000, turn_limit=100_000_000, seconds=0.5)
-                self.assertLess(time.monotonic() - begun, 10)
+                self.assertLess(time.monotonic() - begun, 30)  # a machine may have much else to do
                 self.assertEqual(result.cause, "killed")
                 with self.assertRaises(Refused):
                     Program().solve("<osil/>", seconds=5)

@@ -157,12 +157,25 @@ def _warn_of_build(path: Path) -> None:
 
 
 @contextlib.contextmanager
+def used_folder(prefix: str) -> Iterator[str]:
+    """A folder, while it is used. Signals wait while it is made and while it is removed, so that neither is left half done."""
+    made: Optional[tempfile.TemporaryDirectory[str]] = None
+    try:
+        with held_signals():
+            made = tempfile.TemporaryDirectory(prefix=prefix)
+        yield made.name
+    finally:
+        if made:
+            with held_signals():
+                made.cleanup()
+
+
+@contextlib.contextmanager
 def _files(**texts: str) -> Iterator[str]:
     """A folder with these texts, while it is used."""
     with contextlib.ExitStack() as stack:
         try:
-            with held_signals():
-                folder = stack.enter_context(tempfile.TemporaryDirectory(prefix="gubnatris-"))
+            folder = stack.enter_context(used_folder("gubnatris-"))
             for name, text in texts.items():
                 Path(folder, name).write_text(text, encoding="utf-8", newline="")
         except (OSError, UnicodeEncodeError) as failure:
