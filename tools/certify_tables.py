@@ -1,17 +1,21 @@
 """Tries tools/certify, tools/vipr and tools/vipr_check, and says how many checks passed, and which didn't.
 
-    python3 tools/certify_tables.py [random N] [models | peers] [inputs] [vipr]
+    python3 tools/certify_tables.py [random N] [models | peers] [bench] [inputs] [vipr]
 
 Without words it tries all but *peers*, with 1,000 programs of each kind. *Random* compares what `check` accepts of small programs with what
-`solve` says of them. *Models* are GLPK's own, of those within the limits; *peers* times `solve`, `glpsol` and `cbc` beside. *Inputs* are bad
+`solve` says of them. *Models* are GLPK's own, of those within the limits; *peers* times `solve`, `glpsol` and `cbc` beside. *Bench* are those
+of `bench/programs.py`, random linear programs of 500 and 1,000 rows among them. *Inputs* are bad
 ones, and solvers that lie, write rubbish, hang or aren't there. *Vipr* reads the files of certificates by a checker that knows nothing of
 this project.
 """
 
 import concurrent.futures
+import contextlib
 import fractions
 import glob
 import os
+import pathlib
+import pty
 import re
 import shutil
 import signal
@@ -117,6 +121,10 @@ def peer_seconds(osil, file, dialect, sense, folder):
     return [f"{seconds:.2f}" if status >= 0 else f"> {convert_peers.LIMIT}" for status, seconds, _ in ends]
 
 
+def nodes_of(text):
+    return len(re.findall("<item>(?:split|zero|clash|farkas|bound)", text))
+
+
 def try_model(example, has_peers):
     """Whether a model's answer is shown, none where it isn't within the limits; its row, with the seconds of all that was started."""
     with tempfile.TemporaryDirectory() as folder:
@@ -127,8 +135,8 @@ def try_model(example, has_peers):
             return None
         before = processor_seconds()
         answer, text, _ = certified(osil, folder, MODEL_SECONDS)
-        seconds, nodes = processor_seconds() - before, len(re.findall("<item>(?:split|zero|clash|farkas|bound)", text))
-        cells = [example.name, answer or "nothing", ", ".join(said(text)[1]), f"{seconds:.2f}", nodes, text.count("<item>round"), len(text)]
+        seconds = processor_seconds() - before
+        cells = [example.name, answer or "nothing", ", ".join(said(text)[1]), f"{seconds:.2f}", nodes_of(text), text.count("<item>round"), len(text)]
         cells += peer_seconds(osil, files[end], convert_peers.DIALECTS[end][2], sense, folder) if has_peers else []
         print("| " + " | ".join(map(str, cells)) + " |", flush=True)
         check(answer is None or answer.startswith("accepted"), example.name, str(answer))
@@ -141,6 +149,19 @@ def try_models(has_peers=False):
     print("| " + " | ".join(head) + " |\n" + "|---" * len(head) + "|")
     shown = sum(try_model(example, has_peers) is True for example in convert_peers.examples())
     check(shown >= LEAST_MODELS, f"{shown} models are shown, and {LEAST_MODELS} are wanted")
+
+
+def try_bench():
+    """The table of the bench's programs: each is decided, or is a linear one whose numbers are too wide to be stated, which is told."""
+    print("| program | answer | seconds | nodes | bytes |\n|---|---|---|---|---|")
+    for program in programs.all_programs():
+        with tempfile.TemporaryDirectory() as folder:
+            path, before = put(folder, "osil", programs.osil(program)), processor_seconds()
+            answer, text, notes = certified(path, folder, MODEL_SECONDS)
+            seconds = processor_seconds() - before
+        print(f"| {program.name} | {answer or 'wide'} | {seconds:.2f} | {nodes_of(text)} | {len(text)} |", flush=True)
+        is_told = not program.is_whole() and "<item>wide " in text and any("passes 128 bits" in note for note in notes)
+        check(answer in DEFINITE or is_told, program.name, f"{answer} {notes}")
 
 
 # Bad input
@@ -193,9 +214,18 @@ def try_words(folder):
     for program, part in (("/bin/true", "no checker"), (f"{folder}/none", "isn't a program")):
         got = ran([KNAPSACK], env=os.environ | {"OS_PROGRAM": program})
         check(got.returncode == 6 and part in got.stderr and got.stderr.count("\n") == 1, f"OS_PROGRAM {program}", f"{got.returncode} {got.stderr!r}")
-    point = put(folder, "point", "parcel 1\n")
-    got = ran([KNAPSACK, "--point", point])
-    check(got.returncode == 6, "a point of no variable", f"{got.returncode} {got.stderr!r}")
+    for text, part in (
+        ("parcel 1\n", "line 1 isn't the name of a variable and its value"),
+        ("# a point\n\nvariable 0\n", "line 3 isn't the name of a variable and its value"),
+        ("variable 0 one\n", "the value in line 1 is 'one', which is no number"),
+        ("variable 0 1/0\n", "the value in line 1 is '1/0', which is no number"),
+        ("variable 0 1e400\n", "the value in line 1 is '1e400', which is no number"),
+        (f"variable 0 {'9' * 5000}/7\n", "which is no number"),
+    ):
+        got = ran([KNAPSACK, "--point", put(folder, "point", text)])
+        check(got.returncode == 6 and part in got.stderr and got.stderr.count("\n") == 1, f"a point that says {text[:40]!r}", f"{got.returncode} {got.stderr!r}")
+    got = ran([KNAPSACK, "--point", put(folder, "point", "variable 1 1\nvariable 2 2/2\n")])
+    check((got.returncode, got.stdout) == (0, "accepted optimal\n"), "a point of variables without names", f"{got.returncode} {got.stderr!r}")
     for file in sorted(glob.glob(f"{EXAMPLES}/*.osil") + [f"{EXAMPLES}/diet.lp", f"{EXAMPLES}/capital_budget.mps"]):
         got = ran([file, "--result", f"{folder}/result"])
         check(got.returncode == 0 and got.stdout.rstrip("\n") in DEFINITE, file, f"{got.returncode} {got.stdout!r} {got.stderr!r}")
@@ -224,15 +254,15 @@ def try_stubs(folder):
 
 
 def left_behind(mark):
-    """Processes with this text in their words."""
+    """Processes with this text in their words or in their environment, which what they start has too."""
     found = []
-    for path in glob.glob("/proc/[0-9]*/cmdline"):
+    for path in glob.glob("/proc/[0-9]*"):
         try:
-            with open(path, "rb") as it:
-                if mark.encode() in it.read() and int(path.split("/")[2]) != os.getpid():
-                    found.append(path)
+            texts = [pathlib.Path(path, name).read_bytes() for name in ("cmdline", "environ")]
         except OSError:
             continue
+        if any(mark.encode() in text for text in texts) and int(path.split("/")[2]) != os.getpid():
+            found.append(texts[0].replace(b"\0", b" ").decode(errors="replace"))
     return found
 
 
@@ -260,21 +290,43 @@ def try_wrong_core(folder):
 
 
 def try_signals(folder):
-    """A run that is ended early leaves no file and no process behind."""
+    """A run that is ended early leaves no file and no process behind, whether it is told once or several times."""
     path = put(folder, "osil", programs.osil(programs.knapsack(40, 3)))
-    for number in (signal.SIGINT, signal.SIGTERM, signal.SIGHUP):
-        for seconds in (0.3, 1.5):
+    for number, times in ((signal.SIGINT, 1), (signal.SIGINT, 3), (signal.SIGTERM, 1), (signal.SIGHUP, 1)):
+        for seconds in (0, 0.3, 1.5):
             scratch = tempfile.mkdtemp(dir=folder)
             begin = time.monotonic()
             process = subprocess.Popen([f"{TOOLS}/certify", path], env=os.environ | {"TMPDIR": scratch}, stdout=subprocess.PIPE, stderr=subprocess.PIPE, stdin=subprocess.DEVNULL)
             while process.poll() is None and not os.listdir(scratch) and time.monotonic() < begin + 60:
                 time.sleep(0.05)  # until it has begun
             time.sleep(seconds)
-            process.send_signal(number)
+            for _ in range(times):
+                process.send_signal(number)
+                time.sleep(0.002)
             out, told = process.communicate(timeout=60)
-            is_over = process.returncode == 0 and out.startswith(b"accepted")
-            check((process.returncode == 128 + number or is_over) and b"Traceback" not in told, f"signal {number} behind {seconds} s", f"{process.returncode} {told!r}")
-            check(not os.listdir(scratch) and not left_behind(scratch), f"signal {number} behind {seconds} s: nothing stays", f"{os.listdir(scratch)} {left_behind(scratch)}")
+            is_over = process.returncode in (0, -number) and out.startswith(b"accepted")  # all was told, and Python itself was ending
+            name = f"signal {number}, {times} times, behind {seconds} s"
+            check((process.returncode == 128 + number or is_over) and b"Traceback" not in told, name, f"{process.returncode} {out!r} {told!r}")
+            check(not os.listdir(scratch) and not left_behind(scratch), f"{name}: nothing stays", f"{os.listdir(scratch)} {left_behind(scratch)}")
+
+
+def try_progress(folder):
+    """What a terminal shows of a run: the best value, the bound, which isn't below it, the nodes and the seconds; and its line is cleared."""
+    path = put(folder, "osil", programs.osil(programs.knapsack(40, 3)))
+    handle, end = pty.openpty()
+    words = [f"{TOOLS}/certify", path, "--seconds", "5"]
+    process = subprocess.Popen(words, env=os.environ | {"TERM": "xterm"}, stdout=subprocess.PIPE, stderr=end, stdin=subprocess.DEVNULL)
+    os.close(end)
+    told = b""
+    with open(handle, "rb", buffering=0) as it, contextlib.suppress(OSError):  # a terminal that nobody writes to any more can't be read
+        while piece := it.read(65_536):
+            told += piece
+    out, _ = process.communicate(timeout=60)
+    views = re.findall(rb"\rcertify: best (\S+), bound (\S+), (\d+) nodes, (\d+) s\x1b\[K\r", told)
+    pairs = [(float(best), float(bound)) for best, bound, _, _ in views if b"-" not in (best, bound)]
+    check(out.startswith(b"accepted ") and pairs and all(best <= bound + 1e-6 for best, bound in pairs), "progress at a terminal", f"{out!r} {told!r}")
+    seconds = [int(view[3]) for view in views]
+    check(seconds == sorted(seconds) and b"\x1b[K" in told.rpartition(b" s\x1b[K\r")[2], "the seconds go on, and the line is cleared", f"{told!r}")
 
 
 def try_same(folder):
@@ -287,9 +339,9 @@ def try_same(folder):
 
 def try_inputs():
     with tempfile.TemporaryDirectory() as folder:
-        for each in (try_words, try_stubs, try_wrong_core, try_signals, try_same):
+        for each in (try_words, try_stubs, try_wrong_core, try_signals, try_progress, try_same):
             each(folder)
-    print("bad input, solvers that lie, a wrong core, signals, seeds: tried", flush=True)
+    print("bad input, solvers that lie, a wrong core, signals, progress, seeds: tried", flush=True)
 
 
 # VIPR
@@ -332,10 +384,12 @@ def try_spoilt(name, text):
 def try_vipr_words(folder):
     """The two commands: what they write and how they end."""
     osil, osrl, out = KNAPSACK, f"{EXAMPLES}/knapsack.osrl", f"{folder}/vipr"
+    wide = put(folder, "wide", f"VER 1.1 VAR 1 x INT 0 OBJ min 1 0 {'1' * 5000}")
     for words, status, told in (
         (["vipr", osil, osrl, "--out", out], 0, ""),
         (["vipr_check", out], 0, "verified range 30 30\n"),
         (["vipr_check", osrl], 1, "refused: '<?xml' stands where VER has to\n"),
+        (["vipr_check", wide], 1, f"refused: '{'1' * 40}' is no number, or too long\n"),
         (["vipr_check", f"{folder}/none"], 3, ""),
         (["vipr_check"], 2, ""),
         (["vipr", osil, f"{EXAMPLES}/diet.osrl"], 1, ""),
@@ -385,7 +439,7 @@ def try_bounds(folder):
         osil = put(folder, "osil", programs.osil(program))
         run = certifying.Certifying(osil, 20, SEED, set(), None)
         run.begin(folder)
-        claim, parts = run.core_claim([[0.0] * len(program.variables)], 20, 3e5)
+        claim, parts = run.core_claim([[0.0] * len(program.variables)], 3e5)
         if "bound" not in parts:
             check(claim != "bestSoFar", f"{program.name} has a bound", claim)
             continue
@@ -399,7 +453,7 @@ def try_bounds(folder):
 
 
 def main():
-    words = sys.argv[1:] or ["random", "1000", "models", "inputs", "vipr"]
+    words = sys.argv[1:] or ["random", "1000", "models", "bench", "inputs", "vipr"]
     core = certifying.core()
     certifying.core = lambda: core
     at = iter(words)
@@ -407,7 +461,7 @@ def main():
         if word == "random":
             try_all_random(int(next(at)))
         else:
-            {"models": try_models, "peers": lambda: try_models(True), "inputs": try_inputs, "vipr": try_vipr}[word]()
+            {"models": try_models, "peers": lambda: try_models(True), "bench": try_bench, "inputs": try_inputs, "vipr": try_vipr}[word]()
     for failure in failures:
         print(failure)
     print(f"{tried[0] - len(failures)} passed, {len(failures)} failed")

@@ -10,7 +10,7 @@ import re
 import shutil
 import subprocess
 import sys
-import tempfile
+import time
 
 import float_solvers
 import job_documents
@@ -19,13 +19,20 @@ import mps_reader
 import result_text
 from linear_program import Complaint, Unread, osil, read_bytes, read_text, write_whole
 from gubnatris import instances
+from gubnatris.program import used_folder
 
 HERE = os.path.dirname(os.path.abspath(__file__))
 CORE_FOLDER = f"{HERE}/certify_core/out"
 FIRST_WORK = 2e7  # of the core before other solvers are asked, in its own measure: about half a second
+MOST_WORK = 1e300  # none but the time ends it then
 SHARE = 0.2  # of the seconds that are left, for each of these solvers
 LEAST_SECONDS = 1.0
 PARTS = ("point", "value", "ray", "bound", "rounds", "tree", "cause")
+WHY = {  # a search ended early, by the first word of its cause
+    "killed": "the time is over",
+    "length": "what shows it is longer than a document may be",
+    "wide": "a number that it takes passes 128 bits, or its steps can't be made exact",
+}
 
 
 class Wanting(Exception):
@@ -112,14 +119,14 @@ def named_point(path, instance):
     numbers = {variable.name: j for j, variable in enumerate(instance.variables)}
     point = [0.0] * len(instance.variables)
     for k, line in enumerate(text.splitlines(), 1):
-        words = line.split()
+        words = line.strip().rsplit(None, 1)  # a name may have spaces
         if not words or words[0].startswith("#"):
             continue
         if len(words) != 2 or words[0] not in numbers:
             raise Complaint(f"line {k} isn't the name of a variable and its value")
         try:
             point[numbers[words[0]]] = float(instances.decimal(words[1], f"the value in line {k}") if "/" not in words[1] else fractions.Fraction(words[1]))
-        except (ValueError, ZeroDivisionError) as error:
+        except (ValueError, ArithmeticError) as error:
             raise Complaint(f"the value in line {k} is {words[1][:40]!r}, which is no number") from error
     return point
 
@@ -129,8 +136,16 @@ class Certifying:
 
     def __init__(self, path, seconds, seed, words, show):
         self.path, self.seconds, self.seed, self.words, self.show = path, seconds, seed, words, show
-        self.children, self.notes, self.spent = float_solvers.Children(), [], 0.0
+        self.children, self.notes = float_solvers.Children(), []
         self.program, self.core = program_of_checker(), core()
+        self.begun = time.monotonic()
+
+    def spent(self):
+        return time.monotonic() - self.begun
+
+    def left(self):
+        """The seconds that are left of what it may take."""
+        return self.seconds - self.spent()
 
     def begin(self, folder):
         """Reads the model, as OSiL that the checker reads."""
@@ -161,11 +176,11 @@ class Certifying:
         finally:
             self.children.end(process)
 
-    def core_claim(self, points, seconds, work):
-        """The kind of claim that the core makes, and the parts of its certificate."""
+    def core_claim(self, points, work):
+        """The kind of claim that the core makes within the seconds that are left, and the parts of its certificate."""
         with open(f"{self.folder}/program", "w", encoding="ascii") as it:
             it.write(core_text(self.instance, points))
-        words = [self.core, f"{seconds:.2f}", f"{work:g}", str(self.seed), "tells" if self.show else "quiet"]
+        words = [self.core, f"{max(LEAST_SECONDS, self.left()):.2f}", f"{work:g}", str(self.seed), "tells" if self.show else "quiet"]
         with open(f"{self.folder}/program", "rb") as given:
             process = self.children.start(words, stdin=given, stdout=subprocess.PIPE, stderr=subprocess.DEVNULL)
         claim, parts = "unsure", {}
@@ -173,7 +188,7 @@ class Certifying:
             for line in process.stdout:
                 name, _, rest = line.decode().rstrip("\n").partition(" ")
                 if name == "progress":
-                    self.show(self.spent, rest)
+                    self.show(rest, self.spent())
                 elif name == "claim":
                     claim = rest
                 elif name in PARTS:
@@ -198,11 +213,14 @@ class Certifying:
 
     def answer(self, points):
         """The answer of the checker to the best claim that is found. The text of the result stays."""
-        claim, parts = self.core_claim(points, self.seconds, FIRST_WORK)
-        if claim in ("bestSoFar", "unsure") and self.has_cases():
+        claim, parts = self.core_claim(points, FIRST_WORK if self.has_cases() else MOST_WORK)
+        if claim in ("bestSoFar", "unsure") and self.has_cases() and self.left() > 0:
             found = [[float(fractions.Fraction(value)) for value in parts["point"]]] if "point" in parts else []
-            found += points + self.points_of_solvers(max(LEAST_SECONDS, SHARE * self.seconds))
-            claim, parts = self.core_claim(found, self.seconds, 1e300)
+            found += points + self.points_of_solvers(max(LEAST_SECONDS, SHARE * self.left()))
+            claim, parts = self.core_claim(found, MOST_WORK)
+        if claim in ("bestSoFar", "unsure"):
+            cause = parts.setdefault("cause", ["wide 1 0 check"])[0]
+            self.notes.append(f"it isn't decided: {WHY.get(cause.partition(' ')[0], 'its search ended')}")
         return self.accepted(claim, parts)
 
     def has_cases(self):
@@ -227,7 +245,7 @@ class Certifying:
 def certify(path, seconds, seed, words, point, result, show):
     """The answer of the checker to what was found of a model, or none, and notes; the result is written where that is asked."""
     run = Certifying(path, seconds, seed, words, show)
-    with tempfile.TemporaryDirectory(prefix="certify-") as folder:
+    with used_folder("certify-") as folder:
         try:
             run.begin(folder)
             points = []

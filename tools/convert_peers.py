@@ -159,7 +159,7 @@ def main():
         sys.exit("glpk-utils, with its examples, is wanting: bash tools/convert_peers.sh installs it")
     head = ("variables", "whole", "rows", "values", "nodes", "value", "GLPK", "seconds", "theirs")
     print("| example | variables | whole | rows | values | ends | nodes | value | GLPK's value | seconds | GLPK's |\n" + "|---" * 11 + "|")
-    counts, wrong = {}, []
+    counts, wrong, tried, failed = {}, [], 0, 0
     with concurrent.futures.ThreadPoolExecutor(2) as pool:
         for it in pool.map(Example.tried, examples()):
             cells = [it.cells.get(name, "") for name in head]
@@ -167,8 +167,10 @@ def main():
             kind = re.sub(r"[\d,]+ (?=variables|rows|values)|(?<=nodeLimit|turnLimit) .*|(?<=wide) .*|(?<=file of it).*", "", it.end)
             counts[kind] = counts.get(kind, 0) + 1
             wrong += [f"{it.name}: {text}" for text in it.wrong]
+            tried, failed = tried + 1, failed + bool(it.wrong)
     print("\n" + "\n".join(f"{count} {kind}" for kind, count in sorted(counts.items(), key=lambda item: -item[1])))
     print("\n".join(wrong) or "All values are GLPK's, all certificates are accepted, and GLPK reads the same in every file.")
+    print(f"{tried - failed} passed, {failed} failed")
     return bool(wrong)
 
 

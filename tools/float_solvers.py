@@ -12,7 +12,10 @@ import signal
 import subprocess
 import time
 
-MOST_BYTES = 64_000_000  # of what a solver writes
+from linear_program import MOST_FILE
+
+from gubnatris.program import held_signals
+
 PATIENCE = 2  # seconds that a solver may take past its limit
 
 
@@ -140,7 +143,7 @@ OPTIMAL = {"highs": "^Optimal$", "cbc": "^Optimal", "glpsol": r"^s (?:mip \d+ \d
 
 
 def limited():
-    resource.setrlimit(resource.RLIMIT_FSIZE, (MOST_BYTES, MOST_BYTES))
+    resource.setrlimit(resource.RLIMIT_FSIZE, (MOST_FILE, MOST_FILE))
 
 
 class Children:
@@ -149,9 +152,12 @@ class Children:
     def __init__(self):
         self.running = []
 
-    def start(self, words, **given):
-        process = subprocess.Popen(words, start_new_session=True, **given)
-        self.running.append(process)
+    def start(self, words, before=None, **given):
+        """Starts one, which first does what is to be done before. A signal that comes meanwhile waits until the process is known."""
+        with held_signals() as let_go:
+            steps = [step for step in (before, let_go) if step]
+            process = subprocess.Popen(words, start_new_session=True, preexec_fn=(lambda: [step() for step in steps]) if steps else None, **given)
+            self.running.append(process)
         return process
 
     def end(self, process):
@@ -181,7 +187,7 @@ class Asked:
     def __init__(self, name, mps_file, seconds, children, folder):
         self.name, self.out, self.children, self.note = name, f"{folder}/{name}.solution", children, None
         words, self.read = next((words, read) for other, words, read in SOLVERS if other == name)
-        given = {"stdin": subprocess.DEVNULL, "stdout": subprocess.DEVNULL, "stderr": subprocess.DEVNULL, "preexec_fn": limited, "cwd": folder}
+        given = {"stdin": subprocess.DEVNULL, "stdout": subprocess.DEVNULL, "stderr": subprocess.DEVNULL, "before": limited, "cwd": folder}
         try:
             self.process = children.start([name, *words(mps_file, self.out, seconds)], **given)
         except OSError as error:
@@ -199,7 +205,7 @@ class Asked:
         """The point that it has written, and whether it says that none is better; or none."""
         try:
             with open(self.out, encoding="utf-8") as it:
-                text = it.read(MOST_BYTES)
+                text = it.read(MOST_FILE)
             point = self.read(text, count)
         except FileNotFoundError:
             return None, False

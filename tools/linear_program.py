@@ -13,7 +13,7 @@ sys.path.append(os.path.join(os.path.dirname(os.path.dirname(os.path.abspath(__f
 
 from gubnatris.errors import NotInstance as Complaint  # why a file isn't what it should be, in one line
 from gubnatris.instances import NUMBER
-from gubnatris.limits import GREATEST, MOST_COLUMNS, MOST_DOCUMENT, MOST_VALUES
+from gubnatris.limits import GREATEST, MOST_COLUMNS, MOST_DOCUMENT, MOST_GOALS, MOST_VALUES
 from gubnatris.writing import NO_XML, GoalText, RowText, VariableText, osil_text
 
 MOST_FILE = 64_000_000
@@ -112,18 +112,25 @@ class Row:
         self.name, self.low, self.high, self.factors = name, None, None, {}
 
 
+class Goal:
+    """A goal: its name, whether more is better, its constant, and its costs by the variables' numbers."""
+
+    def __init__(self, name="", maximise=False):
+        self.name, self.maximise, self.constant, self.costs = name, maximise, decimal.Decimal(0), {}
+
+
 class Program:
-    """A program. The costs are by the variables' numbers; the notes say how what a file leaves open was read."""
+    """A program. Its first goal counts first; the notes say how what a file leaves open was read."""
 
     def __init__(self):
-        self.name, self.goal, self.maximise, self.constant = "", "", False, decimal.Decimal(0)
-        self.variables, self.rows, self.costs, self.notes = [], [], {}, []
+        self.name, self.goals, self.variables, self.rows, self.notes = "", [Goal()], [], [], []
 
     def find_too_big(self):
         values = sum(len(row.factors) for row in self.rows)
         for count, most, what in (
             (len(self.variables), MOST_COLUMNS, "variables"),
             (len(self.rows), MOST_COLUMNS, "rows"),
+            (len(self.goals), MOST_GOALS, "goals"),
             (values, MOST_VALUES, "values in the matrix"),
         ):
             if count > most:
@@ -150,9 +157,9 @@ def osil(program):
     """The OSiL document of a program (`docs/rules/instances.md`)."""
     program.find_too_big()
     variables = [VariableText(it.name, it.kind(), plain_end(it.low), plain_end(it.high)) for it in program.variables]
-    goal = GoalText(program.goal, program.maximise, plain(program.constant), plain_terms(program.costs))
+    goals = [GoalText(it.name, it.maximise, plain(it.constant), plain_terms(it.costs)) for it in program.goals]
     rows = [RowText(row.name, plain_end(row.low), plain_end(row.high), plain_terms(row.factors)) for row in program.rows]
-    text = osil_text(program.name, variables, [goal], rows)
+    text = osil_text(program.name, variables, goals, rows)
     size = len(text.encode())
     if size > MOST_DOCUMENT:
         raise Complaint(f"it is too big: its OSiL has {size:,} bytes, and {MOST_DOCUMENT:,} are the most; shorter names help")

@@ -14,12 +14,18 @@ TOKEN = re.compile(
 )
 RELATIONS = {"<": "<", "<=": "<", "=<": "<", ">": ">", ">=": ">", "=>": ">", "=": "="}
 INFINITIES = ("inf", "infinity")
+MAXIMA, MINIMA = "maximize maximise maximum max".split(), "minimize minimise minimum min".split()
+SEVERAL = "multi-objectives"  # behind the goal's first word: several goals, each with words of its own about it
+# What a goal of several says of itself, and what holds where it doesn't. Goals are exact, so none may be missed by a tolerance; the one
+# that Gurobi writes where nobody set any is taken as none, and said.
+GOAL_WORDS = {"priority": 0, "weight": 1, "abstol": 0, "reltol": 0}
+UNMEANT = lp.decimal.Decimal("1e-6")
+GOALS = ("max several", "min several", "max", "min")  # the sections with goals
 # The first words of a line that begin a section, longest first.
 HEADS = [
     (words.split(), section)
     for section, forms in (
-        ("max", "maximize maximise maximum max".split()),
-        ("min", "minimize minimise minimum min".split()),
+        *zip(GOALS, ([f"{word} {SEVERAL}" for word in MAXIMA], [f"{word} {SEVERAL}" for word in MINIMA], MAXIMA, MINIMA)),
         ("rows", ["subject to", "such that", "s.t.", "st.", "st"]),
         ("bounds", ["bounds", "bound"]),
         ("whole", ["generals", "general", "gen", "integers", "integer", "int"]),
@@ -27,7 +33,7 @@ HEADS = [
         ("semi", ["semi-continuous", "semis", "semi"]),
         ("end", ["end"]),
         ("", ["sos", "sos1", "sos2", "lazy constraints", "user cuts", "pwlobj", "general constraints",
-              "multi-objectives", "scenario"]),
+              SEVERAL, "scenario"]),
     )
     for words in forms
 ]  # fmt: skip
@@ -126,6 +132,20 @@ class Tokens:
             raise Complaint(f"{self.where()}: <=, >= or = should stand there, and here is {what}")
         return RELATIONS[self.take()]
 
+    def no_number(self):
+        """Why there is no number here."""
+        what = f"{self.text()!r}" if self.kind() else "the end"
+        return Complaint(f"{self.where()}: a number should stand there, and here is {what}")
+
+    def number(self):
+        """A number, with its signs."""
+        negative, _ = self.signs()
+        if self.kind() != "number":
+            raise self.no_number()
+        value = lp.number(self.text(), self.where())
+        self.take()
+        return -value if negative else value
+
     def end(self):
         """A number or an infinity, with its signs."""
         negative, _ = self.signs()
@@ -179,10 +199,46 @@ class Reader:
         return factors, constant
 
     def goal(self, tokens):
-        self.program.goal = tokens.label()
-        self.program.costs, self.program.constant = self.form(tokens)
+        goal = self.program.goals[0]
+        goal.name = tokens.label()
+        goal.costs, goal.constant = self.form(tokens)
         if tokens.kind():
             raise Complaint(f"{tokens.where()}: {tokens.text()!r} doesn't go on with the goal; a sign is wanting, or Subject To")
+
+    def goals(self, tokens):
+        """Several goals: those of greater priority first, and one of those that have the same, in which each counts by its weight."""
+        levels = {}
+        while tokens.kind():
+            goal, said = self.one_goal(tokens)
+            levels.setdefault(said["priority"], []).append((goal, said["weight"]))
+        if not levels:
+            raise Complaint("it has no goal, and several are announced")
+        maximise = self.program.goals[0].maximise
+        self.program.goals = [joined(levels[priority], maximise) for priority in sorted(levels, reverse=True)]
+
+    def one_goal(self, tokens):
+        """A goal of several, and what its words say of it."""
+        where, goal, said = tokens.where(), lp.Goal(tokens.label()), dict(GOAL_WORDS)
+        if not goal.name:
+            raise Complaint(f"{where}: each of several goals begins with its name and a colon, and here is {tokens.text()!r}")
+        while tokens.kind() == "name" and tokens.kind(1) == "relation":
+            word = tokens.take().lower()
+            if word not in said or tokens.relation() != "=":
+                raise Complaint(f"{where}: {word[:40]} is nothing that a goal says of itself; there are Priority, Weight, AbsTol and RelTol")
+            said[word] = tokens.number()
+        self.find_tolerance(goal, said, where)
+        if tokens.kind(1) != "colon":
+            goal.costs, goal.constant = self.form(tokens)
+        if tokens.kind() and tokens.kind(1) != "colon":
+            raise Complaint(f"{tokens.where()}: {tokens.text()!r} doesn't go on with the goal {goal.name}; a sign is wanting, or Subject To")
+        return goal, said
+
+    def find_tolerance(self, goal, said, where):
+        for word in ("abstol", "reltol"):
+            if abs(said[word]) > UNMEANT:
+                raise Complaint(f"{where}: the goal {goal.name} may be missed by {said[word]} ({word}), and goals are exact here; leave that out")
+            if said[word]:
+                self.program.notes.append(f"{goal.name}: its {word} {said[word]} is taken as 0, since goals are exact")
 
     def rows(self, tokens):
         while tokens.kind():
@@ -281,20 +337,35 @@ class Reader:
         return self.program
 
 
+def joined(goals, maximise):
+    """The goal that goals of one priority are: one alone is itself, turned round where its weight is below 0."""
+    if len(goals) == 1:
+        goal, weight = goals[0]
+        goal.maximise = maximise if weight >= 0 else not maximise
+        return goal if weight else lp.Goal(goal.name, maximise)
+    made, where = lp.Goal(" and ".join(goal.name for goal, _ in goals), maximise), "goals of one priority, by their weights"
+    for goal, weight in goals:
+        made.constant = lp.fitted(made.constant + weight * goal.constant, where)
+        for column, cost in goal.costs.items():
+            made.costs[column] = lp.fitted(made.costs.get(column, 0) + weight * cost, where)
+    return made
+
+
 def read(text, _):
     """The program of a text."""
     reader, sections = Reader(), sections_of(text)
     kinds = [section for section, _ in sections]
     if not kinds:
         raise Complaint("it isn't CPLEX's LP format: nothing stands in it")
-    if kinds[0] not in ("min", "max"):
+    if kinds[0] not in GOALS:
         raise Complaint("it isn't CPLEX's LP format: Minimize or Maximize comes first")
     if kinds[1:2] != ["rows"]:
         raise Complaint("it isn't CPLEX's LP format: Subject To comes behind the goal")
-    if {"min", "max", "rows"} & set(kinds[2:]):
+    if {*GOALS, "rows"} & set(kinds[2:]):
         raise Complaint("it has a second goal, or Subject To twice")
-    reader.program.maximise = kinds[0] == "max"
-    take = {"min": reader.goal, "max": reader.goal, "rows": reader.rows, "bounds": reader.bounds, "whole": reader.whole, "binary": reader.binary, "semi": reader.semi}  # fmt: skip
+    reader.program.goals[0].maximise = kinds[0].startswith("max")
+    take = {kind: reader.goals if "several" in kind else reader.goal for kind in GOALS}
+    take |= {"rows": reader.rows, "bounds": reader.bounds, "whole": reader.whole, "binary": reader.binary, "semi": reader.semi}  # fmt: skip
     for section, tokens in sections:
         if section != "end":
             take[section](Tokens(tokens))

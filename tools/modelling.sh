@@ -9,7 +9,7 @@ trap 'rm -rf "$room"' EXIT
 passed=0
 failed=0
 
-# NAME COMMAND..: runs a part, whose tests Python's unittest counts, and shows what it says where one of them fails.
+# NAME COMMAND..: runs a part, whose tests Python's unittest counts, and shows its tables, and all that it says where a test fails.
 part() {
     local name=$1 counts
     shift
@@ -19,7 +19,7 @@ part() {
         /^FAILED/ { while (match($0, /(failures|errors)=[0-9]+/)) { bad += substr($0, RSTART + index(substr($0, RSTART), "=")); $0 = substr($0, RSTART + RLENGTH) } }
         /^OK/ { ended = 1 }
         END { if (!ended && !bad) bad = 1; print (ran > bad ? ran - bad : 0), bad + 0 }' "$room/log")
-    [ "${counts#* }" -eq 0 ] || cat "$room/log"
+    if [ "${counts#* }" -eq 0 ]; then grep '^| ' "$room/log"; else cat "$room/log"; fi
     echo "$name: ${counts% *} of $((${counts% *} + ${counts#* }))"
     passed=$((passed + ${counts% *}))
     failed=$((failed + ${counts#* }))
@@ -40,6 +40,7 @@ part 'models, results and the program' python3 clients/python/test_models.py
 part "PuLP's own suite, and more" /usr/bin/python3 clients/python/test_pulp.py
 part "AMPL's .nl and .sol" python3 clients/ampl/test_ampl.py
 part 'MiniZinc beside Gecode' python3 clients/minizinc/test_minizinc.py
+part 'what the drivers take' /usr/bin/python3 clients/driver_costs.py
 part 'the package, installed by pip' eval '(installed)'
 echo "$passed passed, $failed failed"
 [ "$failed" -eq 0 ]

@@ -109,7 +109,7 @@ class Reader:
         word = line.strip().upper()
         if word not in SENSES:
             raise Complaint(f"{self.where}: {line.strip()!r} is neither MAX nor MIN")
-        self.program.maximise = SENSES[word]
+        self.program.goals[0].maximise = SENSES[word]
 
     def objname(self, line):
         self.goal = line.strip()
@@ -140,7 +140,7 @@ class Reader:
         for row, text in pairs:
             value = lp.number(text, self.where)
             kind = self.kind_of(row)
-            factors = self.program.costs if row == self.goal else self.rows[row].factors if kind != "N" else {}
+            factors = self.program.goals[0].costs if row == self.goal else self.rows[row].factors if kind != "N" else {}
             if number in factors:
                 raise Complaint(f"{self.where}: a second number for the variable {name} in the row {row}")
             factors[number] = value
@@ -244,11 +244,11 @@ class Reader:
         for row in self.rows.values():
             self.set_row(row)
         self.finish_variables()
-        program.rows, program.goal = list(self.rows.values()), self.goal or ""
+        program.rows, program.goals[0].name = list(self.rows.values()), self.goal or ""
         constant = self.sides.get(self.goal)
         if constant:
             lp.fitted(constant, "the constant of the goal")
-            program.constant = constant if self.is_glpk else -constant
+            program.goals[0].constant = constant if self.is_glpk else -constant
         others = [name for name, kind in self.kinds.items() if kind == "N" and name != self.goal]
         if others:
             program.notes.append(f"rows of the kind N that aren't the goal {self.goal} restrict nothing and are left out: {', '.join(others)}")
@@ -280,7 +280,7 @@ def read(text, flags):
     """The program of a text. Of the flags `--free` says that it is free MPS, `--max` that it is to be maximised, and `--glpk` that
     GLPK wrote it, which gives a constant of the goal with its own sign."""
     reader, seen, section, lines = Reader("--free" in flags, "--glpk" in flags), [], None, text.split("\n")
-    reader.program.maximise = "--max" in flags
+    reader.program.goals[0].maximise = "--max" in flags
     take = {"OBJSENSE": reader.objsense, "OBJNAME": reader.objname, "ROWS": reader.row, "COLUMNS": reader.column, "RHS": reader.side,
             "RANGES": reader.range, "BOUNDS": reader.bound}  # fmt: skip
     for count, whole_line in enumerate(lines, 1):
@@ -318,5 +318,5 @@ def note_glpk(reader, flags):
     notes = reader.program.notes
     if "--max" not in flags:
         notes.append("GLPK wrote it and keeps no sense; give --max where the goal is to be maximised")
-    if reader.program.constant and not reader.is_glpk:
+    if reader.program.goals[0].constant and not reader.is_glpk:
         notes.append("GLPK wrote it, and writes a constant of the goal with its own sign, where MPS has the opposite one; give --glpk")

@@ -50,6 +50,7 @@ CONVERTED = [
      {"row -1 and variable -1": "GLPK doesn't negate the constant"}),
     ("sections.lp", ["lp_to_osil"], None, [], {}),
     ("semi.lp", ["lp_to_osil"], None, [], {}),
+    ("several.lp", ["lp_to_osil"], None, [], {}),
     ("semi.fmps", ["mps_to_osil", "--free"], None, [], {}),
     ("plain.lp", ["lp_to_osil"], ["--lp"], [], {"x is from 0 to 1": "GLPK 5.0 keeps what was said before Binary; its manual (C.5) says that it is dropped"}),
 ]  # fmt: skip
@@ -98,6 +99,9 @@ def facts(instance):
     lines = [f"{'max' if instance.maximise else 'min'} {instance.goal} constant {plain(instance.constant)}"]
     lines += [f"variable {v.name} {ends(v)}" for v in variables] + [f"row {r.name} {ends(r)}" for r in rows]
     lines += [f"cost {variables[j].name} {plain(cost)}" for j, cost in instance.costs.items()]
+    for goal in instance.goals[1:]:
+        lines.append(f"then {'max' if goal.maximise else 'min'} {goal.name} constant {plain(goal.constant)}")
+        lines += [f"cost of {goal.name}: {variables[j].name} {plain(cost)}" for j, cost in goal.costs.items()]
     lines += [f"in {rows[i].name} {variables[j].name} {plain(factor)}" for i, row in enumerate(instance.factors) for j, factor in row.items()]
     return lines
 
@@ -188,6 +192,7 @@ def lines_of(count):
     return "".join(f" x{k} c 1 r 1\n" for k in range(count))
 
 
+SEVERAL = "min multi-objectives\n {}\nst\n c: x >= 1\nend\n"
 # name, tool and flags, text, what the line says
 REFUSED = [
     ("LP as MPS", "mps_to_osil", "Minimize\n x\nEnd\n", "it isn't MPS: line 1 begins with 'Minimize'"),
@@ -246,6 +251,13 @@ REFUSED = [
     ("lost sign", "lp_to_osil", "min\n x +\nst\n c: x >= 2\nend\n", "line 2: a sign stands before nothing"),
     ("second LP row", "lp_to_osil", "min\n x\nst\n c: x >= 2\n c: x <= 5\nend\n", "line 5: a second row c"),
     ("behind End", "lp_to_osil", "min\n x\nst\n c: x >= 2\nend\nbounds\n", "line 6: something stands behind End"),
+    ("a goal without a name", "lp_to_osil", SEVERAL.format("x + y"), "line 2: each of several goals begins with its name and a colon, and here is 'x'"),
+    ("several goals of which none is", "lp_to_osil", SEVERAL.format(""), "it has no goal, and several are announced"),
+    ("a goal's own words", "lp_to_osil", SEVERAL.format("a: Colour=1 x"), "line 2: colour is nothing that a goal says of itself"),
+    ("a goal's missing number", "lp_to_osil", SEVERAL.format("a: Weight=inf x"), "line 2: a number should stand there, and here is 'inf'"),
+    ("a goal that may be missed", "lp_to_osil", SEVERAL.format("a: RelTol=0.05 x"), "line 2: the goal a may be missed by 0.05 (reltol), and goals are exact here"),
+    ("goals that don't end", "lp_to_osil", SEVERAL.format("a: x y"), "line 2: 'y' doesn't go on with the goal a"),
+    ("nine goals", "lp_to_osil", SEVERAL.format(" ".join(f"g{k}: Priority={k} x" for k in range(9))), "too big: 9 goals, and 8 are the most"),
     ("wide LP", "lp_to_osil", "min\n 1e39 x\nst\n c: x >= 2\nend\n", "line 2: 1E+39 passes 128 bits"),
     ("1,001 rows LP", "lp_to_osil", "min\n x\nst\n" + " x >= 1\n" * 1001 + "end\n", "too big: 1,001 rows"),
 ]  # fmt: skip

@@ -6,6 +6,7 @@ import fractions
 import re
 
 NUMBER = re.compile(r"[+-]?\d+(?:/[1-9]\d*)?")
+LONGEST_NUMBER = 4_000  # characters; Python itself reads 4,300 digits
 
 
 class Refused(Exception):
@@ -33,8 +34,8 @@ class Words:
 
     def number(self):
         word = self.next()
-        if not NUMBER.fullmatch(word):
-            raise Refused(f"{word[:40]!r} is no number")
+        if len(word) > LONGEST_NUMBER or not NUMBER.fullmatch(word):
+            raise Refused(f"{word[:40]!r} is no number, or too long")
         return fractions.Fraction(word)
 
     def count(self, most):

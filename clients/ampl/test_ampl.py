@@ -12,7 +12,6 @@ import json
 import os
 import shutil
 import signal
-import socket
 import struct
 import subprocess
 import sys
@@ -26,6 +25,7 @@ sys.path.insert(0, str(Path(__file__).resolve().parents[1] / "python"))
 from gubnatris import Error
 from gubnatris.ampl import main
 from gubnatris.nl import read_nl
+from peers import ending_server, nobody
 
 DRIVER = Path(__file__).resolve().with_name("gubnatris_ampl")
 INF = None
@@ -238,7 +238,7 @@ class Solved(unittest.TestCase):
         with Room(odd.text()) as room:
             begun = time.monotonic()
             room.run("-AMPL", "timelimit=1")
-            self.assertLess(time.monotonic() - begun, 6)
+            self.assertLess(time.monotonic() - begun, 30)  # a machine may have much else to do
             self.assertEqual(room.sol()[5], 400)
             self.assertIn("killed", room.sol()[0])
             Path(room.folder, "tmp").mkdir()
@@ -333,6 +333,8 @@ class Bad(unittest.TestCase):
             (" 0 0 0 0 0\n 12", " 3 4 0 0 0\n 12", "more whole variables than variables"),
             (" 4 3 1 0 0", " 1001 3 1 0 0", "1,001 variables"),
             (" 4 3 1 0 0", " 999999999 3 1 0 0", "999,999,999 variables"),
+            (" 4 3 1 0 0", " 4 999999999 1 0 0", "999,999,999 rows"),
+            (" 4 3 1 0 0", " 4 3 999999999 0 0", "999,999,999 goals"),
         ):
             with self.subTest(wanted):
                 self.assertIn(old, diet().text())
@@ -345,17 +347,27 @@ class Bad(unittest.TestCase):
                     if old == "2 2000" and bad == "Infinity":
                         continue  # an end that isn't there
                     self.refuses(diet().text().replace(old, f"{old[0]} {bad}", 1), wanted)
+        for old, new, wanted in (
+            ("\n2 2000", "\n2 Infinity", "row 0 has an end that is infinity"),
+            ("\n1 70", "\n1 -inf", "row 2 has an end that is minus infinity"),
+            ("\n2 60", "\n4 inf", "row 1 has an end that is infinity"),
+            ("\n0 0 8", "\n0 -inf -inf", "variable 0 has an end that is minus infinity"),
+        ):
+            self.assertIn(old, diet().text())
+            self.refuses(diet().text().replace(old, new, 1), wanted)
+        open_ends = diet().text().replace("\n2 60", "\n2 -Infinity").replace("\n1 70", "\n0 -inf +inf")
+        self.assertEqual([tuple(ends) for ends in read_nl(open_ends.encode()).row_ends], [(2000, None), (None, None), (None, None)])
+        self.refuses(diet().binary().replace(b"2" + struct.pack("<d", 2000.0), b"2" + struct.pack("<d", float("inf"))), "row 0 has an end that is infinity")
         self.refuses(diet().binary().replace(struct.pack("<d", 185.0), struct.pack("<d", float("nan"))), "is no number that a model has")
 
     def test_machines(self):
-        with socket.create_server(("127.0.0.1", 0)) as free:
-            port = free.getsockname()[1]
-        with Room(diet().text()) as room:
+        with ending_server() as url, Room(diet().text()) as room:
             for given, wanted in (
                 ({"OS_PROGRAM": "/none"}, "/none is no program"),
                 ({"OS_PROGRAM": "/bin/false"}, "ended with status 1"),
-                ({"OS_SERVER": f"http://127.0.0.1:{port}"}, "nobody answers"),
+                ({"OS_SERVER": nobody()}, "nobody answers"),
                 ({"OS_SERVER": "nobody"}, "not the URL of a server"),
+                ({"OS_SERVER": url}, "no reply: "),
             ):
                 told = room.run("-AMPL", environment=given)
                 self.assertEqual((told.returncode, told.stderr.count("\n")), (1, 1))

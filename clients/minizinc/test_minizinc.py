@@ -6,9 +6,9 @@
 import contextlib
 import io
 import os
+import re
 import shutil
 import signal
-import socket
 import subprocess
 import sys
 import tempfile
@@ -19,6 +19,7 @@ from pathlib import Path
 HERE = Path(__file__).resolve().parent
 sys.path.insert(0, str(HERE.parent / "python"))
 from gubnatris.flatzinc import main
+from peers import ending_server, nobody
 
 DRIVER = HERE / "gubnatris_fzn"
 MODELS = sorted(HERE.glob("models/*.mzn"))
@@ -85,7 +86,7 @@ class Models(unittest.TestCase):
             begun = time.monotonic()
             found, _ = minizinc("gubnatris", "-t", "2000", f"{folder}/odd.fzn")
             self.assertEqual(found, ["=====UNKNOWN====="])
-            self.assertLess(time.monotonic() - begun, 10)
+            self.assertLess(time.monotonic() - begun, 30)  # a machine may have much else to do
 
 
 class Flat(unittest.TestCase):
@@ -114,9 +115,32 @@ class Flat(unittest.TestCase):
         self.assertNotIn("==========", flat(SMALL.replace("maximize y", "satisfy"))[0])
         self.assertEqual(flat("var float: x;\nsolve maximize x;\n")[0], "=====UNBOUNDED=====\n")
 
+    def test_a_goal_that_an_equation_defines(self):
+        """It is no column and no row of its own; where its ends say more than those of its terms, they count all the same."""
+        text = "var 0..5: x :: output_var;\nvar 0..5: y :: output_var;\nvar {}: cost :: output_var;\nconstraint int_lin_eq([2,3,-1],[x,y,cost],-1);\n{}solve maximize cost;\n"
+        for kind, more, wanted, counts in (
+            ("0..100", "", 26, (2, 0)),
+            ("int", "", 26, (2, 0)),
+            ("0..17", "constraint int_le(3,y);\n", 17, (2, 2)),  # 2 x + 3 y is at most 16, as at 2, 4
+            ("0..100", "constraint int_le(cost,12);\n", 12, (3, 2)),  # another row has it too, so it stays a column
+        ):
+            out, err, status = flat(text.format(kind, more), "-s")
+            found = [int(re.search(rf"^{name} = (.*);$", out, re.M)[1]) for name in ("x", "y", "cost")]
+            told = tuple(int(re.search(rf"mzn-stat: {name}=(.*)$", out, re.M)[1]) for name in ("variables", "propagators"))
+            self.assertEqual((status, err, found[2], 2 * found[0] + 3 * found[1] + 1, told), (0, "", wanted, wanted, counts))
+            self.assertIn(f"mzn-stat: objective={wanted}.0\n", out)
+        out, _, _ = flat("var 0.0..9.0: x;\nvar int: n :: output_var;\nvar float: f;\nconstraint int2float(n,f);\nconstraint float_lin_eq([1.0,-2.0],[f,x],0.5);\nsolve maximize n;\n")
+        self.assertEqual(out, "n = 18;\n----------\n==========\n")  # n is 2 x + 1/2, whole, and x at most 9
+
     def test_sets_with_gaps(self):
         out, _, _ = flat("var {2,5,9}: x :: output_var;\nconstraint int_le(x,8);\nsolve maximize x;\n")
         self.assertEqual(out, "x = 5;\n----------\n==========\n")
+
+    def test_arrays_have_their_own_type(self):
+        text = "var 0..1: i;\nvar bool: b;\nvar 1.0..5.0: f;\nvar 0.0..1.0: g;\nconstraint bool2int(b,i);\nconstraint int_le(1,i);\nconstraint int2float(i,g);\n"
+        for kind, inside, told in (("bool", "b,true,false", "true, true, false"), ("int", "i,7", "1, 7"), ("float", "f,2,g", "1.0, 2.0, 1.0"), ("1..9", "i", "1")):
+            out, _, _ = flat(f"{text}array [1..2] of var {kind}: a :: output_array([1..2]) = [{inside}];\nsolve minimize f;\n")
+            self.assertEqual(out, f"a = array1d(1..2, [{told}]);\n----------\n==========\n")
 
     def test_numbers(self):
         out, _, _ = flat("var 0.0..9.0: x :: output_var;\nconstraint float_le(x,8.800000000000001);\nsolve maximize x;\n")
@@ -140,6 +164,8 @@ class Flat(unittest.TestCase):
             ("1.0,0.5]", "1e99,0.5]", "passes 128 bits"),
             ("var 0..7: x", "var 0..7: x@", "line 2: '@ .*' begins nothing"),
             ("pair :: output_array([1..2]) = [x,3]", "pair", "the array pair has no values"),
+            ("= [x,3]", "= [x,{1,3}]", "line 6: the array pair is to be told, and has what is no number"),
+            ("maximize y", "maximize c", "line 10: a number should stand there"),
         ):
             with self.subTest(new):
                 self.assertIn(old, SMALL)
@@ -161,15 +187,14 @@ class Flat(unittest.TestCase):
             out, err, status = flat(SMALL, *words)
             self.assertEqual((out, status), ("=====ERROR=====\n", 1))
             self.assertRegex(err, wanted)
-        with socket.create_server(("127.0.0.1", 0)) as free:
-            port = free.getsockname()[1]
-        with tempfile.TemporaryDirectory() as folder:
+        with ending_server() as url, tempfile.TemporaryDirectory() as folder:
             Path(folder, "a.fzn").write_text(SMALL, encoding="utf-8")
             for given, wanted in (
                 ({"OS_PROGRAM": "/none"}, "/none is no program"),
                 ({"OS_PROGRAM": "/bin/false"}, "ended with status 1"),
-                ({"OS_SERVER": f"http://127.0.0.1:{port}"}, "nobody answers"),
+                ({"OS_SERVER": nobody()}, "nobody answers"),
                 ({"OS_SERVER": "nobody"}, "not the URL of a server"),
+                ({"OS_SERVER": url}, "no reply: "),
             ):
                 made = subprocess.run([DRIVER, f"{folder}/a.fzn"], capture_output=True, text=True, check=False, env={**os.environ, **given})
                 self.assertEqual((made.stdout, made.returncode, made.stderr.count("\n")), ("=====ERROR=====\n", 1, 1))

@@ -5,6 +5,7 @@
 What is expected is worked out from the models: by hand, by their duals' own sums, or by GLPK.
 """
 
+import base64
 import csv
 import doctest
 import io
@@ -14,13 +15,13 @@ import os
 import random
 import re
 import signal
-import socket
 import subprocess
 import sys
 import tempfile
-import threading
 import time
 import unittest
+import unittest.mock
+import warnings
 from decimal import Decimal
 from fractions import Fraction
 from pathlib import Path
@@ -29,6 +30,7 @@ from gubnatris import (
     BadModel, Error, Model, NoProgram, NoReply, NotInstance, NotOffered, NotSent, Program, ProgramFailed, Refused, Server, names, read_result, solver,
 )  # fmt: skip
 from gubnatris.instances import read_instance
+from peers import ending_server
 
 ROOT = Path(__file__).resolve().parents[2]
 DIET, BUDGET = ROOT / "examples/diet.osil", ROOT / "examples/capital_budget.osil"
@@ -249,7 +251,7 @@ class Programs(unittest.TestCase):
             try:
                 begun = time.monotonic()
                 result = Program().solve(odd_sums(), node_limit=1_000_000, turn_limit=100_000_000, seconds=0.5)
-                self.assertLess(time.monotonic() - begun, 10)
+                self.assertLess(time.monotonic() - begun, 30)  # a machine may have much else to do
                 self.assertEqual(result.cause, "killed")
                 with self.assertRaises(Refused):
                     Program().solve("<osil/>", seconds=5)
@@ -284,12 +286,29 @@ class Programs(unittest.TestCase):
             Program().solve("<osil>\ud800</osil>")
 
     def test_a_server_that_ends_within_a_call(self):
-        with socket.create_server(("127.0.0.1", 0)) as listener:
-            thread = threading.Thread(target=lambda: listener.accept()[0].close())
-            thread.start()
+        with ending_server() as url, self.assertRaises(NoReply):
+            Server(url, seconds=20).solve(DIET)
+
+    def test_a_build_that_comes_first_is_told(self):
+        with tempfile.TemporaryDirectory() as folder:
+            script = Path(folder, "os")
+            script.write_text(f"#!/bin/sh\ncat '{DIET.with_suffix('.osrl')}'\n", encoding="utf-8")
+            script.chmod(0o755)
+            Path(folder, "crates.txt").touch()
+            with self.assertWarnsRegex(UserWarning, "first proves and builds the program"):
+                self.assertEqual(Program(script).solve(DIET).objective, Fraction(552, 275))
+            Path(folder, "crates/os_main/out").mkdir(parents=True)
+            Path(folder, "crates/os_main/out/os_main").touch()
+            with warnings.catch_warnings():
+                warnings.simplefilter("error")
+                Program(script).solve(DIET)
+
+    def test_user_and_password_are_those_of_the_environment(self):
+        heard = []
+        with ending_server(heard) as url, unittest.mock.patch.dict(os.environ, {"OS_SERVER": url, "OS_USER": "ann", "OS_PASSWORD": "p:q"}):
             with self.assertRaises(NoReply):
-                Server(f"http://127.0.0.1:{listener.getsockname()[1]}", seconds=20).solve(DIET)
-            thread.join()
+                solver().solve(DIET)
+        self.assertIn(b"\r\nAuthorization: Basic " + base64.b64encode(b"ann:p:q") + b"\r\n", heard[0])
 
     def test_where_it_is(self):
         kept = dict(os.environ)

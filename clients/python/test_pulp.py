@@ -10,7 +10,6 @@ import contextlib
 import io
 import math
 import os
-import socket
 import sys
 import tempfile
 import time
@@ -24,6 +23,7 @@ from pulp.tests.test_pulp import BaseSolverTest, pulpTestCheck
 
 sys.path.insert(0, os.path.dirname(os.path.abspath(__file__)))
 from gubnatris_pulp import GUBNATRIS
+from peers import ending_server, nobody
 
 
 class Suite(BaseSolverTest.PuLPTest):
@@ -81,7 +81,7 @@ class LeftOut(unittest.TestCase):
             problem += pulp.lpSum(2 * (1 + (j * (k + 3) + k) % 7) * x for j, x in enumerate(chosen)) == 2 * k + 1
         begun = time.monotonic()
         problem.solve(GUBNATRIS(msg=False, timeLimit=2))
-        self.assertLess(time.monotonic() - begun, 6)
+        self.assertLess(time.monotonic() - begun, 30)  # a machine may have much else to do
         self.assertIn((problem.status, problem.sol_status), ((1, 2), (0, 0)))
         self.assertEqual(problem.solverModel.cause, "killed")
 
@@ -197,10 +197,10 @@ class Bad(unittest.TestCase):
         self.refuses("/none/os_main is no program", problem, path="/none/os_main")
         self.assertFalse(GUBNATRIS(path="/none/os_main").available())
         self.refuses("ended with status 1", problem, path="/bin/false")
-        with socket.create_server(("127.0.0.1", 0)) as free:
-            port = free.getsockname()[1]
-        self.refuses("nobody answers", problem, server=f"http://127.0.0.1:{port}")
+        self.refuses("nobody answers", problem, server=nobody())
         self.refuses("not the URL of a server", problem, server="nobody")
+        with ending_server() as url:
+            self.refuses("no reply: ", problem, server=url)
 
     def test_nothing_is_left(self):
         problem, (x, _, _) = first_problem()

@@ -12,7 +12,6 @@ import signal
 import sys
 from dataclasses import dataclass, field
 from fractions import Fraction
-from importlib import metadata
 from pathlib import Path
 from typing import Optional
 
@@ -87,6 +86,8 @@ class Answer:
 
 
 def version() -> str:
+    from importlib import metadata  # only where it is asked for: it takes as long to read as the whole package
+
     try:
         return metadata.version("gubnatris")
     except metadata.PackageNotFoundError:

@@ -56,6 +56,7 @@ class FlatVariable:
         self.values: list[Fraction] = []
         self.tied: Optional[FlatVariable] = None
         self.column: Optional[Variable] = None
+        self.form: Optional[Form] = None
 
     def root(self) -> FlatVariable:
         at = self
@@ -63,13 +64,38 @@ class FlatVariable:
             at = at.tied
         return at
 
+    def value_at(self, values: tuple[Fraction, ...]) -> Fraction:
+        """Its value where the columns have these."""
+        form = self.root().form
+        return values[_column(self).number] if form is None else form.constant + sum(factor * it.value_at(values) for it, factor in form.terms)
+
+
+class Form(NamedTuple):
+    """What a variable is that has no column of its own: a sum of others and a constant."""
+
+    terms: list[tuple[FlatVariable, Fraction]]
+    constant: Fraction
+
+    def is_whole(self) -> bool:
+        """Whether it is whole wherever its variables are."""
+        return self.constant.denominator == 1 and all(it.root().kind != "float" and factor.denominator == 1 for it, factor in self.terms)
+
+    def least(self) -> Optional[Fraction]:
+        """A number that it isn't below, by the ends of its variables; none where they have none."""
+        ends = [(it.root().low if factor > 0 else it.root().high, factor) for it, factor in self.terms if factor]
+        return None if any(end is None for end, _ in ends) else self.constant + sum(factor * end for end, factor in ends if end is not None)
+
+    def negative(self) -> Form:
+        return Form([(it, -factor) for it, factor in self.terms], -self.constant)
+
 
 class Output(NamedTuple):
-    """What is told of a solution: a variable or an array, with its dimensions."""
+    """What is told of a solution: a variable or an array, with its dimensions and the type of what stands in it."""
 
     name: str
     value: Value
     dimensions: list[str]
+    kind: str
 
 
 class Tokens:
@@ -232,7 +258,7 @@ class Flat:
         self.variables.append(made)
         self.keep(made.name, made)
         if "output_var" in self.annotations():
-            self.outputs.append(Output(made.name, made, []))
+            self.outputs.append(Output(made.name, made, [], kind))
         if tokens.has("="):
             self.row([(made, Fraction(1)), (self.value(), Fraction(-1))], "=", Fraction(0), "its value")
 
@@ -243,18 +269,20 @@ class Flat:
         while tokens.take() != "]":
             pass
         tokens.take("of")
-        is_set = False
+        words = []
         while tokens.peek() != ":":
-            is_set |= tokens.take() == "set"
+            words.append(tokens.take())
         tokens.take(":")
         name, told = tokens.take(), self.annotations()
         value = self.value() if tokens.has("=") else None
         if not isinstance(value, list):
             raise BadFlat(f"{tokens.where()}: the array {name[:40]} has no values")
-        self.keep(name, None if is_set else value)
+        self.keep(name, None if "set" in words else value)
         if "output_array" in told:
-            words = "".join(word for word in told["output_array"] if word not in "[]()")
-            self.outputs.append(Output(name, value, words.split(",")))
+            if not all(isinstance(it, (FlatVariable, Fraction)) for it in value):
+                raise BadFlat(f"{tokens.where()}: the array {name[:40]} is to be told, and has what is no number and no variable")
+            dimensions = "".join(word for word in told["output_array"] if word not in "[]()").split(",")
+            self.outputs.append(Output(name, value, dimensions, "bool" if "bool" in words else "float" if "float" in words else "int"))
 
     def parameter(self) -> None:
         tokens = self.tokens
@@ -274,7 +302,8 @@ class Flat:
         if self.sense not in ("satisfy", "minimize", "maximize"):
             raise BadFlat(f"{self.tokens.where()}: {self.sense[:20]!r} is nothing to solve")
         if self.sense != "satisfy":
-            self.goal = self.value()
+            goal = self.value()
+            self.goal = goal if isinstance(goal, FlatVariable) else self.as_number(goal)
 
     def constraint(self) -> None:
         tokens = self.tokens
@@ -327,9 +356,10 @@ class Flat:
     # The model
 
     def model(self) -> Model:
+        self.define_goal()
         model = Model()
         for it in self.variables:
-            if it.tied is None:
+            if it.tied is None and it.form is None:
                 it.column = model.variable(it.name, it.low, it.high, whole=it.kind != "float")
         for it in self.variables:
             it.column = it.root().column
@@ -338,10 +368,34 @@ class Flat:
         for terms, relation, side, name in self.rows:
             model.row([(_column(it), factor) for it, factor in terms], side if relation == "=" else None, side, name)
         if self.sense != "satisfy":
-            terms = {_column(self.goal): 1} if isinstance(self.goal, FlatVariable) else {}
-            constant = self.goal if isinstance(self.goal, Fraction) else 0
-            (model.maximise if self.sense == "maximize" else model.minimise)(terms, constant, "goal")
+            form = self.goal_form()
+            goal = model.maximise if self.sense == "maximize" else model.minimise
+            goal([(_column(it), factor) for it, factor in form.terms], form.constant, "goal")
         return model
+
+    def goal_form(self) -> Form:
+        if not isinstance(self.goal, FlatVariable):
+            return Form([], self.as_number(self.goal))
+        return self.goal.root().form or Form([(self.goal, Fraction(1))], Fraction(0))
+
+    def define_goal(self) -> None:
+        """Takes the goal's variable out, where one equation alone has it: MiniZinc makes a variable of each goal, and searches take much longer
+        over an equation that has as many terms as the goal. Its ends stay as rows where those of its terms don't imply them."""
+        goal = self.goal.root() if isinstance(self.goal, FlatVariable) else None
+        holding = [row for row in self.rows if any(it.root() is goal for it, _ in row[0])]
+        if goal is None or len(holding) != 1 or holding[0][1] != "=" or any(it.values and it.root() is goal for it in self.variables):
+            return
+        terms, _, side, name = holding[0]
+        own = sum((factor for it, factor in terms if it.root() is goal), Fraction(0))
+        form = Form([(it, -factor / own) for it, factor in terms if it.root() is not goal], side / own) if own else None
+        if form is None or (goal.kind != "float" and not form.is_whole()):
+            return
+        goal.form = form
+        self.rows.remove(holding[0])
+        for each, end in ((form.negative(), None if goal.low is None else -goal.low), (form, goal.high)):
+            least = each.negative().least()
+            if end is not None and (least is None or -least > end):
+                self.rows.append((each.terms, "<", end - each.constant, name))
 
 
 def _column(variable: FlatVariable) -> Variable:
@@ -356,24 +410,23 @@ def _add_choice(model: Model, variable: FlatVariable) -> None:
     model.row([*zip(ones, variable.values), (_column(variable), -1)], 0, 0, f"{variable.name} is which")
 
 
-def shown(variable: Value, values: tuple[Fraction, ...]) -> str:
-    """A value as FlatZinc has it: of a float a float, of a bool true or false."""
-    if not isinstance(variable, FlatVariable):
-        return str(variable) if isinstance(variable, Fraction) and variable.denominator == 1 else repr(float(variable))  # type: ignore[arg-type]
-    value = values[_column(variable).number]
-    if variable.kind == "bool":
+def shown(told: Value, kind: str, values: tuple[Fraction, ...]) -> str:
+    """A variable's value, or a number, as FlatZinc has what is of this type: of a float a float, of a bool true or false."""
+    value = told.value_at(values) if isinstance(told, FlatVariable) else told
+    assert isinstance(value, Fraction)
+    if kind == "bool":
         return "true" if value else "false"
-    return repr(float(value)) if variable.kind == "float" else str(value)
+    return str(value) if kind == "int" and value.denominator == 1 else repr(float(value))
 
 
 def solution(flat: Flat, values: tuple[Fraction, ...]) -> list[str]:
     lines = []
     for output in flat.outputs:
         if isinstance(output.value, list):
-            inside = ", ".join(shown(it, values) for it in output.value)
+            inside = ", ".join(shown(it, output.kind, values) for it in output.value)
             lines.append(f"{output.name} = array{len(output.dimensions)}d({', '.join(output.dimensions)}, [{inside}]);")
         else:
-            lines.append(f"{output.name} = {shown(output.value, values)};")
+            lines.append(f"{output.name} = {shown(output.value, output.kind, values)};")
     return [*lines, "----------"]
 
 

@@ -6,6 +6,7 @@ the shortest decimals that read back.
 
 from __future__ import annotations
 
+import math
 import re
 import struct
 from decimal import Decimal
@@ -133,11 +134,11 @@ class TextFeed:
             raise BadFile(f"{self.where()}: {word[:40]!r} is no number")
         return exact(Decimal(word), self.where())
 
-    def end(self) -> Optional[Fraction]:
-        if self.words and self.words[0].lower().lstrip("+-") in ("inf", "infinity"):
-            self.words.pop(0)
-            return None
-        return self.number()
+    def infinite(self) -> int:
+        """Takes an infinity, where one stands there, and gives its sign; else 0."""
+        if not self.words or self.words[0].lower().lstrip("+-") not in ("inf", "infinity"):
+            return 0
+        return -1 if self.words.pop(0).startswith("-") else 1
 
     def short(self) -> Fraction:
         return self.number()
@@ -184,9 +185,13 @@ class BinaryFeed:
     def number(self) -> Fraction:
         return exact(float(self.take("d")), self.where())
 
-    def end(self) -> Optional[Fraction]:
-        found = float(self.take("d"))
-        return None if found in (float("inf"), float("-inf")) else exact(found, self.where())
+    def infinite(self) -> int:
+        """Takes an infinity, where one stands there, and gives its sign; else 0."""
+        before, found = self.at, float(self.take("d"))
+        if math.isinf(found):
+            return 1 if found > 0 else -1
+        self.at = before
+        return 0
 
     def short(self) -> Fraction:
         return Fraction(int(self.take("h")))
@@ -216,8 +221,8 @@ def read_nl(data: bytes) -> NlProgram:
     if not lines[0] or lines[0][0][0] not in "gb":
         raise BadFile(_no_nl(data))
     counts = [_counts(words, number) for number, words in enumerate(lines[1:], 2)]
+    _find_beyond(counts)
     program = NlProgram([lines[0][0][1:], *lines[0][1:]], counts)
-    _find_beyond(program, counts)
     is_text = lines[0][0][0] == "g"
     order = ">" if counts[4][2:3] == [2] else "<"
     _Reader(program, TextFeed(data, begin) if is_text else BinaryFeed(data, begin, order)).read()
@@ -235,15 +240,18 @@ def _counts(words: list[str], number: int) -> list[int]:
     return [int(word) for word in words] + [0] * (8 - len(words))
 
 
-def _find_beyond(program: NlProgram, counts: list[list[int]]) -> None:
+def _find_beyond(counts: list[list[int]]) -> None:
+    """Raises where the header tells of more than any file may hold, before there is room made for it."""
+    variables, rows, goals = counts[0][:3]
     for found, most, what in (
-        (program.variables, MOST_COLUMNS, "variables"),
-        (program.rows, MOST_COLUMNS, "rows"),
-        (program.values, MOST_VALUES, "values in the rows"),
+        (variables, MOST_COLUMNS, "variables"),
+        (rows, MOST_COLUMNS, "rows"),
+        (goals, MOST_COLUMNS, "goals"),
+        (counts[6][0], MOST_VALUES, "values in the rows"),
     ):
         if found > most:
             raise BadFile(f"it is too big: {found:,} {what}, and {most:,} are the most")
-    if program.binaries + program.integers > program.variables:
+    if sum(counts[5][:2]) > variables:
         raise BadFile("its header has more whole variables than variables")
     if counts[0][5]:
         raise BadFile("it has logical constraints, which aren't part of a linear program")
@@ -311,16 +319,21 @@ class _Reader:
     def ends(self, of: str) -> Ends:
         self.feed.line()
         code = self.feed.code()
-        if code == 0:
-            low, high = self.feed.end(), self.feed.end()
-        elif code in (1, 2, 4):
-            end = self.feed.end()
-            low, high = None if code == 1 else end, None if code == 2 else end
-        elif code == 3:
-            low = high = None
+        if code == 4:
+            low = high = self.end(0, of)
+        elif code in (0, 1, 2, 3):
+            low = self.end(-1, of) if code in (0, 2) else None
+            high = self.end(1, of) if code in (0, 1) else None
         else:
             raise BadFile(f"{self.feed.where()}: {of} {'is a complementarity, which is not linear' if code == 5 else f'has ends of kind {code}'}")
         return Ends(low, high)
+
+    def end(self, infinity: int, of: str) -> Optional[Fraction]:
+        """An end, none where it is the infinity of this sign: a lower one's is -1, an upper one's 1, and where both are one there is none."""
+        sign = self.feed.infinite()
+        if sign and sign != infinity:
+            raise BadFile(f"{self.feed.where()}: {of} has an end that is {'minus ' if sign < 0 else ''}infinity, which no value reaches")
+        return None if sign else self.feed.number()
 
     def row_ends(self) -> None:
         self.once("segment r")

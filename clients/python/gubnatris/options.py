@@ -3,9 +3,9 @@
 from __future__ import annotations
 
 from typing import Optional
-from xml.sax.saxutils import escape, quoteattr
 
 from .errors import NotOffered
+from .writing import escaped, quoted
 
 MOST_NODES, MOST_TURNS = 1_000_000, 100_000_000  # what an option may set at most
 
@@ -14,9 +14,9 @@ def options_text(
     job: Optional[str] = None, node_limit: Optional[int] = None, turn_limit: Optional[int] = None, rounds: Optional[int] = None
 ) -> str:
     """The options, or the empty text where there are none."""
-    named = f"<general><jobID>{escape(job)}</jobID></general>" if job is not None else ""
+    named = f"<general><jobID>{escaped(job)}</jobID></general>" if job is not None else ""
     limits = [("nodeLimit", node_limit), ("pivotLimit", turn_limit), ("rounds", rounds)]
-    set_ones = "".join(f"<solverOption name={quoteattr(name)} value={quoteattr(str(limit))}/>" for name, limit in limits if limit is not None)
+    set_ones = "".join(f"<solverOption name={quoted(name)} value={quoted(str(limit))}/>" for name, limit in limits if limit is not None)
     limited = f"<optimization><solverOptions>{set_ones}</solverOptions></optimization>" if set_ones else ""
     return f'<osol xmlns="os.optimizationservices.org">{named}{limited}</osol>' if named or limited else ""
 

@@ -9,6 +9,8 @@ import signal
 import socket
 import subprocess
 import tempfile
+import threading
+import warnings
 from pathlib import Path
 from typing import Callable, Iterator, Optional, Union
 
@@ -89,8 +91,9 @@ class Program:
     def _begun(self, *words: str, errors: Optional[int] = None) -> Iterator[subprocess.Popen[bytes]]:
         """The program while it runs; it is ended where this is left. A signal that comes while it is begun waits, so that it isn't lost sight of."""
         process = None
+        _warn_of_build(Path(self.path))
         try:
-            with _held_signals() as let_go:
+            with held_signals() as let_go:
                 process = subprocess.Popen(
                     [self.path, *words], stdin=subprocess.DEVNULL, stdout=subprocess.PIPE, stderr=errors, preexec_fn=let_go
                 )
@@ -147,12 +150,32 @@ def _found(path: Union[str, Path, None]) -> str:
     raise NoProgram("there is no program: set OS_PROGRAM to it, put gubnatris on the PATH, or name a server by OS_SERVER")
 
 
+def _warn_of_build(path: Path) -> None:
+    """Warns where the program is `./os` of a checkout that has none built yet, since nothing is seen of that build."""
+    if path.name == "os" and (path.parent / "crates.txt").is_file() and not (path.parent / "crates/os_main/out/os_main").is_file():
+        warnings.warn(f"{path} first proves and builds the program, which takes many minutes; OS_PROGRAM names one that is there", stacklevel=2)
+
+
+@contextlib.contextmanager
+def used_folder(prefix: str) -> Iterator[str]:
+    """A folder, while it is used. Signals wait while it is made and while it is removed, so that neither is left half done."""
+    made: Optional[tempfile.TemporaryDirectory[str]] = None
+    try:
+        with held_signals():
+            made = tempfile.TemporaryDirectory(prefix=prefix)
+        yield made.name
+    finally:
+        if made:
+            with held_signals():
+                made.cleanup()
+
+
 @contextlib.contextmanager
 def _files(**texts: str) -> Iterator[str]:
     """A folder with these texts, while it is used."""
     with contextlib.ExitStack() as stack:
         try:
-            folder = stack.enter_context(tempfile.TemporaryDirectory(prefix="gubnatris-"))
+            folder = stack.enter_context(used_folder("gubnatris-"))
             for name, text in texts.items():
                 Path(folder, name).write_text(text, encoding="utf-8", newline="")
         except (OSError, UnicodeEncodeError) as failure:
@@ -161,9 +184,10 @@ def _files(**texts: str) -> Iterator[str]:
 
 
 @contextlib.contextmanager
-def _held_signals() -> Iterator[Optional[Callable[[], object]]]:
-    """While this is used signals wait; what it gives lets them go, for a child that would inherit that. Nothing waits where signals can't."""
-    if not hasattr(signal, "pthread_sigmask"):
+def held_signals() -> Iterator[Optional[Callable[[], object]]]:
+    """While this is used signals wait; what it gives lets them go, for a child that would inherit that. Nothing waits where signals can't,
+    nor beside the main thread, which alone they interrupt."""
+    if not hasattr(signal, "pthread_sigmask") or threading.current_thread() is not threading.main_thread():
         yield None
         return
     before = signal.pthread_sigmask(signal.SIG_BLOCK, INTERRUPTS)

@@ -8,7 +8,6 @@ import socket
 import time
 import urllib.parse
 from typing import TYPE_CHECKING, NamedTuple, Optional
-from xml.sax.saxutils import escape
 
 from .errors import Error, Fault, NoReply, NotFinished, NotReached, NotSent, Status, TimedOut
 from .limits import MOST_DOCUMENT
@@ -16,7 +15,7 @@ from .options import find_not_offered, options_text
 from .results import Result, read_of_job, refusal, state_of
 from .sources import Given, Source, source_of
 from .trees import below, local, only, parsed, text_in
-from .writing import NO_XML
+from .writing import NO_XML, escaped
 
 if TYPE_CHECKING:
     import ssl
@@ -280,7 +279,7 @@ def _envelope(call: str, parts: dict[str, str]) -> bytes:
         wrong = NO_XML.search(text)
         if wrong:
             raise NotSent(f"character {wrong.start()} of the {name} is none of XML: {wrong.group()!r}")
-        inner += f"<{name}>{_section(text) if name == 'osil' else escape(text)}</{name}>"
+        inner += f"<{name}>{_section(text) if name == 'osil' else escaped(text)}</{name}>"
     return (
         '<soap:Envelope xmlns:soap="http://schemas.xmlsoap.org/soap/envelope/"><soap:Body>'
         f'<{call} xmlns="os.optimizationservices.org">{inner}</{call}></soap:Body></soap:Envelope>'

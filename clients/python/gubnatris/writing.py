@@ -4,9 +4,24 @@ from __future__ import annotations
 
 import re
 from typing import Iterable, NamedTuple, Optional
-from xml.sax.saxutils import escape, quoteattr
 
 NO_XML = re.compile("[^\t\n\r\u0020-\ud7ff\ue000-\ufffd\U00010000-\U0010ffff]")
+
+
+# What stands for these characters in XML. `xml.sax.saxutils` has it too, but imports what calls servers by their URLs, TLS with it, and a
+# driver is begun anew for each model.
+_TEXT = str.maketrans({"&": "&amp;", "<": "&lt;", ">": "&gt;"})
+_VALUE = _TEXT | str.maketrans({'"': "&quot;", "\t": "&#9;", "\n": "&#10;", "\r": "&#13;"})
+
+
+def escaped(text: str) -> str:
+    """A text as it stands between tags."""
+    return text.translate(_TEXT)
+
+
+def quoted(text: str) -> str:
+    """A text as the value of an attribute."""
+    return f'"{text.translate(_VALUE)}"'
 
 
 class VariableText(NamedTuple):
@@ -40,7 +55,7 @@ def osil_text(name: str, variables: list[VariableText], goals: list[GoalText], r
     """The document."""
     parts = [
         '<?xml version="1.0" encoding="UTF-8"?>\n<osil xmlns="os.optimizationservices.org">\n',
-        f"<instanceHeader><name>{escape(name)}</name></instanceHeader>\n<instanceData>\n",
+        f"<instanceHeader><name>{escaped(name)}</name></instanceHeader>\n<instanceData>\n",
         f'<variables numberOfVariables="{len(variables)}">\n',
         *(f"<var{_named(it.name)} type=\"{it.kind}\"{_ends(it.low, it.high)}/>\n" for it in variables),
         f'</variables>\n<objectives numberOfObjectives="{len(goals)}">\n',
@@ -55,7 +70,7 @@ def osil_text(name: str, variables: list[VariableText], goals: list[GoalText], r
 
 
 def _named(name: str) -> str:
-    return f" name={quoteattr(name)}" if name else ""
+    return f" name={quoted(name)}" if name else ""
 
 
 def _ends(low: Optional[str], high: Optional[str]) -> str:
