@@ -47,6 +47,7 @@ InactiveLimit=0
 KillWait=5
 SlurmctldTimeout=30
 SlurmdTimeout=30
+MessageTimeout=60
 {nodes}
 PartitionName=main Nodes=ALL Default=YES MaxTime=INFINITE State=UP
 """
@@ -107,7 +108,7 @@ class Cluster:
         ran = subprocess.run(words, capture_output=True, text=True, env=os.environ | self.environment, check=False)
         return ran.stdout
 
-    def wait_until(self, is_so, what, seconds=60):
+    def wait_until(self, is_so, what, seconds=300):
         limit = time.monotonic() + seconds
         while not is_so():
             ended = [name for name, process in self.processes.items() if process.poll() is not None]

@@ -20,7 +20,8 @@ from part_workers import free_port
 PROGRAM = os.environ["OS_PROGRAM"]
 MANY = "deploy/slurm/solve_many"
 EXAMPLES = ("diet", "knapsack", "transport", "infeasible_schedule", "capital_budget")
-LIMIT = 300
+LIMIT = 900  # seconds that one command may take, on a machine with much other work
+LEAST_SHARE = 0.9  # of the processors' time through Slurm that the solves alone take
 
 
 class Trial:
@@ -59,6 +60,11 @@ class Trial:
         return self.run(PROGRAM, "check", osil, osrl).stdout.strip()
 
 
+def result_of(where, name):
+    with open(f"{where}/{name.removesuffix('.osil')}.osrl", encoding="utf-8") as file:
+        return file.read()
+
+
 def results(where):
     return {name: os.stat(f"{where}/{name}").st_mtime_ns for name in os.listdir(where) if name.endswith(".osrl")}
 
@@ -76,7 +82,9 @@ def many_files(trial, count):
     trial.is_so(f"{count} files: {ran.stdout.strip().partition(';')[0]}", ran.returncode == 0 and len(results(where)) == count)
     trial.is_so(f"{len(lines)} lines of a table, one of them refused", len(lines) == count and [row[0] for row in lines if row[1].startswith("refused")] == [f"{count:05}.osil"])
     told = [(row[1], trial.check(f"{where}/{row[0]}", f"{where}/{row[0].removesuffix('.osil')}.osrl")) for row in lines[:40]]
-    trial.is_so("the check accepts what the lines say, of 40", all(line == f"accepted {status}" for status, line in told))
+    trial.is_so("the check accepts what the lines say, of 40", len(told) == 40 and all(line == f"accepted {status}" for status, line in told))
+    differ = [row[0] for row in [*lines[:20], lines[-1]] if trial.run(PROGRAM, "solve", f"{where}/{row[0]}").stdout != result_of(where, row[0])]
+    trial.is_so(f"each result is what one solve writes, of 21: {len(differ)} aren't", not differ)
     again = trial.run(MANY, where)
     trial.is_so("a second run has nothing to do, and the table stays", again.returncode == 0 and table(where) == lines)
     trial.is_so("nothing else is left beside the files", not [name for name in os.listdir(where) if name.endswith((".begun", ".line"))])
@@ -85,7 +93,7 @@ def many_files(trial, count):
 def interrupted(trial, count):
     """A run that is killed, with its tasks: a second one goes on behind it."""
     where = trial.files("interrupted", count, 20)
-    process, limit = trial.start(MANY, where, "--tasks", "2"), time.monotonic() + 60
+    process, limit = trial.start(MANY, where, "--tasks", "2"), time.monotonic() + LIMIT
     while len(results(where)) < count // 10 and time.monotonic() < limit:
         time.sleep(0.02)
     process.kill()
@@ -101,16 +109,17 @@ def interrupted(trial, count):
 
 
 def lost_node(trial, count):
-    """A daemon that dies with its tasks: Slurm gives them to the other one, or a second run does."""
-    where = trial.files("lost", count)
-    process, limit = trial.start(MANY, where), time.monotonic() + 60
+    """A daemon that dies with its tasks: Slurm gives them to the other one, or they are submitted again."""
+    where = trial.files("lost", count, 20)
+    process, limit = trial.start(MANY, where), time.monotonic() + LIMIT
     while not results(where) and time.monotonic() < limit:
         time.sleep(0.02)
+    before = len(results(where))
     trial.cluster.kill("n2")
     trial.cluster.start_daemon("n2")
     status = process.wait(timeout=LIMIT)
     ran = trial.run(MANY, where)
-    trial.is_so(f"a daemon was killed and started: {ran.stdout.partition(';')[0]} (the first run ended with {status})", ran.returncode == 0 and len(results(where)) == count)
+    trial.is_so(f"a daemon was killed behind {before} files, and started: {ran.stdout.partition(';')[0]} (the first run ended with {status})", before < count and status == 0 and ran.returncode == 0 and len(results(where)) == count)
 
 
 def bad_words(trial):
@@ -138,7 +147,7 @@ def parts_of_one(trial):
     """One program by array tasks, one of which is taken away; the tool is killed once, and goes on."""
     path, output = instance(trial, "apart", programs.fixed_charge(9, 12)), f"{trial.folder}/apart.osrl"
     words = ("tools/solve_apart", path, "--slurm", "--share", "20", "--output", output)
-    process, limit = trial.start(*words), time.monotonic() + 60
+    process, limit = trial.start(*words), time.monotonic() + LIMIT
     while not trial.cluster.told("squeue", "-h", "-t", "R") and time.monotonic() < limit:
         time.sleep(0.05)
     process.kill()
@@ -154,25 +163,29 @@ def parts_of_one(trial):
     trial.is_so("no task is left, and no folder", not trial.cluster.told("squeue", "-h") and not os.path.exists(f"{path}.parts"))
 
 
+def alone(path):
+    """The processor's seconds of one solve, as a process of its own."""
+    actions = [(os.POSIX_SPAWN_OPEN, 1, os.devnull, os.O_WRONLY, 0)]
+    _, _, usage = os.wait4(os.posix_spawn(PROGRAM, [PROGRAM, "solve", path], os.environ, file_actions=actions), 0)
+    return usage.ru_utime + usage.ru_stime
+
+
 def measured(trial, count):
-    """The processors' seconds that so many files take by themselves, and through Slurm with all that it takes itself."""
+    """The processors' seconds of so many solves alone, and of the same files through Slurm with all that it, its daemons' start and its tasks take."""
     where = trial.files("measured", count)
-    with open(f"{trial.folder}/names", "w", encoding="utf-8") as file:
-        file.write("".join(f"{name}\n" for name in sorted(os.listdir(where))))
-    before = trial.cluster.spent()
-    alone = [trial.start("deploy/slurm/solve_files", where, f"{trial.folder}/names", str(task), "4") for task in range(4)]
-    for process in alone:
-        process.wait()
-    direct = trial.cluster.spent() - before
-    for name in results(where):
-        os.remove(f"{where}/{name}")
-    begun, before = time.monotonic(), Cluster.spent()
+    own = sum(alone(f"{where}/{name}") for name in sorted(os.listdir(where)))
+    before = Cluster.spent()
     with Cluster([free_port() for _ in range(3)]) as cluster:
+        begun, processors = time.monotonic(), cluster.count * cluster.processors
         ran = subprocess.run([MANY, where], env=os.environ | cluster.environment, capture_output=True, text=True, check=False)
+        clock = time.monotonic() - begun
         of_daemons = {name: round(cluster.processor_seconds(process), 1) for name, process in cluster.processes.items()}
-    through, clock = Cluster.spent() - before, time.monotonic() - begun
-    print(f"{count} files: {direct:.1f} s of processors by themselves, {through:.1f} s through Slurm, {direct / through:.2f} of them; {clock:.0f} s of the clock; of Slurm's own {of_daemons}")
+    through = Cluster.spent() - before
+    sessions = sum(float(row[3]) for row in table(where))
+    print(f"{count} files: {own:.1f} s of processors for the solves alone, each a process; {through:.1f} s through Slurm, {sessions:.1f} of them solving, of Slurm's own {of_daemons}")
+    print(f"the solves alone take {own / through:.2f} of what all takes through Slurm, and {own / clock / processors:.2f} of {processors} processors for {clock:.1f} s of the clock")
     trial.is_so(ran.stdout.partition(";")[0], ran.returncode == 0 and len(results(where)) == count)
+    trial.is_so(f"at least {LEAST_SHARE} of the processors' time", own / through >= LEAST_SHARE)
 
 
 def tried(folder):
