@@ -1,6 +1,6 @@
 """Tries servers behind the proxy, and kills one of them while clients are answered.
 
-    python3 deploy/try.py [CALLS]     so many calls of recorded clients, 3,000 where none are asked for
+    python3 deploy/try.py [CALLS]     so many calls of recorded clients, 2,000 where none are asked for
 """
 
 import random
@@ -440,7 +440,7 @@ def none_left(machines):
 
 
 def main():
-    calls = int(sys.argv[1]) if len(sys.argv) > 1 else 3_000
+    calls = int(sys.argv[1]) if len(sys.argv) > 1 else 2_000
     with Machines() as machines:
         good = [tried(machines) for tried in (only_users_come_in, long_calls_find_their_server, other_forms_find_their_server, long_searches_hold_nobody_up)]
     with Machines() as machines:
