@@ -13,11 +13,16 @@ import subprocess
 import sys
 import tempfile
 import time
+from fractions import Fraction
 from pathlib import Path
 
+import apart
 import gubnatris
+import parts
 import programs
+from gubnatris.instances import read_instance
 from odd_servers import EndingEarly, Lying, Slow, ended_by_length, ended_with_bound
+from part_workers import Outcome
 from serving import PROGRAM, Server
 
 TOOL = "tools/solve_apart"
@@ -73,6 +78,57 @@ class Case:
 def told(document):
     result = gubnatris.read_result(document)
     return result.status, result.objectives
+
+
+class Still:
+    """A seat that has what it is given and does nothing, and a folder that keeps nothing."""
+
+    kinds, task, is_out, entries = ("bound", "search"), None, False, {}
+
+    def is_free(self):
+        return self.task is None
+
+    def give(self, task):
+        self.task = task
+
+    def write(self, _):
+        pass
+
+
+def division(program, coarse=None):
+    return apart.Division(read_instance(programs.osil(program).encode()), Still(), [Still(), Still()], None, lambda _: None, coarse=coarse)
+
+
+def rules(_):
+    """The rules by which parts are given out, each by itself: those that are held stay once, a better point stops what it closes, and a bound that
+    comes late ends nothing and delays nothing."""
+    it = division(programs.general_assignment(4, 12), coarse=6)
+    it.root.is_searched = True
+    it.resume(it.root)
+    for _ in range(400):
+        part = it.next_open()
+        if part:
+            it.keep_branch(part, apart.middle_branch(part.variables))
+    is_so(f"of {len(it.open)} parts that are held {len(it.heap)} and {len(it.deep)} wait, behind 400 looks", 6 <= len(it.open) <= 8 and len(it.heap) + len(it.deep) < 40)
+    two = programs.Program("two", True, [(0, 1, True)] * 2, [(None, 1, {0: 1, 1: 1})], [1, 1])
+    it = division(two)
+    it.resume(it.root)
+    it.give_work()
+    it.root.raise_bound(Fraction(-1), ("bound 2:1",))
+    tasks = [seat.task for seat in it.seats]
+    it.offer((1, 0))
+    is_so("a point that closes a part stops who searches it, and who bounds it", {task.kind for task in tasks} == {"search", "bound"} and all(task.stop.is_set() for task in tasks))
+    it = division(two)
+    it.resume(it.root)
+    it.next_open()
+    it.root.raise_bound(Fraction(-2), ("bound",))
+    it.keep_branch(it.root, parts.Branch(0, 0))
+    it.next_open()
+    it.take_early(it.root, Outcome("unsure", bound=Fraction(3, 2), trees=(("split 0 0", "bound", "bound"),)))
+    is_so("a bound that a search of a divided part tells is taken", it.root.bound == Fraction(-3, 2) and list(it.open) == ["r0", "r1"] and it.root.children[0].key() == Fraction(-3, 2))
+    for child in it.root.children:
+        it.close(child, (Fraction(-1),), (("bound",),))
+    is_so("and the part is over with its cases", it.is_over())
 
 
 def kinds(folder):
@@ -302,7 +358,7 @@ def refused(folder):
 
 def main():
     with tempfile.TemporaryDirectory() as folder:
-        for tried in (refused, kinds, servers, goes_on):
+        for tried in (rules, refused, kinds, servers, goes_on):
             try:
                 tried(folder)
             except (OSError, ValueError, AttributeError, subprocess.TimeoutExpired, gubnatris.Error) as failure:
