@@ -291,7 +291,7 @@ def are_gone():
 
 def goes_on(folder):
     """A tool that is killed while it works, and started again; one that is asked to end."""
-    case = Case(folder, "again", programs.osil(programs.general_assignment(5, 20)))
+    case = Case(folder, "again", programs.osil(programs.general_assignment(5, 25)))
     value = case.single()
     found, limit = Path(f"{case.osil}.parts/found"), time.monotonic() + LONGEST
     process = subprocess.Popen([TOOL, case.osil, "--output", case.osrl, "--workers", "2", "--quiet"], stderr=subprocess.DEVNULL)
