@@ -4,6 +4,8 @@ started again, and words and files that are refused.
     python3 tools/try_apart.py
 """
 
+import contextlib
+import io
 import json
 import os
 import re
@@ -20,6 +22,7 @@ import apart
 import gubnatris
 import parts
 import programs
+import solve_apart_command
 from gubnatris.instances import read_instance
 from odd_servers import EndingEarly, Lying, Slow, ended_by_length, ended_with_bound
 from part_workers import Outcome
@@ -340,8 +343,9 @@ def refused(folder):
     usage = run()
     is_so("no words: the usage", usage.returncode == 2 and usage.stderr.startswith("usage:"))
     for words in (("a", "b"), ("a", "--workers", "0"), ("a", "--workers", "65"), ("a", "--servers", "ftp://a"), ("a", "--servers"), ("a", "--servers", ""), ("a", "--slow"), ("a", "--seconds", "x"), ("a", "--slurm", "--servers", "http://a")):
-        ran = run(*words)
-        is_so(f"{' '.join(words)}: the usage", ran.returncode == 2 and ran.stderr.startswith("usage:") and not ran.stdout)
+        with contextlib.redirect_stderr(io.StringIO()) as told_of:
+            status = solve_apart_command.main(words)
+        is_so(f"{' '.join(words)}: the usage", status == 2 and told_of.getvalue() == usage.stderr)
     bad = Case(folder, "bad", "<osil><instanceData/></osil>")
     for what, path, status, says in (
         ("a file that isn't there", f"{folder}/none", 3, "can't be read"),
