@@ -21,6 +21,7 @@ PROGRAM = os.environ["OS_PROGRAM"]
 MANY = "deploy/slurm/solve_many"
 EXAMPLES = ("diet", "knapsack", "transport", "infeasible_schedule", "capital_budget")
 LIMIT = 900  # seconds that one command may take, on a machine with much other work
+SOME = 1_000  # of the files, whose solves are measured alone
 LEAST_SHARE = 0.9  # of the processors' time through Slurm that the solves alone take
 
 
@@ -29,7 +30,7 @@ class Trial:
 
     def __init__(self, cluster, folder):
         self.cluster, self.folder, self.passed, self.failed = cluster, folder, 0, 0
-        self.environment = os.environ | cluster.environment
+        self.environment = os.environ | (cluster.environment if cluster else {})
 
     def is_so(self, what, found):
         self.passed, self.failed = self.passed + bool(found), self.failed + (not found)
@@ -170,19 +171,31 @@ def alone(path):
     return usage.ru_utime + usage.ru_stime
 
 
+def tasks_spent(where):
+    """The processors' seconds of all tasks, with all that they started."""
+    spent = 0.0
+    for name in os.listdir(f"{where}/.solve_many"):
+        if name.endswith(".ended"):
+            with open(f"{where}/.solve_many/{name}", encoding="ascii") as file:
+                spent += float(file.read())
+    return spent
+
+
 def measured(trial, count):
-    """The processors' seconds of so many solves alone, and of the same files through Slurm with all that it, its daemons' start and its tasks take."""
+    """The processors' seconds of so many solves alone, reckoned from 1,000 of them, and of all files through Slurm with what it, its daemons' start
+    and its tasks take."""
     where = trial.files("measured", count)
-    own = sum(alone(f"{where}/{name}") for name in sorted(os.listdir(where)))
+    names = sorted(os.listdir(where))
+    some = names[:: max(1, count // SOME) | 1]  # an odd step, since every second file is of a kind of its own
+    own = sum(alone(f"{where}/{name}") for name in some) * count / len(some)
     before = Cluster.spent()
     with Cluster([free_port() for _ in range(3)]) as cluster:
         begun, processors = time.monotonic(), cluster.count * cluster.processors
         ran = subprocess.run([MANY, where], env=os.environ | cluster.environment, capture_output=True, text=True, check=False)
         clock = time.monotonic() - begun
-        of_daemons = {name: round(cluster.processor_seconds(process), 1) for name, process in cluster.processes.items()}
     through = Cluster.spent() - before
-    sessions = sum(float(row[3]) for row in table(where))
-    print(f"{count} files: {own:.1f} s of processors for the solves alone, each a process; {through:.1f} s through Slurm, {sessions:.1f} of them solving, of Slurm's own {of_daemons}")
+    sessions, tasks = sum(float(row[3]) for row in table(where)), tasks_spent(where)
+    print(f"{count} files: {own:.1f} s of processors for the solves alone, each a process; {through:.1f} s through Slurm: {sessions:.1f} s of solving, {tasks - sessions:.1f} s else of its tasks, {through - tasks:.1f} s of its daemons and commands")
     print(f"the solves alone take {own / through:.2f} of what all takes through Slurm, and {own / clock / processors:.2f} of {processors} processors for {clock:.1f} s of the clock")
     trial.is_so(ran.stdout.partition(";")[0], ran.returncode == 0 and len(results(where)) == count)
     trial.is_so(f"at least {LEAST_SHARE} of the processors' time", own / through >= LEAST_SHARE)
@@ -201,8 +214,7 @@ def main():
     with tempfile.TemporaryDirectory(prefix="many-") as folder:
         os.chmod(folder, 0o755)
         if sys.argv[1:]:
-            with Cluster([free_port() for _ in range(3)]) as cluster:
-                trial = Trial(cluster, folder)
+            trial = Trial(None, folder)
             measured(trial, int(sys.argv[1]))
         else:
             trial = tried(folder)
