@@ -195,6 +195,25 @@ def shows_slacks(page):
     page.check("the slacks of the second", rows[1][:5], ["second", "5", "1 to 6", "4", "1"])
 
 
+def tells_bounds(page):
+    """A bound is shown where a result has one, and a gap where it has a value too."""
+    items = {"point": "7", "value": "7", "bound": "9", "tree": "bound 0:-1", "cause": "killed"}
+    for claim, names, wanted in (
+        ("bestSoFar", items, {"value": "7", "bound": "9", "gap": "2, 28.57 % of the value"}),
+        ("unsure", ("bound", "tree", "cause"), {"bound": "9"}),
+    ):
+        parts = "".join(f'<otherSolutionResult name="os_cert.{name}"><item>{items[name]}</item></otherSolutionResult>' for name in names)
+        osrl = (
+            f'<osrl><general><generalStatus type="normal"/></general><job><status>finished</status></job><optimization><solution><status type="{claim}"/>'
+            f"<otherSolutionResults>{parts}</otherSolutionResults></solution></optimization></osrl>"
+        )
+        found = page.driver.execute_script(
+            "const box = document.createElement('div'); box.append(...resultView(resultOf(arguments[0]), null));"
+            "return [...box.querySelectorAll('dt')].map(it => [it.textContent, it.nextElementSibling.textContent])", osrl
+        )
+        page.check(f"the facts of a bound, {claim}", dict(found), {"claim": f"{claim}: it was asked to stop (killed)", **wanted})
+
+
 def shows_names_as_text(page):
     """A name with markup in it is shown as it is, and nothing of it runs."""
     name = MARKUP.replace("&", "&amp;").replace("<", "&lt;").replace('"', "&quot;")
@@ -362,7 +381,7 @@ def main():
     folder = Path(sys.argv[1] if len(sys.argv) > 1 else "out/page")
     folder.mkdir(parents=True, exist_ok=True)
     with Machines() as machines, Page(machines, folder) as page:
-        for tried in (sends_examples, shows_slacks, shows_names_as_text, tells_refusals, stops_and_gives_up, is_used_by_keyboard, folds_trees):
+        for tried in (sends_examples, shows_slacks, tells_bounds, shows_names_as_text, tells_refusals, stops_and_gives_up, is_used_by_keyboard, folds_trees):
             tried(page)
         for tried in (shows_long_results, meets_a_server_that_is_down, shows_many_jobs, is_guarded):
             tried(page, machines)
