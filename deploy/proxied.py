@@ -16,7 +16,8 @@ from serving import Client, free_port, request
 NAMES = ("one", "two", "three")
 USER, PASSWORD = "ann", "correct horse"
 NUMBERS = 10**15  # a server's numbers are K times this, and on
-CHECK = "60s"  # so that other work on the machine doesn't make a server look down; who was killed refuses its check at once
+# So that other work on the machine makes no server look down, and no client idle. A server that was killed refuses its check at once.
+PATIENT = {"GUBNATRIS_CHECK": "60s", "GUBNATRIS_KEEP_ALIVE": "10m"}
 PATIENCE = 120  # seconds until the proxy has to know what became of a server
 
 
@@ -63,7 +64,7 @@ class Machines:
     def start_proxy(self, where):
         variables = {f"GUBNATRIS_{place + 1}": f"127.0.0.1:{self.ports[name]}" for place, name in enumerate(NAMES)}
         variables |= {"GUBNATRIS_LISTEN": f"127.0.0.1:{self.port}", "GUBNATRIS_CERTIFICATE": f"{where}/both.pem", "GUBNATRIS_ADMIN": self.admin_socket}
-        variables |= {"GUBNATRIS_PAGE": "deploy/page", "GUBNATRIS_CHECK": CHECK}
+        variables |= {"GUBNATRIS_PAGE": "deploy/page", **PATIENT}
         words = ["haproxy", "-db", "-q", "-f", self.configuration, "-f", f"{where}/users.cfg"]
         with open(f"{where}/log", "wb") as self.log:
             self.proxy = subprocess.Popen(words, env=os.environ | variables, stderr=self.log)
