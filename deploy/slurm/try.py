@@ -147,7 +147,7 @@ def instance(trial, name, program):
 def parts_of_one(trial):
     """One program by array tasks, one of which is taken away; the tool is killed once, and goes on."""
     path, output = instance(trial, "apart", programs.fixed_charge(9, 12)), f"{trial.folder}/apart.osrl"
-    words = ("tools/solve_apart", path, "--slurm", "--share", "20", "--output", output)
+    words = ("tools/solve_apart", path, "--slurm", "--share", "60", "--output", output)
     process, limit = trial.start(*words), time.monotonic() + LIMIT
     while not trial.cluster.told("squeue", "-h", "-t", "R") and time.monotonic() < limit:
         time.sleep(0.05)
