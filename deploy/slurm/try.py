@@ -3,6 +3,8 @@
     python3 deploy/slurm/try.py [FILES]     where a number stands there, it measures so many small files instead
 """
 
+import contextlib
+import fcntl
 import os
 import random
 import re
@@ -91,17 +93,26 @@ def many_files(trial, count):
     trial.is_so("nothing else is left beside the files", not [name for name in os.listdir(where) if name.endswith((".begun", ".line"))])
 
 
+@contextlib.contextmanager
+def paused(trial, where, *words):
+    """A run that has its first results, and whose tasks get no further files for as long: of its lists of files the first is locked."""
+    process, limit = trial.start(MANY, where, *words), time.monotonic() + LIMIT
+    while not results(where) and time.monotonic() < limit:
+        time.sleep(0.01)
+    with open(f"{where}/.solve_many/list.1.next", "r+b") as taken:
+        fcntl.lockf(taken, fcntl.LOCK_EX)
+        yield process
+
+
 def interrupted(trial, count):
     """A run that is killed, with its tasks: a second one goes on behind it."""
-    where = trial.files("interrupted", count, 20)
-    process, limit = trial.start(MANY, where, "--tasks", "2"), time.monotonic() + LIMIT
-    while len(results(where)) < count // 10 and time.monotonic() < limit:
-        time.sleep(0.02)
-    process.kill()
-    process.wait()
-    trial.run("scancel", "--user=root")
-    while trial.cluster.told("squeue", "-h") and time.monotonic() < limit:
-        time.sleep(0.1)
+    where, limit = trial.files("interrupted", count, 10), time.monotonic() + LIMIT
+    with paused(trial, where, "--tasks", "2") as process:
+        process.kill()
+        process.wait()
+        trial.run("scancel", "--user=root")
+        while trial.cluster.told("squeue", "-h") and time.monotonic() < limit:
+            time.sleep(0.1)
     before = results(where)
     ran = trial.run(MANY, where)
     after = results(where)
@@ -110,17 +121,14 @@ def interrupted(trial, count):
 
 
 def lost_node(trial, count):
-    """A daemon that dies with its tasks: Slurm gives them to the other one, or they are submitted again."""
-    where = trial.files("lost", count, 20)
-    process, limit = trial.start(MANY, where), time.monotonic() + LIMIT
-    while not results(where) and time.monotonic() < limit:
-        time.sleep(0.02)
-    before = len(results(where))
-    trial.cluster.kill("n2")
-    trial.cluster.start_daemon("n2")
+    """A node that is lost with its tasks and comes back: what they had taken is submitted again, within the same run."""
+    where = trial.files("lost", count, 10)
+    with paused(trial, where) as process:
+        before, ended = len(results(where)), trial.cluster.kill("n2")
+        trial.cluster.start_daemon("n2")
     status = process.wait(timeout=LIMIT)
-    ran = trial.run(MANY, where)
-    trial.is_so(f"a daemon was killed behind {before} files, and started: {ran.stdout.partition(';')[0]} (the first run ended with {status})", before < count and status == 0 and ran.returncode == 0 and len(results(where)) == count)
+    trial.is_so(f"a node was lost behind {before} files, with {ended} processes: the run ended with {status}", before < count and ended > 1 and status == 0 and len(results(where)) == count)
+    trial.is_so("each file has a line", len(table(where)) == count)
 
 
 def bad_words(trial):
