@@ -4,7 +4,6 @@
 """
 
 import contextlib
-import fcntl
 import os
 import random
 import re
@@ -23,6 +22,7 @@ PROGRAM = os.environ["OS_PROGRAM"]
 MANY = "deploy/slurm/solve_many"
 EXAMPLES = ("diet", "knapsack", "transport", "infeasible_schedule", "capital_budget")
 LIMIT = 900  # seconds that one command may take, on a machine with much other work
+SHARES = 4  # the first share of a task is this part of an even one, as `solve_files` has it
 SOME = 1_000  # of the files, whose solves are measured alone
 LEAST_SHARE = 0.9  # of the processors' time through Slurm that the solves alone take
 
@@ -93,42 +93,70 @@ def many_files(trial, count):
     trial.is_so("nothing else is left beside the files", not [name for name in os.listdir(where) if name.endswith((".begun", ".line"))])
 
 
-@contextlib.contextmanager
-def paused(trial, where, *words):
-    """A run that has its first results, and whose tasks get no further files for as long: of its lists of files the first is locked."""
-    process, limit = trial.start(MANY, where, *words), time.monotonic() + LIMIT
-    while not results(where) and time.monotonic() < limit:
-        time.sleep(0.01)
-    with open(f"{where}/.solve_many/list.1.next", "r+b") as taken:
-        fcntl.lockf(taken, fcntl.LOCK_EX)
-        yield process
+def hold(where, tasks):
+    """Puts a pipe in the place of one file of each task's first share, so that the task waits there; the pipes with the texts of their files, and how
+    many results there are once all tasks wait."""
+    names, held, begin, before = sorted(os.listdir(where)), [], 0, 0
+    for _ in range(tasks):
+        half = (len(names) - begin) // (SHARES * tasks) // 2
+        path, before = f"{where}/{names[begin + half]}", before + half
+        with open(path, encoding="utf-8") as file:
+            held.append((path, file.read()))
+        os.remove(path)
+        os.mkfifo(path)
+        begin += (len(names) - begin) // (SHARES * tasks)
+    return held, before
+
+
+def let_go(held):
+    """Puts the files there again, and has who waits at a pipe read its text."""
+    for path, text in held:
+        os.rename(path, f"{path}.pipe")
+        with open(path, "w", encoding="utf-8") as file:
+            file.write(text)
+        with contextlib.suppress(OSError):  # nobody waits where the task was killed
+            with open(os.open(f"{path}.pipe", os.O_WRONLY | os.O_NONBLOCK), "w", encoding="utf-8") as pipe:
+                pipe.write(text)
+        os.remove(f"{path}.pipe")
+
+
+def until(is_so):
+    limit = time.monotonic() + LIMIT
+    while not is_so() and time.monotonic() < limit:
+        time.sleep(0.1)
 
 
 def interrupted(trial, count):
     """A run that is killed, with its tasks: a second one goes on behind it."""
-    where, limit = trial.files("interrupted", count, 10), time.monotonic() + LIMIT
-    with paused(trial, where, "--tasks", "2") as process:
-        process.kill()
-        process.wait()
-        trial.run("scancel", "--user=root")
-        while trial.cluster.told("squeue", "-h") and time.monotonic() < limit:
-            time.sleep(0.1)
+    where = trial.files("interrupted", count)
+    held, number = hold(where, 2)
+    process = trial.start(MANY, where, "--tasks", "2")
+    until(lambda: len(results(where)) == number)
+    process.kill()
+    process.wait()
+    trial.run("scancel", "--user=root")
+    until(lambda: not trial.cluster.told("squeue", "-h"))
+    let_go(held)
     before = results(where)
     ran = trial.run(MANY, where)
     after = results(where)
-    trial.is_so(f"killed behind {len(before)} of {count}, a second run goes on: {ran.stdout.partition(';')[0]}", 0 < len(before) < count and ran.returncode == 0 and len(after) == count)
+    trial.is_so(f"killed behind {len(before)} of {count}, a second run goes on: {ran.stdout.partition(';')[0]}", len(before) == number and ran.returncode == 0 and len(after) == count)
     trial.is_so("what had a result wasn't solved again, and each has a line", all(after[name] == then for name, then in before.items()) and len(table(where)) == count)
 
 
 def lost_node(trial, count):
     """A node that is lost with its tasks and comes back: what they had taken is submitted again, within the same run."""
-    where = trial.files("lost", count, 10)
-    with paused(trial, where) as process:
-        before, ended = len(results(where)), trial.cluster.kill("n2")
-        trial.cluster.start_daemon("n2")
+    where = trial.files("lost", count)
+    held, number = hold(where, trial.cluster.count * trial.cluster.processors)
+    process = trial.start(MANY, where)
+    until(lambda: len(results(where)) == number)
+    ended = trial.cluster.kill("n2")
+    trial.cluster.start_daemon("n2")
+    let_go(held)
     status = process.wait(timeout=LIMIT)
-    trial.is_so(f"a node was lost behind {before} files, with {ended} processes: the run ended with {status}", before < count and ended > 1 and status == 0 and len(results(where)) == count)
-    trial.is_so("each file has a line", len(table(where)) == count)
+    trial.is_so(f"a node was lost behind {number} files, with {ended} processes: the run ended with {status}", ended > 4 and status == 0 and len(results(where)) == count)
+    lists = [name for name in os.listdir(f"{where}/.solve_many") if name.count(".") == 1]
+    trial.is_so(f"what it had taken was submitted again, and each file has a line: {len(lists)} lists", len(lists) == 2 and len(table(where)) == count)
 
 
 def bad_words(trial):
