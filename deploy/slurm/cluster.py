@@ -11,6 +11,7 @@ import shutil
 import signal
 import subprocess
 import tempfile
+import threading
 import time
 
 SUBREAPER = 36  # PR_SET_CHILD_SUBREAPER of Linux
@@ -54,16 +55,23 @@ PartitionName=main Nodes=ALL Default=YES MaxTime=INFINITE State=UP
 """
 
 
+def children():
+    """The processes whose parent is this one."""
+    with open(f"/proc/self/task/{os.getpid()}/children", encoding="ascii") as file:
+        return [int(pid) for pid in file.read().split()]
+
+
 class Cluster:
     """A controller and so many daemons, each with so many processors. `environment`: what Slurm's commands need."""
 
     def __init__(self, ports, daemons=2, processors=2):
         self.ports, self.count, self.processors = ports, daemons, processors
         self.names = [f"n{k}" for k in range(1, daemons + 1)]
-        self.processes, self.folder = {}, None
+        self.processes, self.folder, self.is_over = {}, None, threading.Event()
 
     def __enter__(self):
         ctypes.CDLL(None).prctl(SUBREAPER, 1)
+        threading.Thread(target=self.reap, daemon=True).start()
         self.folder = tempfile.mkdtemp(prefix="slurm-")
         os.chmod(self.folder, 0o755)
         try:
@@ -152,6 +160,7 @@ class Cluster:
 
     def __exit__(self, *_):
         self.told("scancel", "--user=root") if "slurmctld" in self.processes else None
+        self.is_over.set()
         for how, patience in ((signal.SIGTERM, 10), (signal.SIGKILL, 5)):
             for process in reversed(self.processes.values()):
                 if process.poll() is None:
@@ -162,13 +171,20 @@ class Cluster:
         self.gather()
         shutil.rmtree(self.folder, ignore_errors=True)
 
+    def reap(self):
+        """Waits for what ends of that which the daemons started, as an init does: a task that nobody waits for is still there to Slurm, which a minute
+        later takes the node for broken. Such processes have a session of their own, and no `Popen` of this process has."""
+        while not self.is_over.wait(0.2):
+            for pid in children():
+                with contextlib.suppress(OSError):
+                    if os.getsid(pid) != os.getsid(0):
+                        os.waitpid(pid, os.WNOHANG)
+
     def gather(self):
         """Ends and waits for what the daemons left, each a child of this process by now."""
         for _ in range(100):
-            with open(f"/proc/self/task/{os.getpid()}/children", encoding="ascii") as file:
-                left = [int(pid) for pid in file.read().split()]
             known = {process.pid for process in self.processes.values() if process.poll() is None}
-            left = [pid for pid in left if pid not in known]
+            left = [pid for pid in children() if pid not in known]
             if not left:
                 return
             for pid in left:

@@ -15,7 +15,7 @@ import tempfile
 import time
 
 import programs
-from cluster import Cluster
+from cluster import Cluster, children
 from part_workers import free_port
 
 PROGRAM = os.environ["OS_PROGRAM"]
@@ -254,8 +254,7 @@ def main():
             measured(trial, int(sys.argv[1]))
         else:
             trial = tried(folder)
-    with open(f"/proc/self/task/{os.getpid()}/children", encoding="ascii") as file:
-        trial.is_so("no process is left", not file.read().split())
+    trial.is_so("no process is left", not children())
     print(f"{trial.passed} passed, {trial.failed} failed")
     return trial.failed > 0
 
