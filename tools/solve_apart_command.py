@@ -157,6 +157,8 @@ class Solving:
                 write_whole(task.document, self.words.output)
                 self.tell(f"{answer.status}, undivided", True)
                 return 0 if answer.status != "unsure" else 1
+            if time.monotonic() >= self.until:
+                break
         self.tell("nobody solved it", True)
         return 6
 
