@@ -88,4 +88,5 @@ def main():
         rows(program, seconds)
 
 
-main()
+if __name__ == "__main__":
+    main()

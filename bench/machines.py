@@ -114,4 +114,5 @@ def main():
         print(f"| {name} | {jobs:.1f} | {jobs / one:.2f} | {call:.2f} | {call / small:.1f} | {spent:.0f} |")
 
 
-main()
+if __name__ == "__main__":
+    main()

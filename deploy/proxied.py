@@ -16,6 +16,9 @@ from serving import Client, free_port, request
 NAMES = ("one", "two", "three")
 USER, PASSWORD = "ann", "correct horse"
 NUMBERS = 10**15  # a server's numbers are K times this, and on
+# So that other work on the machine makes no server look down, and no client idle. A server that was killed refuses its check at once.
+PATIENT = {"GUBNATRIS_CHECK": "60s", "GUBNATRIS_KEEP_ALIVE": "10m"}
+PATIENCE = 120  # seconds until the proxy has to know what became of a server
 
 
 def told_by(*words, **more):
@@ -60,7 +63,8 @@ class Machines:
 
     def start_proxy(self, where):
         variables = {f"GUBNATRIS_{place + 1}": f"127.0.0.1:{self.ports[name]}" for place, name in enumerate(NAMES)}
-        variables |= {"GUBNATRIS_LISTEN": f"127.0.0.1:{self.port}", "GUBNATRIS_CERTIFICATE": f"{where}/both.pem", "GUBNATRIS_ADMIN": self.admin_socket, "GUBNATRIS_PAGE": "deploy/page"}
+        variables |= {"GUBNATRIS_LISTEN": f"127.0.0.1:{self.port}", "GUBNATRIS_CERTIFICATE": f"{where}/both.pem", "GUBNATRIS_ADMIN": self.admin_socket}
+        variables |= {"GUBNATRIS_PAGE": "deploy/page", **PATIENT}
         words = ["haproxy", "-db", "-q", "-f", self.configuration, "-f", f"{where}/users.cfg"]
         with open(f"{where}/log", "wb") as self.log:
             self.proxy = subprocess.Popen(words, env=os.environ | variables, stderr=self.log)
@@ -86,7 +90,8 @@ class Machines:
 
     def wait_for(self, wanted):
         """Waits until the proxy thinks so of the servers."""
-        for _ in range(200):
+        limit = time.monotonic() + PATIENCE
+        while time.monotonic() < limit:
             try:
                 states = self.states()
                 if all(states[name] == state for name, state in wanted.items()):

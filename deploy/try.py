@@ -1,6 +1,6 @@
 """Tries servers behind the proxy, and kills one of them while clients are answered.
 
-    python3 deploy/try.py [CALLS]     so many calls of recorded clients, 6,000 where none are asked for
+    python3 deploy/try.py [CALLS]     so many calls of recorded clients, 2,000 where none are asked for
 """
 
 import random
@@ -28,6 +28,7 @@ NOBODYS = 900_000_000
 ADDRESSES = 25_000_000  # bytes within which a server answers each call
 FEW_ADDRESSES = 12_000_000  # and within which it has none for long ones
 SHORT_CALLS = 200  # of each server, which has 64 seats
+LONGEST_START = 120  # seconds until all searches run
 TRIES = 40  # how often a server is asked that may be taken for down, twice a second
 
 
@@ -267,7 +268,7 @@ def long_searches_hold_nobody_up(machines):
     searches = [threading.Thread(target=lambda: ProxyClient(machines).post(body)) for _ in NAMES]
     for thread in searches:
         thread.start()
-    while not all(RUNNING in client_jobs(client, number).values() for number in numbers.values()) and time.monotonic() - begun < 20:
+    while not all(RUNNING in client_jobs(client, number).values() for number in numbers.values()) and time.monotonic() - begun < LONGEST_START:
         time.sleep(0.05)
     for _ in range(SHORT_CALLS):
         statuses += [client.post(envelope("retrieve", osol=options(number)))[0] for number in numbers.values()]
@@ -439,7 +440,7 @@ def none_left(machines):
 
 
 def main():
-    calls = int(sys.argv[1]) if len(sys.argv) > 1 else 6_000
+    calls = int(sys.argv[1]) if len(sys.argv) > 1 else 2_000
     with Machines() as machines:
         good = [tried(machines) for tried in (only_users_come_in, long_calls_find_their_server, other_forms_find_their_server, long_searches_hold_nobody_up)]
     with Machines() as machines:

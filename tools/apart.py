@@ -23,6 +23,7 @@ from part_workers import Failed, Outcome, Wrong
 PLUNGE_WITHOUT, PLUNGE_WITH = 2, 8  # each so many-th part is the deepest one, without and with a point
 MOST_FAILURES = 5
 LONGEST_WAIT = 10.0  # seconds for which a seat that failed isn't asked
+TELL_EVERY = 10.0  # seconds between two lines that say how far it is
 
 
 class Closed(NamedTuple):
@@ -55,8 +56,15 @@ class Part:
         return any(part.closed for part in self.line())
 
     def key(self):
-        """The nearest bound, or none."""
-        return next((part.bound for part in self.line() if part.bound is not None), None)
+        """The best bound of the part and of those above it, or none."""
+        return max((part.bound for part in self.line() if part.bound is not None), default=None)
+
+    def raise_bound(self, bound, leaf):
+        """Takes a bound, with what shows it, where it is better than what is known; whether it is."""
+        is_better = self.bound is None or bound > self.bound
+        if is_better:
+            self.bound, self.leaf = bound, leaf
+        return is_better
 
 
 class Task:
@@ -65,6 +73,7 @@ class Task:
     def __init__(self, kind, part, osil):
         self.kind, self.part, self.osil = kind, part, osil
         self.stop, self.begun, self.is_shared = threading.Event(), time.monotonic(), False
+        self.document = None
 
 
 class Seat:
@@ -89,8 +98,8 @@ class Seat:
             if task is None:
                 return
             try:
-                document = self.worker.solve(task.osil, task.stop)
-                answer = None if document is None else self.checker.outcome(task.osil, document)
+                task.document = self.worker.solve(task.osil, task.stop)
+                answer = None if task.document is None else self.checker.outcome(task.osil, task.document)
             except Failed as failure:
                 answer = failure
             except Exception as failure:  # told in a line: a seat that ends in silence would be waited for
@@ -160,7 +169,7 @@ class Division:
         self.is_endless_later = False
         self.heap, self.deep, self.whole, self.order = [], [], [], itertools.count()
         self.open: dict = {}
-        self.picks, self.counts, self.told = 0, {"bound": 0, "search": 0, "divided": 0}, 0.0
+        self.picks, self.counts, self.told = 0, {"bound": 0, "search": 0, "divided": 0}, time.monotonic()
 
     # ---- what is known
 
@@ -171,9 +180,13 @@ class Division:
             self.best, self.point = values, tuple(point)
             self.book.write({"point": list(map(str, point))})
             self.say(f"a point with {', '.join(map(str, parts.values_at(self.instance, point)))}")
-            for seat in self.seats:
-                if seat.task and self.is_passed(seat.task.part):
-                    seat.task.stop.set()
+            self.stop_settled()
+
+    def stop_settled(self):
+        """Stops what runs for parts that are closed, or passed."""
+        for seat in self.seats:
+            if seat.task and self.is_settled(seat.task.part):
+                seat.task.stop.set()
 
     def is_passed(self, part):
         """Whether the bound of a part, or of one above it, closes it by the best point."""
@@ -198,9 +211,7 @@ class Division:
         if is_kept:
             shown = None if values is None else list(map(str, values))
             self.book.write({"part": part.name, "closed": shown, "trees": trees})
-        for seat in self.seats:
-            if seat.task and seat.task.part.is_done():
-                seat.task.stop.set()
+        self.stop_settled()
 
     def divide(self, part):
         self.counts["divided"] += 1
@@ -227,12 +238,14 @@ class Division:
     # ---- what is to be done
 
     def next_open(self):
-        """The next part that is to be bounded. Parts that are bounded are divided on the way to it."""
+        """The next part that is to be bounded. Parts that are bounded are divided on the way to it. Those that are held go back to where they
+        were taken from, so that none is there more often than it was."""
         self.picks += 1
         every, held, found = PLUNGE_WITHOUT if self.best is None else PLUNGE_WITH, [], None
         while self.heap and not found:
-            from_deep = self.deep and self.picks % every == 0
-            part = heapq.heappop(self.deep if from_deep else self.heap)[-1]
+            heap = self.deep if self.deep and self.picks % every == 0 else self.heap
+            entry = heapq.heappop(heap)
+            part = entry[-1]
             if part.children or part.is_bounding or part.is_stuck or part.is_whole or part.name not in self.open:
                 continue
             if self.is_settled(part):
@@ -240,11 +253,11 @@ class Division:
             elif part.branch is None:
                 found = part
             elif self.coarse and self.is_held(part):
-                held.append(part)
+                held.append((heap, entry))
             else:
                 self.divide(part)
-        for part in held:
-            self.push(part)
+        for heap, entry in held:
+            heapq.heappush(heap, entry)
         return found
 
     def is_held(self, part):
@@ -376,7 +389,7 @@ class Division:
     def take_leaf(self, part, outcome):
         value = parts.turned(self.instance.goals[0], outcome.values[0])
         branch = parts.branch_at(part.variables, outcome.point)
-        part.bound, part.leaf = value, outcome.trees[0]
+        part.raise_bound(value, outcome.trees[0])
         if branch is None and len(self.instance.goals) == 1:
             self.close(part, (value,), outcome.trees)
             self.offer(outcome.point)
@@ -385,29 +398,37 @@ class Division:
         else:
             self.keep_branch(part, branch)
 
+    def keep(self, part):
+        """Writes down where a part is divided and what bounds it, as far as it is known."""
+        branch = {"branch": part.branch} if part.branch else {}
+        bound = {"bound": str(part.bound), "leaf": part.leaf} if part.bound is not None else {}
+        self.book.write({"part": part.name, **branch, **bound})
+
     def keep_branch(self, part, branch):
         part.branch = branch
-        known = {"bound": str(part.bound), "leaf": part.leaf} if part.bound is not None else {}
-        self.book.write({"part": part.name, "branch": branch, **known})
+        self.keep(part)
         if not part.is_done():
             self.push(part)
 
     def search_whole(self, part):
+        """Has a part searched to its end, which a search of it that runs goes on to."""
         part.is_whole = True
         self.open.pop(part.name, None)
-        self.whole.append(part)
+        running = [seat.task for seat in self.seats if seat.task and seat.task.part is part and seat.task.kind == "search"]
+        if all(task.stop.is_set() for task in running):
+            self.whole.append(part)
 
     def search_or_divide(self, part, branch, outcome):
         """A part without a bound: it is searched whole, once; then it is divided where it can be."""
-        if not part.is_searched:
-            self.search_whole(part)
-            return
         branch = branch or middle_branch(part.variables)
-        if branch:
+        if not part.is_searched or not branch and not part.is_whole:
+            self.search_whole(part)
+        elif branch:
             part.is_whole = False
             self.keep_branch(part, branch)
         else:
             part.is_stuck, self.cause = True, outcome.cause
+            self.open.pop(part.name, None)
             self.say(f"part {part.name} stays open: {outcome.cause}")
 
     def take_search(self, part, outcome):
@@ -427,13 +448,10 @@ class Division:
 
     def take_early(self, part, outcome):
         """A search that ended before its part was solved."""
-        if outcome.bound is not None:
-            bound = parts.turned(self.instance.goals[0], outcome.bound)
-            if part.bound is None or bound > part.bound:
-                part.bound, part.leaf = bound, outcome.trees[0]
-                if part.branch:
-                    self.keep_branch(part, part.branch)
-        if part.is_whole:
+        if outcome.bound is not None and part.raise_bound(parts.turned(self.instance.goals[0], outcome.bound), outcome.trees[0]):
+            self.keep(part)
+            self.stop_settled()
+        if part.is_whole and not self.is_settled(part):
             self.search_or_divide(part, None, outcome)
 
     # ---- the whole
@@ -458,8 +476,17 @@ class Division:
                 self.take(*self.events.get(timeout=0.05))
             except queue.Empty:
                 pass
+            self.tell_progress()
         self.stop()
         return self.is_over()
+
+    def tell_progress(self):
+        """Says now and then how far it is, so that nobody takes long work for none."""
+        now = time.monotonic()
+        if now - self.told >= TELL_EVERY:
+            self.told = now
+            running = sum(bool(seat.task) for seat in self.seats)
+            self.say(f"{len(self.open) + len(self.whole)} parts are open, {running} seats work; {self.counts['bound']} were bounded, {self.counts['search']} searched")
 
     def is_wanted(self, seat):
         return "search" in seat.kinds or not self.coarse

@@ -39,9 +39,10 @@ version() {
 
 # Completions for the command alone; the checkout has some for ./os too.
 add_completions() {
-    sh tools/completions.sh bash | sed 's/-F _gubnatris .*/-F _gubnatris gubnatris/' >debian/gubnatris.bash-completion
-    sh tools/completions.sh zsh | sed '1s/.*/#compdef gubnatris/' >_gubnatris
-    echo '_gubnatris usr/share/zsh/vendor-completions' >>debian/gubnatris.install
+    mkdir completions
+    sh tools/completions.sh bash | sed 's/-F _gubnatris .*/-F _gubnatris gubnatris/' >completions/gubnatris
+    sh tools/completions.sh zsh | sed '1s/.*/#compdef gubnatris/' >completions/_gubnatris
+    printf '%s\n' 'completions/gubnatris usr/share/bash-completion/completions' 'completions/_gubnatris usr/share/zsh/vendor-completions' >>debian/gubnatris.install
 }
 
 # The drivers of modelling systems, where there are some: scripts that run what the Python package has, and what MiniZinc reads of one.

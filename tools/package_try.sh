@@ -34,6 +34,11 @@ expect() {
     fi
 }
 
+# The seconds that something took, or that they are within the most, or that nothing is said of them where other work has the processors.
+within() {
+    if [ "$1" -gt "$2" ] && awk '/^some/ { sub("avg60=", "", $3); exit !($3 + 0 < 50) }' /proc/pressure/cpu; then echo "$1"; else echo "within $2"; fi
+}
+
 # Runs a command of the root, and leaves out what a build for trying says of itself.
 inside() {
     chroot "$root" env -i PATH=/usr/bin:/usr/sbin:/bin:/sbin HOME=/root LC_ALL=C.UTF-8 DEBIAN_FRONTEND=noninteractive "$@"
@@ -71,12 +76,14 @@ try_build() {
 }
 
 try_install() {
-    local begun=$SECONDS
+    local begun=$SECONDS taken
     cp "$package" "$root/root/one.deb"
     expect 'the toolchain in the root' "$(inside sh -c 'command -v rt clang python3')" ''
     { inside apt-get update -q && inside apt-get install -y -q --no-install-recommends /root/one.deb; } >"$room/log" 2>&1 || { cat "$room/log"; exit 1; }
     inside gubnatris solve /usr/share/doc/gubnatris/examples/knapsack.osil >"$root/root/result" 2>/dev/null
-    echo "installed and a first example solved in $((SECONDS - begun)) s, $(du -sk --apparent-size "$root/usr/lib/gubnatris" "$root/usr/share/gubnatris" "$root/usr/share/doc/gubnatris" | awk '{ all += $1 } END { print all }') kB"
+    taken=$((SECONDS - begun))
+    expect 'seconds until a first example is solved' "$(within "$taken" 60)" 'within 60'
+    echo "installed and a first example solved in $taken s, $(du -sk --apparent-size "$root/usr/lib/gubnatris" "$root/usr/share/gubnatris" "$root/usr/share/doc/gubnatris" | awk '{ all += $1 } END { print all }') kB"
     expect 'the result is shown' "$(quiet gubnatris check /usr/share/doc/gubnatris/examples/knapsack.osil /root/result)" 'accepted optimal'
 }
 
@@ -97,10 +104,24 @@ try_words() {
     done
 }
 
-try_unit() {
-    cp "$root/usr/share/doc/gubnatris/examples/deploy/gubnatris@.service" "$root/etc/systemd/system/"
-    expect 'systemd reads the unit' "$(inside systemd-analyze verify gubnatris@1.service 2>&1 | grep -i gubnatris)" ''
-    rm "$root/etc/systemd/system/gubnatris@.service"
+# What lies there beside: drivers of modelling systems, completions, units and the proxy's configuration, and what these name.
+try_files() {
+    local file
+    for file in bin/gubnatris_ampl bin/gubnatris_fzn share/minizinc/solvers/gubnatris.msc share/bash-completion/completions/gubnatris \
+        share/zsh/vendor-completions/_gubnatris lib/gubnatris/serve lib/gubnatris/standby lib/gubnatris/page/index.html \
+        share/doc/gubnatris/README.md share/doc/gubnatris/PROVED share/doc/gubnatris/examples/deploy/haproxy.cfg; do
+        expect "the file /usr/$file" "$([ -s "$root/usr/$file" ] && echo there)" there
+    done
+    expect 'the driver of FlatZinc' "$(quiet sh -c 'printf "var 1..3: x :: output_var;\nsolve maximize x;\n" >/root/a.fzn; gubnatris_fzn /root/a.fzn' | head -n 1)" 'x = 3;'
+}
+
+try_units() {
+    local unit
+    for unit in gubnatris gubnatris-standby; do
+        cp "$root/usr/share/doc/gubnatris/examples/deploy/$unit@.service" "$root/etc/systemd/system/"
+        expect "systemd reads the unit $unit" "$(inside systemd-analyze verify "$unit@1.service" 2>&1 | grep -i gubnatris)" ''
+        rm "$root/etc/systemd/system/$unit@.service"
+    done
 }
 
 # Starts a server of the root on its journal, and waits until it listens.
@@ -153,7 +174,8 @@ try_build
 make_root || { echo 'package_try: no root of Debian 12 could be made' >&2; exit 1; }
 try_install
 try_words
-try_unit
+try_files
+try_units
 try_upgrade
 try_removal
 echo "$passed passed, $failed failed"

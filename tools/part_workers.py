@@ -4,10 +4,9 @@ A worker's `solve` gives the result document of an instance, or none where it wa
 worker is a `Failed`; where its answer isn't shown of the instance that it was given, it is `Wrong`, and nothing more is asked of it.
 """
 
-import ctypes
 import os
+import select
 import shutil
-import signal
 import socket
 import subprocess
 import tempfile
@@ -24,8 +23,10 @@ BUILT = os.path.join(os.path.dirname(os.path.dirname(os.path.abspath(__file__)))
 MOST_CASES, MOST_TURNS = 1_000_000, 100_000_000
 SHORTEST_PAUSE, LONGEST_PAUSE = 0.002, 0.5
 LONGEST_STOP = 30  # seconds that a server may take to end a job that was killed
+LONGEST_CHECK = 300  # seconds that the check of one result may take
+LONGEST_START = 60  # seconds that a server of this tool may take until it listens
 STARTS = 5  # how often a server of this tool is started anew
-DEATH_SIGNAL = 1  # PR_SET_PDEATHSIG of Linux
+WITH_PARENT = ("setpriv", "--pdeathsig", "KILL")  # the system ends a process when the thread ends that started it, however that comes
 
 
 class Failed(Exception):
@@ -70,7 +71,11 @@ class Checker:
                     file.write(text)
                     file.flush()
                 words = [self.program, "check", instance.name, result.name]
-                return subprocess.run(words, stdin=subprocess.DEVNULL, capture_output=True, text=True, check=False).stdout.strip()
+                try:
+                    ran = subprocess.run(words, stdin=subprocess.DEVNULL, capture_output=True, text=True, timeout=LONGEST_CHECK, check=False)
+                except subprocess.TimeoutExpired:
+                    raise Failed(f"the check of a result takes longer than {LONGEST_CHECK} seconds") from None
+                return ran.stdout.strip()
 
     def outcome(self, osil, document):
         """What a document shows of an instance. Raises `Wrong` where what it claims isn't shown."""
@@ -145,14 +150,15 @@ class ServerWorker:
             time.sleep(pause) if until else stop.wait(pause)
 
     def give_up(self, job):
-        """What runs stays, where a server doesn't end it: a second kill of a job that runs does nothing."""
+        """What runs stays, where a server doesn't end it: a second kill of a job that runs does nothing. Whether the server answered."""
         try:
             if self.server.kill(job) == "killed":
                 self.server.kill(job)
             if self.jobs:
                 self.jobs.ended(self.name, job)
         except gubnatris.Error:
-            pass
+            return False
+        return True
 
     def mend(self):
         pass
@@ -164,12 +170,6 @@ class ServerWorker:
 def free_port():
     with socket.create_server(("127.0.0.1", 0)) as it:
         return it.getsockname()[1]
-
-
-def end_with_parent():
-    """Has the system end this process when the one that started it ends, however that comes."""
-    ctypes.CDLL(None).prctl(DEATH_SIGNAL, signal.SIGKILL)
-    signal.signal(signal.SIGINT, signal.SIG_IGN)
 
 
 class LocalWorker(ServerWorker):
@@ -185,17 +185,21 @@ class LocalWorker(ServerWorker):
         self.close()
         for _ in range(3):  # another program may take the port in between
             self.port, self.starts = free_port(), self.starts + 1
-            words = [program(), "serve", "127.0.0.1", str(self.port), "--workers", "1", "--servers", "8"]
-            self.process = subprocess.Popen(words, stdin=subprocess.DEVNULL, stdout=subprocess.PIPE, preexec_fn=end_with_parent)
-            if self.process.stdout.readline() == b"listening\n":
+            words = [*WITH_PARENT, program(), "serve", "127.0.0.1", str(self.port), "--workers", "1", "--servers", "8"]
+            self.process = subprocess.Popen(words, stdin=subprocess.DEVNULL, stdout=subprocess.PIPE, start_new_session=True)
+            if select.select([self.process.stdout], [], [], LONGEST_START)[0] and self.process.stdout.readline() == b"listening\n":
                 return
             self.close()
         raise Failed("the program doesn't serve")
 
     def mend(self):
-        """Starts the server anew where it ended; by the thread that lives as long as the tool, with which the server ends."""
+        """Starts the server anew where it ended; by the thread that lives as long as the tool, with which the server ends. Where it doesn't
+        start, the next part that it is given fails."""
         if self.process.poll() is not None and self.starts <= STARTS:
-            self.start()
+            try:
+                self.start()
+            except Failed:
+                return
             self.server = gubnatris.Server(f"http://127.0.0.1:{self.port}", seconds=self.server.seconds)
 
     def close(self):
@@ -212,8 +216,9 @@ class Jobs:
         self.path, self.lock, self.open = path, threading.Lock(), set()
 
     def give_up_left(self):
-        """Gives up what is left at servers; how many were asked for."""
-        left = set()
+        """Gives up what is left at servers; how many were given up. A server that doesn't answer isn't asked for the rest, which stays
+        written down."""
+        left, silent = set(), set()
         try:
             with open(self.path, encoding="utf-8") as file:
                 for line in file:
@@ -221,13 +226,17 @@ class Jobs:
                     (left.add if mark == "+" else left.discard)((url, job))
         except OSError:
             pass
-        for url, job in left:
+        stay = []
+        for url, job in sorted(left):
             worker = ServerWorker(url, seconds=5)
-            worker.give_up(job)
-            worker.give_up(job)
-        with open(self.path, "w", encoding="utf-8"):
-            pass
-        return len(left)
+            if url not in silent and worker.give_up(job):
+                worker.give_up(job)
+            else:
+                silent.add(url)
+                stay.append(f"+ {url} {job}\n")
+        with open(self.path, "w", encoding="utf-8") as file:
+            file.writelines(stay)
+        return len(left) - len(stay)
 
     def write(self, mark, url, job):
         with self.lock, open(self.path, "a", encoding="utf-8") as file:

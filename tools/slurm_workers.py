@@ -18,12 +18,15 @@ PAUSE = 0.25  # seconds between two looks for results
 LOOKS = 8  # after so many looks Slurm is asked which tasks it still has
 MISSED = 2  # a task that so many of its answers haven't, and that left no result, is lost
 LONGEST_SILENCE = 60  # seconds for which Slurm's controller may not answer
+LONGEST_COMMAND = 60  # seconds that a command of Slurm's may take
 
 
 def told(*words):
     """What a command of Slurm's writes, or none where it fails; and why it does."""
     try:
-        ran = subprocess.run(words, stdin=subprocess.DEVNULL, capture_output=True, text=True, check=False)
+        ran = subprocess.run(words, stdin=subprocess.DEVNULL, capture_output=True, text=True, timeout=LONGEST_COMMAND, check=False)
+    except subprocess.TimeoutExpired:
+        return None, f"{words[0]} takes longer than {LONGEST_COMMAND} seconds"
     except OSError as failure:
         return None, f"{words[0]}: {failure.strerror.lower()}"
     why = (ran.stderr.strip().splitlines() or [f"{words[0]} ended with {ran.returncode}"])[-1]
@@ -81,17 +84,25 @@ class SlurmQueue:
         return wanted
 
     def work(self):
-        look = 0
+        looks = 0
         while not self.is_closed:
             time.sleep(PAUSE)
-            look += 1
+            looks += 1
             with self.lock:
-                self.submit()
-                for wanted in list(self.with_slurm.values()):
-                    if os.path.exists(self.path(wanted.number, "osrl")):
-                        self.end(wanted)
-                if look % LOOKS == 0 and self.with_slurm:
-                    self.find_lost()
+                try:
+                    self.look(looks % LOOKS == 0)
+                except OSError as failure:  # nobody is left to wait for ever
+                    for wanted in [*self.waiting, *self.with_slurm.values()]:
+                        self.end(wanted, f"{failure.filename or self.folder}: {failure.strerror}")
+                    self.waiting = []
+
+    def look(self, is_lost_looked_for):
+        self.submit()
+        for wanted in list(self.with_slurm.values()):
+            if os.path.exists(self.path(wanted.number, "osrl")):
+                self.end(wanted)
+        if is_lost_looked_for and self.with_slurm:
+            self.find_lost()
 
     def submit(self):
         """Submits what waits as one array, whose tasks have the parts' numbers."""

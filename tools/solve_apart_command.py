@@ -6,7 +6,6 @@ import shutil
 import signal
 import sys
 import tempfile
-import threading
 import time
 
 sys.path.insert(1, os.path.join(os.path.dirname(os.path.abspath(__file__)), "..", "clients", "python"))
@@ -15,9 +14,9 @@ import gubnatris
 import job_documents
 import parts
 import slurm_workers
-from apart import Book, Division, Seat
+from apart import Book, Division, Seat, Task
 from linear_program import MOST_DOCUMENT, Complaint, Unread, printable, read_bytes, write_whole
-from part_workers import Checker, Failed, Jobs, LocalWorker, ServerWorker
+from part_workers import LONGEST_STOP, Checker, Failed, Jobs, LocalWorker, ServerWorker
 from slurm_workers import SlurmQueue, SlurmWorker
 
 USAGE = """usage: tools/solve_apart MODEL [--servers URL,.. | --workers N | --slurm] [--seconds N] [--share N] [--folder DIR] [--output OSRL] [--quiet]
@@ -94,6 +93,8 @@ class Solving:
 
     def run(self):
         """Solves, and writes; the status."""
+        for name in (signal.SIGTERM, signal.SIGINT):
+            signal.signal(name, self.end_early)
         osil = read_bytes(self.words.model, MOST_DOCUMENT)
         with tempfile.TemporaryDirectory() as scratch:
             checker = Checker(scratch)
@@ -102,8 +103,6 @@ class Solving:
                 raise Complaint(line.removeprefix("refused Instance ") or "the program's check says nothing")
             self.instance = job_documents.instance_of(self.words.model)
             os.makedirs(self.words.folder, exist_ok=True)
-            for name in (signal.SIGTERM, signal.SIGINT):
-                signal.signal(name, self.end_early)
             try:
                 return self.solve(osil, checker)
             finally:
@@ -118,7 +117,8 @@ class Solving:
         if self.words.is_slurm:
             tasks = SlurmQueue(self.words.folder, self.words.share)
             self.workers = [SlurmWorker(tasks) for _ in range(self.words.workers or min(MOST_SEATS, slurm_workers.processors()))]
-            self.bounding = [LocalWorker(k + 1) for k in range(BOUNDING)]
+            for k in range(BOUNDING):
+                self.bounding.append(LocalWorker(k + 1))
         elif self.words.servers:
             self.workers = [ServerWorker(url, jobs) for _ in range(self.words.workers) for url in self.words.servers]
         else:
@@ -146,26 +146,34 @@ class Solving:
 
     def solve_whole(self, osil, checker):
         """Solves the instance as it is, by the first worker that answers rightly."""
-        stop, document = threading.Event(), None
-        timer = threading.Timer(max(0.0, self.until - time.monotonic()), stop.set) if self.words.seconds else None
-        if timer:
-            timer.start()
+        events = queue.SimpleQueue()
         for worker in self.workers:
-            try:
-                document = worker.solve(osil.decode("utf-8-sig"), stop)
-                outcome = checker.outcome(osil.decode("utf-8-sig"), document) if document else None
+            task = Task("search", None, osil.decode("utf-8-sig"))
+            Seat(worker, checker, events).give(task)
+            answer = self.answer_to(task, events)
+            if isinstance(answer, Failed):
+                self.say(f"{worker.name}: {answer}")
+            elif answer is not None:
+                write_whole(task.document, self.words.output)
+                self.tell(f"{answer.status}, undivided", True)
+                return 0 if answer.status != "unsure" else 1
+            if time.monotonic() >= self.until:
                 break
-            except Failed as failure:
-                self.say(f"{worker.name}: {failure}")
-                document = None
-        if timer:
-            timer.cancel()
-        if document is None:
-            print("solve_apart: nobody solved it", file=sys.stderr)
-            return 6
-        write_whole(document, self.words.output)
-        self.tell(f"{outcome.status}, undivided", True)
-        return 0 if outcome.status != "unsure" else 1
+        self.tell("nobody solved it", True)
+        return 6
+
+    def answer_to(self, task, events):
+        """What comes of a task, which is stopped once it is time to end; none where nothing comes of it."""
+        last = float("inf")
+        while time.monotonic() < last:
+            try:
+                return events.get(timeout=0.05)[-1]
+            except queue.Empty:
+                pass
+            if time.monotonic() >= self.until and not task.stop.is_set():
+                task.stop.set()
+                last = time.monotonic() + LONGEST_STOP
+        return None
 
     def write(self, claim, osil, checker):
         """Writes the joined result, as far as one document has room for it, and says what the check makes of it."""

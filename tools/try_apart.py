@@ -4,7 +4,9 @@ started again, and words and files that are refused.
     python3 tools/try_apart.py
 """
 
-import http.server
+import contextlib
+import io
+import json
 import os
 import re
 import shutil
@@ -12,23 +14,26 @@ import signal
 import subprocess
 import sys
 import tempfile
-import threading
 import time
+from fractions import Fraction
 from pathlib import Path
 
+import apart
 import gubnatris
+import parts
 import programs
+import solve_apart_command
+from gubnatris.instances import read_instance
+from odd_servers import EndingEarly, Lying, Slow, ended_by_length, ended_with_bound
+from part_workers import Outcome
 from serving import PROGRAM, Server
 
 TOOL = "tools/solve_apart"
-LONGEST = 240
+LONGEST = 900  # seconds that one run may take, on a machine with much other work
 os.environ["TRY_APART"] = str(os.getpid())  # by which the processes are known that were started for this trial
 MARK = f"TRY_APART={os.getpid()}"
-ENVELOPE = '<Envelope><Body><{0}Response><{0}Return>{1}</{0}Return></{0}Response></Body></Envelope>'
-FULL = "<Envelope><Body><Fault><faultcode>soap:Server.Full</faultcode><faultstring>10000 jobs</faultstring></Fault></Body></Envelope>"
-KNOCKED = (
-    "&lt;ospl&gt;&lt;processData&gt;&lt;statistics&gt;&lt;currentState&gt;idle&lt;/currentState&gt;&lt;currentJobCount&gt;0&lt;/currentJobCount&gt;"
-    "&lt;totalJobsSoFar&gt;1&lt;/totalJobsSoFar&gt;&lt;jobs/&gt;&lt;/statistics&gt;&lt;/processData&gt;&lt;/ospl&gt;"
+WIDE = programs.Program(  # rows whose factors have so many digits that what is formed of them passes 128 bits
+    "wide", False, [(0, None, True)] * 3, [(10**15 + 37, None, {0: 10**14 + 31, 1: 10**14 + 67, 2: 10**13 + 37}), (10**15 + 91, None, {0: 10**13 + 51, 1: 10**14 + 97, 2: 10**14 + 99})], [10**14 + 3, 10**14 + 9, 10**14 + 21]
 )
 # Names without the answers: three goals, the last of which has no end; and one whose relaxation has no end, but for whole numbers no point
 LATER_ENDLESS = programs.Program("later endless", False, [(0, 3, True), (0, None, False)], [], [1, 0], later=([0, -1],))
@@ -78,6 +83,57 @@ def told(document):
     return result.status, result.objectives
 
 
+class Still:
+    """A seat that has what it is given and does nothing, and a folder that keeps nothing."""
+
+    kinds, task, is_out, entries = ("bound", "search"), None, False, {}
+
+    def is_free(self):
+        return self.task is None
+
+    def give(self, task):
+        self.task = task
+
+    def write(self, _):
+        pass
+
+
+def division(program, coarse=None):
+    return apart.Division(read_instance(programs.osil(program).encode()), Still(), [Still(), Still()], None, lambda _: None, coarse=coarse)
+
+
+def rules(_):
+    """The rules by which parts are given out, each by itself: those that are held stay once, a better point stops what it closes, and a bound that
+    comes late ends nothing and delays nothing."""
+    it = division(programs.general_assignment(4, 12), coarse=6)
+    it.root.is_searched = True
+    it.resume(it.root)
+    for _ in range(400):
+        part = it.next_open()
+        if part:
+            it.keep_branch(part, apart.middle_branch(part.variables))
+    is_so(f"of {len(it.open)} parts that are held {len(it.heap)} and {len(it.deep)} wait, behind 400 looks", 6 <= len(it.open) <= 8 and len(it.heap) + len(it.deep) < 40)
+    two = programs.Program("two", True, [(0, 1, True)] * 2, [(None, 1, {0: 1, 1: 1})], [1, 1])
+    it = division(two)
+    it.resume(it.root)
+    it.give_work()
+    it.root.raise_bound(Fraction(-1), ("bound 2:1",))
+    tasks = [seat.task for seat in it.seats]
+    it.offer((1, 0))
+    is_so("a point that closes a part stops who searches it, and who bounds it", {task.kind for task in tasks} == {"search", "bound"} and all(task.stop.is_set() for task in tasks))
+    it = division(two)
+    it.resume(it.root)
+    it.next_open()
+    it.root.raise_bound(Fraction(-2), ("bound",))
+    it.keep_branch(it.root, parts.Branch(0, 0))
+    it.next_open()
+    it.take_early(it.root, Outcome("unsure", bound=Fraction(3, 2), trees=(("split 0 0", "bound", "bound"),)))
+    is_so("a bound that a search of a divided part tells is taken", it.root.bound == Fraction(-3, 2) and list(it.open) == ["r0", "r1"] and it.root.children[0].key() == Fraction(-3, 2))
+    for child in it.root.children:
+        it.close(child, (Fraction(-1),), (("bound",),))
+    is_so("and the part is over with its cases", it.is_over())
+
+
 def kinds(folder):
     """Programs of each kind: the same status and values as one `solve`, and a result that the check accepts."""
     transport = programs.transport(4, 6)
@@ -85,61 +141,26 @@ def kinds(folder):
         "whole variables": programs.knapsack(20, 2), "fixed charges": programs.fixed_charge(5, 7), "general assignment": programs.general_assignment(4, 12),
         "job shop": programs.job_shop(4, 3), "semi-continuous": programs.lot_sizing(2, 6), "their big-M form": programs.with_choices(programs.lot_sizing(2, 4)),
         "three goals": programs.with_goals(programs.knapsack(20, 1), 3), "two goals of a cover": programs.with_goals(programs.cover(30), 2),
-        "a later goal without end": LATER_ENDLESS, "no whole variable": transport, "only the relaxation has points": ONLY_RELAXED,
+        "a later goal without end": LATER_ENDLESS, "no whole variable": transport,
     }.items():
         case = Case(folder, "kind", programs.osil(program))
-        ran, single = case.solve("--workers", "2", "--seconds", "20"), case.single()
-        if name == "only the relaxation has points":  # no tree of cases ends: each split leaves a case without end
-            is_so(f"{name}: {last(ran)[:90]}", ran.returncode == 1 and case.told()[0] == "unsure")
-        else:
-            is_so(f"{name}: {case.line()} {case.told()[1]}", ran.returncode == 0 and case.line() == f"accepted {single[0]}" and case.told() == single)
-        shutil.rmtree(f"{case.osil}.parts", ignore_errors=True)
+        ran, single = case.solve("--workers", "2"), case.single()
+        is_so(f"{name}: {case.line()} {case.told()[1]}", ran.returncode == 0 and case.line() == f"accepted {single[0]}" and case.told() == single)
     for name in ("infeasible_schedule", "unlimited_trade", "knapsack", "capital_budget"):
         case = Case(folder, name, Path(f"examples/{name}.osil").read_text(encoding="utf-8"))
         ran, single = case.solve("--workers", "2"), case.single()
         is_so(f"{name}: {case.line()}", ran.returncode == 0 and case.line() == f"accepted {single[0]}" and case.told() == single)
         is_so(f"{name}: no folder is left", not os.path.exists(f"{case.osil}.parts"))
+    stay_open(folder)
 
 
-class Liar(http.server.BaseHTTPRequestHandler):
-    """A server that takes each part and answers by a document of another one, or by that it is full, or by no word of SOAP."""
-
-    document, asked, protocol_version = "", 0, "HTTP/1.1"
-
-    def do_POST(self):
-        type(self).asked += 1
-        body = self.rfile.read(int(self.headers["Content-Length"]))
-        call = re.search(rb"<(getJobID|send|retrieve|kill|knock) ", body).group(1).decode()
-        texts = {"getJobID": "os-1", "send": "true", "retrieve": self.document, "kill": KNOCKED, "knock": KNOCKED}
-        status, text = (500, FULL) if self.document == "full" else (200, ENVELOPE.format(call, texts[call]))
-        self.send_response(status)
-        self.send_header("Content-Length", str(len(text.encode())))
-        self.end_headers()
-        self.wfile.write(text.encode())
-
-    def log_message(self, *_):
-        pass
-
-
-class Lying:
-    """A lying server at a port of loopback, for as long as it is wanted."""
-
-    def __init__(self, document):
-        self.handler = type("Handler", (Liar,), {"document": document, "asked": 0})
-
-    def __enter__(self):
-        self.server = http.server.ThreadingHTTPServer(("127.0.0.1", 0), self.handler)
-        threading.Thread(target=self.server.serve_forever, daemon=True).start()
-        self.url = f"http://127.0.0.1:{self.server.server_address[1]}"
-        return self
-
-    def __exit__(self, *_):
-        self.server.shutdown()
-        self.server.server_close()
-
-
-def escaped(text):
-    return text.replace("&", "&amp;").replace("<", "&lt;").replace(">", "&gt;")
+def stay_open(folder):
+    """Programs that nobody decides: of one no tree of cases ends, since each split leaves a case without end; of one the numbers are too wide."""
+    for name, program, words, says in (("only the relaxation has points", ONLY_RELAXED, ("--seconds", "10"), "unsure"), ("numbers that are too wide", WIDE, (), "part r stays open: wide")):
+        case = Case(folder, "open", programs.osil(program))
+        ran = case.solve("--workers", "2", *words)
+        is_so(f"{name}: {last(ran)[:90]}", ran.returncode == 1 and case.told()[0] == "unsure" and says in ran.stderr and "Traceback" not in ran.stderr)
+        shutil.rmtree(f"{case.osil}.parts")
 
 
 def lies(case):
@@ -155,9 +176,9 @@ def lies(case):
 
 
 def servers(folder):
-    """Servers of others: two, one of which is killed with its parts, lies, is full, or nobody."""
-    case = Case(folder, "fixed", programs.osil(programs.fixed_charge(9, 12)))
-    value = ("optimal", (938,))
+    """Servers of others: two; ones that lie, are full or slow, or whose searches end early; one that is killed, and nobody."""
+    case = Case(folder, "served", programs.osil(programs.general_assignment(4, 12)))
+    value = case.single()
     with Server(1, 16) as one, Server(1, 16) as two:
         urls = [f"http://127.0.0.1:{it.port}" for it in (one, two)]
         ran = case.solve("--servers", ",".join(urls), "--workers", "1")
@@ -165,29 +186,89 @@ def servers(folder):
         states = [gubnatris.Server(url).jobs() for url in urls]
         is_so(f"no job is left at them, of {[it.total for it in states]}", all(not it.states and it.total for it in states))
         for name, document in lies(case):
-            with Lying(escaped(document)) as liar:
+            with Lying(document) as liar:
                 ran = case.solve("--servers", f"{liar.url},{urls[0]}", "--workers", "1")
                 is_told = f"{liar.url} is left out: its answer" in ran.stderr if 'type="' in document and "unknown" not in document else f"{liar.url}: " in ran.stderr
-                is_so(f"{name}: {case.line()}, asked {liar.handler.asked} times", ran.returncode == 0 and case.told() == value and is_told and 0 < liar.handler.asked)
-        with Lying("full") as full:
-            ran = case.solve("--servers", f"{full.url},{urls[0]}", "--workers", "1")
-            is_so(f"a server that is full: {case.line()}", ran.returncode == 0 and case.told() == value and "Server.Full" in ran.stderr)
-            ran = case.solve("--servers", full.url)
-            is_so(f"nobody else: {last(ran)[:100]}", ran.returncode == 1 and "Traceback" not in ran.stderr and "nobody is left" in ran.stderr)
-            shutil.rmtree(f"{case.osil}.parts")
-        dies(case, urls, two, value)
+                is_so(f"{name}: {case.line()}, asked {liar.asked} times", ran.returncode == 0 and case.told() == value and is_told and 0 < liar.asked)
+        full_or_slow(case, value, one)
+        end_early(folder, one)
+        dies(folder, urls, two)
     ran = case.solve("--servers", urls[0])
     is_so(f"no server is there: {last(ran)[:100]}", ran.returncode == 1 and "Traceback" not in ran.stderr)
     shutil.rmtree(f"{case.osil}.parts")
 
 
-def dies(case, urls, server, value):
-    process = subprocess.Popen([TOOL, case.osil, "--output", case.osrl, "--servers", ",".join(urls)], stderr=subprocess.PIPE, text=True)
-    while gubnatris.Server(urls[1]).jobs().total < 3:
+def full_or_slow(case, value, right):
+    """A server that is full, beside a right one and alone; and one that answers each call a second later."""
+    url = f"http://127.0.0.1:{right.port}"
+    with Lying(None) as full:
+        ran = case.solve("--servers", f"{full.url},{url}", "--workers", "1")
+        is_so(f"a server that is full: {case.line()}", ran.returncode == 0 and case.told() == value and "Server.Full" in ran.stderr)
+        ran = case.solve("--servers", full.url)
+        is_so(f"nobody else: {last(ran)[:100]}", ran.returncode == 1 and "Traceback" not in ran.stderr and "nobody is left" in ran.stderr)
+        shutil.rmtree(f"{case.osil}.parts")
+    with Slow(right.port, 1.0) as slow:
+        ran = case.solve("--servers", f"{slow.url},{url}", "--workers", "1")
+        is_so(f"a server that is slow, asked {slow.asked} times: {case.line()}", ran.returncode == 0 and case.told() == value and slow.asked and "left out" not in ran.stderr)
+
+
+def end_early(folder, right):
+    """Servers whose searches all end early: the parts alone show the whole; and where the searches tell bounds, these join."""
+    case = Case(folder, "early_served", programs.osil(programs.fixed_charge(5, 7)))
+    value = case.single()
+    with EndingEarly(right.port, ended_by_length) as server:
+        ran = case.solve("--servers", server.url, "--workers", "3")
+        searched = int(re.search(r"(\d+) searched", last(ran)).group(1))
+        is_so(f"{searched} searches that are too long: {case.line()}", ran.returncode == 0 and case.line() == "accepted optimal" and case.told() == value and searched)
+    with EndingEarly(right.port, ended_with_bound) as server:
+        words = ("--servers", server.url, "--workers", "3", "--folder", f"{case.osil}.kept")
+        with subprocess.Popen([TOOL, case.osil, "--output", case.osrl, *words], stderr=subprocess.PIPE, text=True) as process:
+            nodes = joined_nodes(Path(f"{case.osil}.kept/found"), process)
+            process.terminate()
+            text = process.communicate(timeout=LONGEST)[1]
+        told_of = re.fullmatch(r"accepted (?:bestSoFar|unsure) within (\S+)", case.line())
+        is_so(f"a bound of {nodes} nodes joins: {case.line()}", nodes > 1 and (told_of and f"none better than {told_of.group(1)} " in text or case.line() == "accepted optimal"))
+        ran = case.solve(*words)
+        is_so(f"and the run that goes on with it: {case.line()}", ran.returncode == 0 and case.line() == "accepted optimal" and case.told() == value)
+
+
+def joined_nodes(found, process):
+    """Waits until a part of the folder is bounded by more than one node, as far as the tool works so long; by how many."""
+    limit, most = time.monotonic() + LONGEST, 0
+    while most < 2 and process.poll() is None and time.monotonic() < limit:
+        time.sleep(0.05)
+        lines = found.read_text(encoding="utf-8").split("\n")[:-1] if found.exists() else []
+        most = max((len(json.loads(line).get("leaf", ())) for line in lines), default=0)
+    return most
+
+
+def busy_since(url, before, process):
+    """Waits until a server has taken three more jobs, and has one; whether it came to that while the tool worked."""
+    limit = time.monotonic() + LONGEST
+    while process.poll() is None and time.monotonic() < limit:
+        jobs = gubnatris.Server(url).jobs()
+        if jobs.total >= before + 3 and jobs.states:
+            return True
         time.sleep(0.02)
-    server.process.send_signal(signal.SIGKILL)
-    text = process.communicate(timeout=LONGEST)[1]
-    is_so(f"a server is killed with its parts: {case.line()}", process.returncode == 0 and case.told() == value and "asked again" in text)
+    return False
+
+
+def dies(folder, urls, server):
+    """The tool is killed while jobs of it are at two servers, and started again; then one server is, with its parts."""
+    case = Case(folder, "dying", programs.osil(programs.fixed_charge(9, 12)))
+    words = [TOOL, case.osil, "--output", case.osrl, "--servers", ",".join(urls)]
+    before = gubnatris.Server(urls[1]).jobs().total
+    with subprocess.Popen([*words, "--quiet"]) as process:
+        is_busy = busy_since(urls[1], before, process)
+        process.kill()
+    before = gubnatris.Server(urls[1]).jobs().total
+    with subprocess.Popen(words, stderr=subprocess.PIPE, text=True) as process:
+        is_busy &= busy_since(urls[1], before, process)
+        server.process.send_signal(signal.SIGKILL)
+        text = process.communicate(timeout=LONGEST)[1]
+    is_so("a tool that was killed gives up the jobs that it left", is_busy and re.search(r"\d+ jobs of a run that was killed are given up", text))
+    is_so(f"a server is killed with its parts: {case.line()}", process.returncode == 0 and case.told() == ("optimal", (938,)) and "asked again" in text)
+    is_so("no job is left at the other one", not gubnatris.Server(urls[0]).jobs().states)
 
 
 def families():
@@ -203,23 +284,31 @@ def is_mine(pid):
         return False
 
 
+def are_gone():
+    """Whether none of them is left, which the system may take a moment for."""
+    limit = time.monotonic() + 60
+    while families() and time.monotonic() < limit:
+        time.sleep(0.1)
+    return not families()
+
+
 def goes_on(folder):
     """A tool that is killed while it works, and started again; one that is asked to end."""
     case = Case(folder, "again", programs.osil(programs.general_assignment(5, 25)))
-    found, limit = Path(f"{case.osil}.parts/found"), time.monotonic() + 100
+    value = case.single()
+    found, limit = Path(f"{case.osil}.parts/found"), time.monotonic() + LONGEST
     process = subprocess.Popen([TOOL, case.osil, "--output", case.osrl, "--workers", "2", "--quiet"], stderr=subprocess.DEVNULL)
-    while (not found.exists() or len(found.read_text(encoding="utf-8").splitlines()) < 10) and time.monotonic() < limit:
+    while (not found.exists() or len(found.read_text(encoding="utf-8").splitlines()) < 10) and process.poll() is None and time.monotonic() < limit:
         time.sleep(0.02)
     process.kill()
     process.wait()
-    time.sleep(0.5)
-    is_so(f"killed with {len(found.read_text(encoding='utf-8').splitlines())} finds; {len(families())} of its servers are left", not families())
+    is_so(f"killed with {len(found.read_text(encoding='utf-8').splitlines())} finds, and none of its servers is left", are_gone())
     with found.open("a", encoding="utf-8") as file:
         file.write('{"part": "r0", "clo')  # as a kill within a write leaves it
     before = sum('"branch"' in line or '"closed"' in line for line in found.read_text(encoding="utf-8").splitlines())
     ran = case.solve("--workers", "2")
     bounded = int(re.search(r"(\d+) bounded", ran.stderr).group(1))
-    is_so(f"started again: {case.line()} {case.told()}, {before} parts kept, {bounded} bounded", ran.returncode == 0 and case.line() == "accepted optimal" and case.told() == ("optimal", (420,)) and before >= 5)
+    is_so(f"started again: {case.line()} {case.told()}, {before} parts kept, {bounded} bounded", ran.returncode == 0 and case.line() == "accepted optimal" and case.told() == value and before >= 5)
     other = Case(folder, "other", programs.osil(programs.general_assignment(4, 12)))
     other.solve("--workers", "1", "--folder", f"{folder}/kept")
     ran = case.solve("--workers", "1", "--folder", f"{folder}/kept")
@@ -230,17 +319,22 @@ def goes_on(folder):
 def ends_early(folder):
     """An instance that no search ends soon: the best point, and a bound that the parts show."""
     case = Case(folder, "early", programs.osil(programs.job_shop(6, 4)))
-    ran = case.solve("--workers", "2", "--seconds", "10")
-    is_so(f"ten seconds: {last(ran)[:130]}", ran.returncode == 0 and case.line().startswith("accepted bestSoFar") and "none better than" in ran.stderr)
+    for seconds in ("10", "90"):  # the second where a machine with much other work finds no point in the first
+        ran = case.solve("--workers", "2", "--seconds", seconds)
+        if case.told()[0] == "bestSoFar":
+            break
+    is_so(f"{seconds} seconds: {last(ran)[:130]}", ran.returncode == 0 and case.line().startswith("accepted bestSoFar") and "none better than" in ran.stderr)
     document = Path(case.osrl).read_text(encoding="utf-8")
     bound = re.search(r'name="os_cert.bound"><item>([^<]*)<', document)
     is_so(f"its bound is {bound and bound.group(1)}, its value {case.told()[1]}", bound and "os_cert.tree" in document)
-    process = subprocess.Popen([TOOL, case.osil, "--output", case.osrl, "--workers", "2"], stderr=subprocess.PIPE, text=True)
-    time.sleep(5)
+    process, found = subprocess.Popen([TOOL, case.osil, "--output", case.osrl, "--workers", "2"], stderr=subprocess.PIPE, text=True), Path(f"{case.osil}.parts/found")
+    length, limit = found.stat().st_size, time.monotonic() + LONGEST
+    while found.stat().st_size == length and time.monotonic() < limit:  # until it has found more
+        time.sleep(0.1)
     process.terminate()
-    text = process.communicate(timeout=60)[1]
+    text = process.communicate(timeout=LONGEST)[1]
     is_so(f"asked to end: {text.strip().splitlines()[-1][:100]}", process.returncode == 0 and case.line().startswith("accepted bestSoFar"))
-    is_so("and it goes on in its folder", os.path.exists(f"{case.osil}.parts/found") and not families())
+    is_so("and it goes on in its folder", os.path.exists(f"{case.osil}.parts/found") and are_gone())
     shutil.rmtree(f"{case.osil}.parts")
 
 
@@ -249,8 +343,9 @@ def refused(folder):
     usage = run()
     is_so("no words: the usage", usage.returncode == 2 and usage.stderr.startswith("usage:"))
     for words in (("a", "b"), ("a", "--workers", "0"), ("a", "--workers", "65"), ("a", "--servers", "ftp://a"), ("a", "--servers"), ("a", "--servers", ""), ("a", "--slow"), ("a", "--seconds", "x"), ("a", "--slurm", "--servers", "http://a")):
-        ran = run(*words)
-        is_so(f"{' '.join(words)}: the usage", ran.returncode == 2 and ran.stderr.startswith("usage:") and not ran.stdout)
+        with contextlib.redirect_stderr(io.StringIO()) as told_of:
+            status = solve_apart_command.main(words)
+        is_so(f"{' '.join(words)}: the usage", status == 2 and told_of.getvalue() == usage.stderr)
     bad = Case(folder, "bad", "<osil><instanceData/></osil>")
     for what, path, status, says in (
         ("a file that isn't there", f"{folder}/none", 3, "can't be read"),
@@ -267,12 +362,12 @@ def refused(folder):
 
 def main():
     with tempfile.TemporaryDirectory() as folder:
-        for tried in (refused, kinds, servers, goes_on):
+        for tried in (rules, refused, kinds, servers, goes_on):
             try:
                 tried(folder)
             except (OSError, ValueError, AttributeError, subprocess.TimeoutExpired, gubnatris.Error) as failure:
                 is_so(f"{tried.__name__} ended: {failure!r}"[:200], False)
-    is_so("no server of the tool is left", not families())
+    is_so("no server of the tool is left", are_gone())
     print(f"{Found.passed} passed, {Found.failed} failed")
     return Found.failed > 0
 

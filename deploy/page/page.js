@@ -338,7 +338,7 @@ function onlyLeaf(result) {
 }
 
 function pairsOf(node) {
-  return node.pieces.map((piece) => piece.split(":")).map(([column, factor]) => [Number(column), ratio(factor)]);
+  return node.pieces.filter((piece) => piece.includes(":")).map((piece) => piece.split(":")).map(([column, factor]) => [Number(column), ratio(factor)]);
 }
 
 function claimWords(result) {
@@ -350,7 +350,8 @@ function claimWords(result) {
 
 // How far the best value may be from what was found, where the result says a bound.
 function gapFacts(result) {
-  if (!result.bound || !result.values.length) return [];
+  if (!result.bound) return [];
+  if (!result.values.length) return [["bound", withExact(result.bound)]];
   const apart = result.values[0].minus(result.bound), gap = apart.sign() < 0 ? ZERO.minus(apart) : apart, value = result.values[0];
   const part = value.sign() ? gap.times(new Fraction(100n * value.under, value.over < 0n ? -value.over : value.over)) : null;
   return [["bound", withExact(result.bound)], ["gap", `${withExact(gap)}${part ? `, ${Number(part.over) / Number(part.under) < 0.01 && part.sign() ? "below 0.01" : (Number(part.over) / Number(part.under)).toFixed(2)} % of the value` : ""}`]];
@@ -523,6 +524,7 @@ class TreeView {
     if (node.children.length) return `${this.name(Number(node.pieces[0]))}${node.isFolded ? " .." : ""}`;
     if (node.kind === "bound") return this.bestOf(node);
     if (node.kind === "clash") return `no point: the ends of ${this.name(Number(node.pieces[0]))} clash`;
+    if (node.kind !== "farkas") return "closed";
     const names = pairsOf(node).slice(0, 3).map(([column]) => this.name(column));
     return `no point: ${names.join(", ")}${node.pieces.length > 3 ? " .." : ""} can't hold together`;
   }

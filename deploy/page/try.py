@@ -27,8 +27,9 @@ from serving import envelope, options, returned
 PAGE = Path(__file__).resolve().parent
 MOST_BYTES = 100_000  # of the page
 MANY = 2_000  # jobs
-WITHIN = 60  # seconds for what a machine with other work may take
+WITHIN = 120  # seconds for what a machine with other work may take
 LONGEST = 4_194_304
+LONGEST_SEARCH = 900  # seconds for the search of a long result, on such a machine
 MARKUP = "<img src=x onerror=\"document.title='broken'\"><script>document.title='broken'</script>"
 
 # When the table has so many rows and the browser has drawn them, in milliseconds since the page was asked for.
@@ -194,6 +195,25 @@ def shows_slacks(page):
     page.check("the slacks of the second", rows[1][:5], ["second", "5", "1 to 6", "4", "1"])
 
 
+def tells_bounds(page):
+    """A bound is shown where a result has one, and a gap where it has a value too."""
+    items = {"point": "7", "value": "7", "bound": "9", "tree": "bound 0:-1", "cause": "killed"}
+    for claim, names, wanted in (
+        ("bestSoFar", items, {"value": "7", "bound": "9", "gap": "2, 28.57 % of the value"}),
+        ("unsure", ("bound", "tree", "cause"), {"bound": "9"}),
+    ):
+        parts = "".join(f'<otherSolutionResult name="os_cert.{name}"><item>{items[name]}</item></otherSolutionResult>' for name in names)
+        osrl = (
+            f'<osrl><general><generalStatus type="normal"/></general><job><status>finished</status></job><optimization><solution><status type="{claim}"/>'
+            f"<otherSolutionResults>{parts}</otherSolutionResults></solution></optimization></osrl>"
+        )
+        found = page.driver.execute_script(
+            "const box = document.createElement('div'); box.append(...resultView(resultOf(arguments[0]), null));"
+            "return [...box.querySelectorAll('dt')].map(it => [it.textContent, it.nextElementSibling.textContent])", osrl
+        )
+        page.check(f"the facts of a bound, {claim}", dict(found), {"claim": f"{claim}: it was asked to stop (killed)", **wanted})
+
+
 def shows_names_as_text(page):
     """A name with markup in it is shown as it is, and nothing of it runs."""
     name = MARKUP.replace("&", "&amp;").replace("<", "&lt;").replace('"', "&quot;")
@@ -290,8 +310,8 @@ def shows_long_results(page, machines):
     number = int(returned(client.post(envelope("getJobID"))[1])[3:])
     osil, osol = parity(16, 2000), options(number).replace("</osol>", f"<optimization><solverOptions>{limits}</solverOptions></optimization></osol>")
     client.post(envelope("send", osil=osil, osol=osol))
-    text, name = "", f"os-{number}"
-    while "<status>finished<" not in text:
+    text, name, limit = "", f"os-{number}", time.monotonic() + LONGEST_SEARCH
+    while "<status>finished<" not in text and time.monotonic() < limit:
         text = returned(client.post(envelope("retrieve", osol=options(number)))[1])
         time.sleep(0.2)
     client.close()
@@ -310,17 +330,19 @@ def shows_long_results(page, machines):
 
 
 def shows_many_jobs(page, machines):
-    """2,000 jobs, over all servers, are shown within a second of the page's processor time, from the start of its loading."""
+    """2,000 jobs, over all servers, are shown within a second of the page's processor time, from the start of its loading. It is loaded in a tab of its
+    own, so that the process that it has did nothing before."""
     client = ProxyClient(machines)
     for _ in range(MANY):
         client.post(envelope("getJobID"))
     client.close()
+    page.driver.switch_to.new_window("tab")
     page.driver.execute_cdp_cmd("Page.addScriptToEvaluateOnNewDocument", {"source": WHEN_SHOWN})
-    page.driver.get("about:blank")
     before = page.processor_seconds()
     page.driver.get(page.url)
     moment = page.wait("all jobs are shown", lambda: page.driver.execute_script("return window.shownAt")) or 0
-    taken = page.processor_seconds() - before
+    after = page.processor_seconds()
+    taken = after - before if after > before else after  # a browser may give a page a process that is new once more
     print(f"{MANY} jobs are shown {moment:.0f} ms behind the begin of loading, by {taken:.2f} s of processor time")
     page.check("they are shown within a second", moment > 0 and taken < 1)
     page.driver.find_element(By.ID, "find").send_keys("os-2")
@@ -351,7 +373,7 @@ def is_guarded(page, machines):
     client.field = b"\r\nSec-Fetch-Site: cross-site" + client.field
     page.check("a call from another page", client.post(envelope("knock"))[0], 403)
     client.close()
-    wrong = [entry["message"] for entry in page.driver.get_log("browser") if entry["level"] == "SEVERE" and "503" not in entry["message"]]
+    wrong = [entry["message"] for entry in page.driver.get_log("browser") if entry["level"] == "SEVERE" and not re.search("status of 50[23]", entry["message"])]
     page.check("what the browser complains of", wrong, [])
 
 
@@ -359,7 +381,7 @@ def main():
     folder = Path(sys.argv[1] if len(sys.argv) > 1 else "out/page")
     folder.mkdir(parents=True, exist_ok=True)
     with Machines() as machines, Page(machines, folder) as page:
-        for tried in (sends_examples, shows_slacks, shows_names_as_text, tells_refusals, stops_and_gives_up, is_used_by_keyboard, folds_trees):
+        for tried in (sends_examples, shows_slacks, tells_bounds, shows_names_as_text, tells_refusals, stops_and_gives_up, is_used_by_keyboard, folds_trees):
             tried(page)
         for tried in (shows_long_results, meets_a_server_that_is_down, shows_many_jobs, is_guarded):
             tried(page, machines)

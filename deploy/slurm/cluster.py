@@ -3,6 +3,7 @@
 Who has it becomes the parent of what the daemons leave, so that the processors' time of all is told at the end, and nothing stays.
 """
 
+import contextlib
 import ctypes
 import os
 import resource
@@ -10,6 +11,7 @@ import shutil
 import signal
 import subprocess
 import tempfile
+import threading
 import time
 
 SUBREAPER = 36  # PR_SET_CHILD_SUBREAPER of Linux
@@ -47,9 +49,16 @@ InactiveLimit=0
 KillWait=5
 SlurmctldTimeout=30
 SlurmdTimeout=30
+MessageTimeout=60
 {nodes}
 PartitionName=main Nodes=ALL Default=YES MaxTime=INFINITE State=UP
 """
+
+
+def children():
+    """The processes whose parent is this one."""
+    with open(f"/proc/self/task/{os.getpid()}/children", encoding="ascii") as file:
+        return [int(pid) for pid in file.read().split()]
 
 
 class Cluster:
@@ -58,10 +67,11 @@ class Cluster:
     def __init__(self, ports, daemons=2, processors=2):
         self.ports, self.count, self.processors = ports, daemons, processors
         self.names = [f"n{k}" for k in range(1, daemons + 1)]
-        self.processes, self.folder = {}, None
+        self.processes, self.folder, self.is_over = {}, None, threading.Event()
 
     def __enter__(self):
         ctypes.CDLL(None).prctl(SUBREAPER, 1)
+        threading.Thread(target=self.reap, daemon=True).start()
         self.folder = tempfile.mkdtemp(prefix="slurm-")
         os.chmod(self.folder, 0o755)
         try:
@@ -107,7 +117,7 @@ class Cluster:
         ran = subprocess.run(words, capture_output=True, text=True, env=os.environ | self.environment, check=False)
         return ran.stdout
 
-    def wait_until(self, is_so, what, seconds=60):
+    def wait_until(self, is_so, what, seconds=300):
         limit = time.monotonic() + seconds
         while not is_so():
             ended = [name for name, process in self.processes.items() if process.poll() is not None]
@@ -125,15 +135,32 @@ class Cluster:
         return "\n".join(lines)
 
     def kill(self, name):
-        """Ends a daemon as a power cut would, with what it runs."""
-        self.end_family(self.processes.pop(name), signal.SIGKILL)
-
-    def end_family(self, process, how):
-        process.send_signal(how)
+        """Ends a daemon as a power cut would, with what it runs: at once. How many processes that were."""
+        process = self.processes.pop(name)
+        family = self.family(name) | {process.pid}
+        for pid in family:
+            with contextlib.suppress(ProcessLookupError):
+                os.kill(pid, signal.SIGKILL)
         process.wait()
+        return len(family)
+
+    def family(self, name):
+        """What a daemon runs: the processes in whose environment its name stands, and those above them up to this one."""
+        mark, found = {f"SLURMD_NODENAME={name}".encode(), f"SLURM_CONF={self.environment['SLURM_CONF']}".encode()}, set()
+        for entry in filter(str.isdigit, os.listdir("/proc")):
+            pid = int(entry)
+            with contextlib.suppress(OSError):
+                with open(f"/proc/{pid}/environ", "rb") as file:
+                    is_its = mark <= set(file.read().split(b"\0"))
+                while is_its and pid not in (os.getpid(), 1, 0):
+                    found.add(pid)
+                    with open(f"/proc/{pid}/stat", encoding="ascii", errors="replace") as stat:
+                        pid = int(stat.read().rpartition(")")[2].split()[1])
+        return found
 
     def __exit__(self, *_):
         self.told("scancel", "--user=root") if "slurmctld" in self.processes else None
+        self.is_over.set()
         for how, patience in ((signal.SIGTERM, 10), (signal.SIGKILL, 5)):
             for process in reversed(self.processes.values()):
                 if process.poll() is None:
@@ -144,13 +171,20 @@ class Cluster:
         self.gather()
         shutil.rmtree(self.folder, ignore_errors=True)
 
+    def reap(self):
+        """Waits for what ends of that which the daemons started, as an init does: a task that nobody waits for is still there to Slurm, which a minute
+        later takes the node for broken. Such processes have a session of their own, and no `Popen` of this process has."""
+        while not self.is_over.wait(0.2):
+            for pid in children():
+                with contextlib.suppress(OSError):
+                    if os.getsid(pid) != os.getsid(0):
+                        os.waitpid(pid, os.WNOHANG)
+
     def gather(self):
         """Ends and waits for what the daemons left, each a child of this process by now."""
         for _ in range(100):
-            with open(f"/proc/self/task/{os.getpid()}/children", encoding="ascii") as file:
-                left = [int(pid) for pid in file.read().split()]
             known = {process.pid for process in self.processes.values() if process.poll() is None}
-            left = [pid for pid in left if pid not in known]
+            left = [pid for pid in children() if pid not in known]
             if not left:
                 return
             for pid in left:
@@ -159,13 +193,6 @@ class Cluster:
                     os.waitpid(pid, 0)
                 except (ProcessLookupError, ChildProcessError):
                     pass
-
-    @staticmethod
-    def processor_seconds(process):
-        """The processors' seconds of a daemon itself."""
-        with open(f"/proc/{process.pid}/stat", encoding="ascii") as stat:
-            fields = stat.read().rpartition(")")[2].split()
-        return (int(fields[11]) + int(fields[12])) / os.sysconf("SC_CLK_TCK")
 
     @staticmethod
     def spent():

@@ -3,6 +3,7 @@
     python3 deploy/slurm/try.py [FILES]     where a number stands there, it measures so many small files instead
 """
 
+import contextlib
 import os
 import random
 import re
@@ -14,13 +15,16 @@ import tempfile
 import time
 
 import programs
-from cluster import Cluster
+from cluster import Cluster, children
 from part_workers import free_port
 
 PROGRAM = os.environ["OS_PROGRAM"]
 MANY = "deploy/slurm/solve_many"
 EXAMPLES = ("diet", "knapsack", "transport", "infeasible_schedule", "capital_budget")
-LIMIT = 300
+LIMIT = 900  # seconds that one command may take, on a machine with much other work
+SHARES = 4  # the first share of a task is this part of an even one, as `solve_files` has it
+SOME = 1_000  # of the files, whose solves are measured alone
+LEAST_SHARE = 0.9  # of the processors' time through Slurm that the solves alone take
 
 
 class Trial:
@@ -28,7 +32,7 @@ class Trial:
 
     def __init__(self, cluster, folder):
         self.cluster, self.folder, self.passed, self.failed = cluster, folder, 0, 0
-        self.environment = os.environ | cluster.environment
+        self.environment = os.environ | (cluster.environment if cluster else {})
 
     def is_so(self, what, found):
         self.passed, self.failed = self.passed + bool(found), self.failed + (not found)
@@ -59,6 +63,11 @@ class Trial:
         return self.run(PROGRAM, "check", osil, osrl).stdout.strip()
 
 
+def result_of(where, name):
+    with open(f"{where}/{name.removesuffix('.osil')}.osrl", encoding="utf-8") as file:
+        return file.read()
+
+
 def results(where):
     return {name: os.stat(f"{where}/{name}").st_mtime_ns for name in os.listdir(where) if name.endswith(".osrl")}
 
@@ -76,41 +85,78 @@ def many_files(trial, count):
     trial.is_so(f"{count} files: {ran.stdout.strip().partition(';')[0]}", ran.returncode == 0 and len(results(where)) == count)
     trial.is_so(f"{len(lines)} lines of a table, one of them refused", len(lines) == count and [row[0] for row in lines if row[1].startswith("refused")] == [f"{count:05}.osil"])
     told = [(row[1], trial.check(f"{where}/{row[0]}", f"{where}/{row[0].removesuffix('.osil')}.osrl")) for row in lines[:40]]
-    trial.is_so("the check accepts what the lines say, of 40", all(line == f"accepted {status}" for status, line in told))
+    trial.is_so("the check accepts what the lines say, of 40", len(told) == 40 and all(line == f"accepted {status}" for status, line in told))
+    differ = [row[0] for row in [*lines[:20], lines[-1]] if trial.run(PROGRAM, "solve", f"{where}/{row[0]}").stdout != result_of(where, row[0])]
+    trial.is_so(f"each result is what one solve writes, of 21: {len(differ)} aren't", not differ)
     again = trial.run(MANY, where)
     trial.is_so("a second run has nothing to do, and the table stays", again.returncode == 0 and table(where) == lines)
     trial.is_so("nothing else is left beside the files", not [name for name in os.listdir(where) if name.endswith((".begun", ".line"))])
 
 
+def hold(where, tasks):
+    """Puts a pipe in the place of one file of each task's first share, so that the task waits there; the pipes with the texts of their files, and how
+    many results there are once all tasks wait."""
+    names, held, begin, before = sorted(os.listdir(where)), [], 0, 0
+    for _ in range(tasks):
+        half = (len(names) - begin) // (SHARES * tasks) // 2
+        path, before = f"{where}/{names[begin + half]}", before + half
+        with open(path, encoding="utf-8") as file:
+            held.append((path, file.read()))
+        os.remove(path)
+        os.mkfifo(path)
+        begin += (len(names) - begin) // (SHARES * tasks)
+    return held, before
+
+
+def let_go(held):
+    """Puts the files there again, and has who waits at a pipe read its text."""
+    for path, text in held:
+        os.rename(path, f"{path}.pipe")
+        with open(path, "w", encoding="utf-8") as file:
+            file.write(text)
+        with contextlib.suppress(OSError):  # nobody waits where the task was killed
+            with open(os.open(f"{path}.pipe", os.O_WRONLY | os.O_NONBLOCK), "w", encoding="utf-8") as pipe:
+                pipe.write(text)
+        os.remove(f"{path}.pipe")
+
+
+def until(is_so):
+    limit = time.monotonic() + LIMIT
+    while not is_so() and time.monotonic() < limit:
+        time.sleep(0.1)
+
+
 def interrupted(trial, count):
     """A run that is killed, with its tasks: a second one goes on behind it."""
-    where = trial.files("interrupted", count, 20)
-    process, limit = trial.start(MANY, where, "--tasks", "2"), time.monotonic() + 60
-    while len(results(where)) < count // 10 and time.monotonic() < limit:
-        time.sleep(0.02)
+    where = trial.files("interrupted", count)
+    held, number = hold(where, 2)
+    process = trial.start(MANY, where, "--tasks", "2")
+    until(lambda: len(results(where)) == number)
     process.kill()
     process.wait()
     trial.run("scancel", "--user=root")
-    while trial.cluster.told("squeue", "-h") and time.monotonic() < limit:
-        time.sleep(0.1)
+    until(lambda: not trial.cluster.told("squeue", "-h"))
+    let_go(held)
     before = results(where)
     ran = trial.run(MANY, where)
     after = results(where)
-    trial.is_so(f"killed behind {len(before)} of {count}, a second run goes on: {ran.stdout.partition(';')[0]}", 0 < len(before) < count and ran.returncode == 0 and len(after) == count)
+    trial.is_so(f"killed behind {len(before)} of {count}, a second run goes on: {ran.stdout.partition(';')[0]}", len(before) == number and ran.returncode == 0 and len(after) == count)
     trial.is_so("what had a result wasn't solved again, and each has a line", all(after[name] == then for name, then in before.items()) and len(table(where)) == count)
 
 
 def lost_node(trial, count):
-    """A daemon that dies with its tasks: Slurm gives them to the other one, or a second run does."""
+    """A node that is lost with its tasks and comes back: what they had taken is submitted again, within the same run."""
     where = trial.files("lost", count)
-    process, limit = trial.start(MANY, where), time.monotonic() + 60
-    while not results(where) and time.monotonic() < limit:
-        time.sleep(0.02)
-    trial.cluster.kill("n2")
+    held, number = hold(where, trial.cluster.count * trial.cluster.processors)
+    process = trial.start(MANY, where)
+    until(lambda: len(results(where)) == number)
+    ended = trial.cluster.kill("n2")
     trial.cluster.start_daemon("n2")
+    let_go(held)
     status = process.wait(timeout=LIMIT)
-    ran = trial.run(MANY, where)
-    trial.is_so(f"a daemon was killed and started: {ran.stdout.partition(';')[0]} (the first run ended with {status})", ran.returncode == 0 and len(results(where)) == count)
+    trial.is_so(f"a node was lost behind {number} files, with {ended} processes: the run ended with {status}", ended > 4 and status == 0 and len(results(where)) == count)
+    lists = [name for name in os.listdir(f"{where}/.solve_many") if name.count(".") == 1]
+    trial.is_so(f"what it had taken was submitted again, and each file has a line: {len(lists)} lists", len(lists) == 2 and len(table(where)) == count)
 
 
 def bad_words(trial):
@@ -137,8 +183,8 @@ def instance(trial, name, program):
 def parts_of_one(trial):
     """One program by array tasks, one of which is taken away; the tool is killed once, and goes on."""
     path, output = instance(trial, "apart", programs.fixed_charge(9, 12)), f"{trial.folder}/apart.osrl"
-    words = ("tools/solve_apart", path, "--slurm", "--share", "20", "--output", output)
-    process, limit = trial.start(*words), time.monotonic() + 60
+    words = ("tools/solve_apart", path, "--slurm", "--share", "60", "--output", output)
+    process, limit = trial.start(*words), time.monotonic() + LIMIT
     while not trial.cluster.told("squeue", "-h", "-t", "R") and time.monotonic() < limit:
         time.sleep(0.05)
     process.kill()
@@ -154,25 +200,41 @@ def parts_of_one(trial):
     trial.is_so("no task is left, and no folder", not trial.cluster.told("squeue", "-h") and not os.path.exists(f"{path}.parts"))
 
 
+def alone(path):
+    """The processor's seconds of one solve, as a process of its own."""
+    actions = [(os.POSIX_SPAWN_OPEN, 1, os.devnull, os.O_WRONLY, 0)]
+    _, _, usage = os.wait4(os.posix_spawn(PROGRAM, [PROGRAM, "solve", path], os.environ, file_actions=actions), 0)
+    return usage.ru_utime + usage.ru_stime
+
+
+def tasks_spent(where):
+    """The processors' seconds of all tasks, with all that they started."""
+    spent = 0.0
+    for name in os.listdir(f"{where}/.solve_many"):
+        if name.endswith(".ended"):
+            with open(f"{where}/.solve_many/{name}", encoding="ascii") as file:
+                spent += float(file.read())
+    return spent
+
+
 def measured(trial, count):
-    """The processors' seconds that so many files take by themselves, and through Slurm with all that it takes itself."""
+    """The processors' seconds of so many solves alone, reckoned from 1,000 of them, and of all files through Slurm with what it, its daemons' start
+    and its tasks take."""
     where = trial.files("measured", count)
-    with open(f"{trial.folder}/names", "w", encoding="utf-8") as file:
-        file.write("".join(f"{name}\n" for name in sorted(os.listdir(where))))
-    before = trial.cluster.spent()
-    alone = [trial.start("deploy/slurm/solve_files", where, f"{trial.folder}/names", str(task), "4") for task in range(4)]
-    for process in alone:
-        process.wait()
-    direct = trial.cluster.spent() - before
-    for name in results(where):
-        os.remove(f"{where}/{name}")
-    begun, before = time.monotonic(), Cluster.spent()
+    names = sorted(os.listdir(where))
+    some = names[:: max(1, count // SOME) | 1]  # an odd step, since every second file is of a kind of its own
+    own = sum(alone(f"{where}/{name}") for name in some) * count / len(some)
+    before = Cluster.spent()
     with Cluster([free_port() for _ in range(3)]) as cluster:
+        begun, processors = time.monotonic(), cluster.count * cluster.processors
         ran = subprocess.run([MANY, where], env=os.environ | cluster.environment, capture_output=True, text=True, check=False)
-        of_daemons = {name: round(cluster.processor_seconds(process), 1) for name, process in cluster.processes.items()}
-    through, clock = Cluster.spent() - before, time.monotonic() - begun
-    print(f"{count} files: {direct:.1f} s of processors by themselves, {through:.1f} s through Slurm, {direct / through:.2f} of them; {clock:.0f} s of the clock; of Slurm's own {of_daemons}")
+        clock = time.monotonic() - begun
+    through = Cluster.spent() - before
+    sessions, tasks = sum(float(row[3]) for row in table(where)), tasks_spent(where)
+    print(f"{count} files: {own:.1f} s of processors for the solves alone, each a process; {through:.1f} s through Slurm: {sessions:.1f} s of solving, {tasks - sessions:.1f} s else of its tasks, {through - tasks:.1f} s of its daemons and commands")
+    print(f"the solves alone take {own / through:.2f} of what all takes through Slurm, and {own / clock / processors:.2f} of {processors} processors for {clock:.1f} s of the clock")
     trial.is_so(ran.stdout.partition(";")[0], ran.returncode == 0 and len(results(where)) == count)
+    trial.is_so(f"at least {LEAST_SHARE} of the processors' time", own / through >= LEAST_SHARE)
 
 
 def tried(folder):
@@ -188,13 +250,11 @@ def main():
     with tempfile.TemporaryDirectory(prefix="many-") as folder:
         os.chmod(folder, 0o755)
         if sys.argv[1:]:
-            with Cluster([free_port() for _ in range(3)]) as cluster:
-                trial = Trial(cluster, folder)
+            trial = Trial(None, folder)
             measured(trial, int(sys.argv[1]))
         else:
             trial = tried(folder)
-    with open(f"/proc/self/task/{os.getpid()}/children", encoding="ascii") as file:
-        trial.is_so("no process is left", not file.read().split())
+    trial.is_so("no process is left", not children())
     print(f"{trial.passed} passed, {trial.failed} failed")
     return trial.failed > 0
 
