@@ -331,7 +331,8 @@ class Programs(unittest.TestCase):
 
     def test_an_interrupt_ends_it(self):
         """At any moment from the first file on: nothing runs on, and no file is left."""
-        text = "from gubnatris import *; import test_models; Program().solve(test_models.odd_sums(), node_limit=1000000, turn_limit=100000000)"
+        # a shell has what it starts in the background pass over interrupts
+        text = "import signal; signal.signal(signal.SIGINT, signal.default_int_handler); from gubnatris import *; import test_models; Program().solve(test_models.odd_sums(), node_limit=1000000, turn_limit=100000000)"
         for pause in (0, 0.01, 0.03, 0.3):
             with tempfile.TemporaryDirectory() as folder:
                 process = subprocess.Popen([sys.executable, "-c", text], cwd=Path(__file__).parent, stderr=subprocess.PIPE, env={**os.environ, "TMPDIR": folder})
