@@ -284,7 +284,9 @@ def try_wrong_core(folder):
             path = put(folder, "core", f"#!/bin/sh\ncat >/dev/null; cat {claim}\n", 0o755)
             certifying.core = lambda path=path: path
             answer, text, _ = certified(KNAPSACK, folder)
-            check(answer is None and said(text)[0] == "unsure", f"a core that says {name}", f"{answer} {said(text)}")
+            is_less = answer is None and said(text)[0] == "unsure"
+            is_own = name == "nothing" and answer == "accepted optimal" and said(text) == ("optimal", ["30"])  # of the program's own search
+            check(is_less or is_own, f"a core that says {name}", f"{answer} {said(text)}")
     finally:
         certifying.core = made
 
@@ -312,7 +314,7 @@ def try_signals(folder):
 
 def try_progress(folder):
     """What a terminal shows of a run: the best value, the bound, which isn't below it, the nodes and the seconds; and its line is cleared."""
-    path = put(folder, "osil", programs.osil(programs.knapsack(40, 3)))
+    path = put(folder, "osil", programs.osil(programs.knapsack(60, 8)))  # which isn't done before it is shown, on any machine
     handle, end = pty.openpty()
     words = [f"{TOOLS}/certify", path, "--seconds", "5"]
     process = subprocess.Popen(words, env=os.environ | {"TERM": "xterm"}, stdout=subprocess.PIPE, stderr=end, stdin=subprocess.DEVNULL)

@@ -1,7 +1,8 @@
 """Finds an answer of a program with solvers that work with floats, and a certificate by which the checker accepts it.
 
-The core (`tools/certify_core`) makes exact what floats find; solvers that are installed find points for it; the checker decides. Nothing
-here is trusted but the checker: where it refuses a claim a weaker one is made, and what it doesn't accept isn't told as an answer.
+The core (`tools/certify_core`) makes exact what floats find; solvers that are installed find points for it; where that doesn't decide, the
+program's own search has the seconds that are left; the checker decides. Nothing here is trusted but the checker: where it refuses a claim a
+weaker one is made, and what it doesn't accept isn't told as an answer.
 """
 
 import fractions
@@ -28,6 +29,7 @@ MOST_WORK = 1e300  # none but the time ends it then
 SHARE = 0.2  # of the seconds that are left, for each of these solvers
 LEAST_SECONDS = 1.0
 PARTS = ("point", "value", "ray", "bound", "rounds", "tree", "cause")
+WHOLE = ("accepted optimal", "accepted infeasible", "accepted unbounded")
 WHY = {  # a search ended early, by the first word of its cause
     "killed": "the time is over",
     "length": "what shows it is longer than a document may be",
@@ -218,10 +220,31 @@ class Certifying:
             found = [[float(fractions.Fraction(value)) for value in parts["point"]]] if "point" in parts else []
             found += points + self.points_of_solvers(max(LEAST_SECONDS, SHARE * self.left()))
             claim, parts = self.core_claim(found, MOST_WORK)
+        exact = self.exact_answer() if claim in ("bestSoFar", "unsure") and self.left() > 0 else None
+        if exact:
+            return exact
         if claim in ("bestSoFar", "unsure"):
             cause = parts.setdefault("cause", ["wide 1 0 check"])[0]
             self.notes.append(f"it isn't decided: {WHY.get(cause.partition(' ')[0], 'its search ended')}")
         return self.accepted(claim, parts)
+
+    def exact_answer(self):
+        """What the checker accepts of the program's own search in the seconds that are left, where that is a whole answer; else none. Of a
+        small program it is found where floats lead to numbers that are too wide."""
+        path = f"{self.folder}/exact.osrl"
+        with open(path, "wb") as out:
+            process = self.children.start([self.program, "solve", self.osil], stdin=subprocess.DEVNULL, stdout=out, stderr=subprocess.DEVNULL)
+        try:
+            process.wait(timeout=max(LEAST_SECONDS, self.left()))
+        except subprocess.TimeoutExpired:
+            return None
+        finally:
+            self.children.end(process)
+        answer = self.ran([self.program, "check", self.osil, path]).strip()
+        if answer not in WHOLE:
+            return None
+        self.text = read_text(path)
+        return answer
 
     def has_cases(self):
         return any(variable.whole or variable.zero for variable in self.instance.variables)
