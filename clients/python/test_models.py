@@ -205,6 +205,16 @@ class Results(unittest.TestCase):
         stopped = Program().solve(odd_sums(), node_limit=3)
         self.assertEqual((stopped.status, stopped.cause, stopped.bound), ("unsure", "nodeLimit 3", None))
 
+    def test_names_stand_in_the_document_where_they_are_asked_for(self):
+        model = Model()
+        x = model.variable("steel & iron", high=4)
+        model.row({x: 1}, high=3, name="furnace")
+        model.maximise({x: 1})
+        named, bare = Program().solve(model, names=True), Program().solve(model)
+        self.assertIn('<var idx="0" name="steel &amp; iron">3</var>', named.document)
+        self.assertNotIn("steel", bare.document)
+        self.assertEqual((named.values, named.check()), (bare.values, "accepted optimal"))
+
     def test_certificates_are_taken_apart(self):
         model = Model()
         x = model.variable("x", whole=True)

@@ -11,11 +11,15 @@ MOST_NODES, MOST_TURNS = 1_000_000, 100_000_000  # what an option may set at mos
 
 
 def options_text(
-    job: Optional[str] = None, node_limit: Optional[int] = None, turn_limit: Optional[int] = None, rounds: Optional[int] = None
+    job: Optional[str] = None,
+    node_limit: Optional[int] = None,
+    turn_limit: Optional[int] = None,
+    rounds: Optional[int] = None,
+    names: bool = False,
 ) -> str:
     """The options, or the empty text where there are none."""
     named = f"<general><jobID>{escaped(job)}</jobID></general>" if job is not None else ""
-    limits = [("nodeLimit", node_limit), ("pivotLimit", turn_limit), ("rounds", rounds)]
+    limits = [("nodeLimit", node_limit), ("pivotLimit", turn_limit), ("rounds", rounds), ("names", 1 if names else None)]
     set_ones = "".join(f"<solverOption name={quoted(name)} value={quoted(str(limit))}/>" for name, limit in limits if limit is not None)
     limited = f"<optimization><solverOptions>{set_ones}</solverOptions></optimization>" if set_ones else ""
     return f'<osol xmlns="os.optimizationservices.org">{named}{limited}</osol>' if named or limited else ""

@@ -48,6 +48,7 @@ class Program:
         node_limit: Optional[int] = None,
         turn_limit: Optional[int] = None,
         rounds: Optional[int] = None,
+        names: bool = False,
         seconds: Optional[float] = None,
         gap: object = None,
         fast: bool = False,
@@ -62,8 +63,8 @@ class Program:
         source = source_of(instance)
         if seconds is not None:
             with self._serving() as server:
-                return server.solve(instance, node_limit=node_limit, turn_limit=turn_limit, rounds=rounds, seconds=seconds)
-        return self._solve(source, options_text(None, node_limit, turn_limit, rounds))
+                return server.solve(instance, node_limit=node_limit, turn_limit=turn_limit, rounds=rounds, names=names, seconds=seconds)
+        return self._solve(source, options_text(None, node_limit, turn_limit, rounds, names))
 
     def check(self, instance: Given, document: str) -> str:
         """What the checker says of a result document: `accepted` and the kind of claim, or `refused` and the first reason."""

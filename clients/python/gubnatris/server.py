@@ -7,7 +7,7 @@ import re
 import socket
 import time
 import urllib.parse
-from typing import TYPE_CHECKING, NamedTuple, Optional
+from typing import TYPE_CHECKING, NamedTuple, Optional, Union
 
 from .errors import Error, Fault, NoReply, NotFinished, NotReached, NotSent, Status, TimedOut
 from .limits import MOST_DOCUMENT
@@ -75,6 +75,7 @@ class Server:
         node_limit: Optional[int] = None,
         turn_limit: Optional[int] = None,
         rounds: Optional[int] = None,
+        names: bool = False,
         seconds: Optional[float] = None,
         gap: object = None,
         fast: bool = False,
@@ -83,13 +84,14 @@ class Server:
         """Solves an instance, and leaves nothing at the server.
 
         `node_limit`, `turn_limit`: how many cases a search may begin, and how many turns of the simplex method it may make. `rounds`: how
-        many rounding cuts it may add. `seconds`: after so many the search is asked to stop, and the result is what it has found by then.
+        many rounding cuts it may add. `names`: whether the result document has the names of variables and rows. `seconds`: after so many
+        the search is asked to stop, and the result is what it has found by then.
         `gap`, `fast` and `start` are not offered yet: `NotOffered`. Raises `Refused` where the instance or a limit is, and `TimedOut`
         where the search hadn't begun by then. (The call `solve` of the server would keep the job under a number that nobody is told.)
         """
         find_not_offered(gap, fast, start)
         source = source_of(instance)
-        job = self._submit(source, (node_limit, turn_limit, rounds))
+        job = self._submit(source, (node_limit, turn_limit, rounds, names))
         try:
             return self._wait(job, seconds, source)
         except TimedOut:
@@ -100,16 +102,22 @@ class Server:
             self._give_up(job)
 
     def submit(
-        self, instance: Given, *, node_limit: Optional[int] = None, turn_limit: Optional[int] = None, rounds: Optional[int] = None
+        self,
+        instance: Given,
+        *,
+        node_limit: Optional[int] = None,
+        turn_limit: Optional[int] = None,
+        rounds: Optional[int] = None,
+        names: bool = False,
     ) -> str:
         """Hands an instance over, to be solved behind this call; the job's name.
 
         Raises `Refused` where a limit is; where the instance is, its result tells that. A server holds 10,000 jobs: give up, by `kill`,
         what was read.
         """
-        return self._submit(source_of(instance), (node_limit, turn_limit, rounds))
+        return self._submit(source_of(instance), (node_limit, turn_limit, rounds, names))
 
-    def _submit(self, source: Source, limits: tuple[Optional[int], ...]) -> str:
+    def _submit(self, source: Source, limits: tuple[Union[int, bool, None], ...]) -> str:
         job = self._call("getJobID", {"osol": options_text(None, *limits)})
         try:
             taken = self._call("send", {"osol": options_text(job, *limits), "osil": source.text})
