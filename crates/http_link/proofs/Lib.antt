@@ -12,4 +12,3 @@ pub mod LinkReads
 pub mod Pieces
 pub mod RequestSteps
 pub mod Bodies
-pub mod CarriedBytes

@@ -5,4 +5,3 @@ pub mod Requests
 pub mod Responses
 pub mod Replies
 pub mod Outgoing
-pub mod Carry

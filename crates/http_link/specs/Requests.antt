@@ -85,12 +85,6 @@ CountsFault (Ok x) before after = after ≡ before
 CountsFault (Err ReadFault) before after = HasRisen before after
 CountsFault (Err Memory) before after = after ≡ before
 
--- where a read failed, nothing is left of what was read ahead
-abbrev pub LeavesNone : {X : Type 0} → Result X LinkFault → List ℕ → Type 0
-LeavesNone (Ok x) ahead = ⊤
-LeavesNone (Err ReadFault) ahead = ahead ≡ []
-LeavesNone (Err Memory) ahead = ⊤
-
 -- what the bytes are that the reading of a head took
 abbrev pub ShowsHead : Result HeadRead LinkFault → List ℕ → Type 0
 ShowsHead (Ok (WholeHead text lines)) taken =

@@ -1,7 +1,6 @@
 //! Messages of HTTP/1.1 on a link, of a server and of a client: read from a source, written to a sink (RFC 9112).
 //!
-//! What is read is read from a [`Feed`], as each source is one. [`Carried`] is one that reads ahead of a link, so that reading byte by
-//! byte costs little.
+//! What is read is read from a source, a head byte by byte: a source whose reads cost much reads ahead itself.
 //!
 //! [`read_request_into`] takes one request and not a byte more. It says what its bytes were ([`Incoming`]): a [`Head`] that is
 //! accepted with a body of its length, a head that is refused with the first [`Refusal`] in the order of the checks, or a cut. A
@@ -21,9 +20,7 @@
 //! decide which of them are read; what is written here is read back.
 #![tactic(auto)]
 
-mod carried;
 mod checks;
-mod feed;
 mod laws;
 mod outgoing;
 mod refusal;
@@ -32,9 +29,7 @@ mod requests;
 mod responses;
 mod scan;
 
-pub use carried::{Carried, Carry};
 pub use checks::Accepted;
-pub use feed::Feed;
 pub use laws::{
     answers_are_read_back, begun_request_is_not_whole, bytes_are_one_reply,
     cut_input_holds_no_request, ended_input_holds_no_request, one_head_comes_first,

@@ -1,16 +1,15 @@
 //! Requests on a source.
-ghost use Rattle.std.specs.Prelude.{◌≡◌, ◌≤◌, ◌<◌, [], length, IfOk, OnErr};
+ghost use Rattle.std.specs.Prelude.{◌≡◌, ◌≤◌, ◌<◌, length, IfOk, OnErr};
 ghost use Rattle.os_io.specs.Streams.{BothTold, Counts, SameOutput};
 ghost use Rattle.http_link.specs.Checks.{most_head, Head as ComesOf};
 ghost use Rattle.http_link.specs.Lines.{IsWholeHead};
 ghost use Rattle.http_link.specs.Pieces.{TakesPieces};
-ghost use Rattle.http_link.specs.Requests.{AnswersTaken, AnswersHead, AnswersBody, GivesPiece, CountsFault, LeavesNone, TakesByte};
+ghost use Rattle.http_link.specs.Requests.{AnswersTaken, AnswersHead, AnswersBody, GivesPiece, CountsFault, TakesByte};
 
 use crate::Refusal;
 use crate::checks::{Accepted, MOST_FIELDS, head_outcome};
-use crate::feed::Feed;
 use crate::scan::OpenHead;
-use os_io::{Body, Failed, Text};
+use os_io::{Body, Failed, Source, Text};
 use std::alloc::Global;
 use thiserror::Error;
 
@@ -79,15 +78,14 @@ pub(crate) enum HeadRead {
 const PIECE: usize = 4096;
 
 /// Reads the next byte, or finds the input at its end.
-fn read_byte<S: Feed>(source: &mut S) -> Result<Option<u8>, Failed>
+fn read_byte<S: Source>(source: &mut S) -> Result<Option<u8>, Failed>
     ensures byte { IfOk result (λ got. BothTold (S.tells source.old).left (S.tells source.new).left (TakesByte got)) }
     ensures err { OnErr result ((S.tells source.new).left ≡ (S.tells source.old).left) }
-    ensures ahead { OnErr result (S.ahead source.new ≡ []) }
     ensures counted { Counts result (S.tells source.old).read_faults (S.tells source.new).read_faults }
     ensures output { SameOutput (S.tells source.old) (S.tells source.new) }
 {
     let mut byte = [0];
-    match source.draw(&mut byte) {
+    match source.read(&mut byte) {
         Ok(count) => {
             if count == 0 {
                 return Ok(None);
@@ -99,9 +97,8 @@ fn read_byte<S: Feed>(source: &mut S) -> Result<Option<u8>, Failed>
 }
 
 /// Reads a head, and nothing past it.
-pub(crate) fn read_head<S: Feed>(alloc: Global, source: &mut S) -> Result<HeadRead, LinkFault>
+pub(crate) fn read_head<S: Source>(alloc: Global, source: &mut S) -> Result<HeadRead, LinkFault>
     ensures answer { AnswersHead result (S.tells source.old).left (S.tells source.new).left }
-    ensures ahead { LeavesNone result (S.ahead source.new) }
     ensures counted { CountsFault result (S.tells source.old).read_faults (S.tells source.new).read_faults }
     ensures output { SameOutput (S.tells source.old) (S.tells source.new) }
 {
@@ -126,18 +123,21 @@ pub(crate) fn read_head<S: Feed>(alloc: Global, source: &mut S) -> Result<HeadRe
 }
 
 /// Reads some bytes, and no more than `most`, and hands them on to a body. 0 is the end of the input.
-fn read_piece<S: Feed, B: Body>(source: &mut S, body: &mut B, most: usize) -> Result<usize, Failed>
+fn read_piece<S: Source, B: Body>(
+    source: &mut S,
+    body: &mut B,
+    most: usize,
+) -> Result<usize, Failed>
     requires { 0 < most }
     ensures piece { IfOk result (GivesPiece (B.took body.old body.new) (S.tells source.old).left (S.tells source.new).left most) }
     ensures err { OnErr result ((S.tells source.new).left ≡ (S.tells source.old).left) }
     ensures stays { OnErr result (body.new ≡ body.old) }
-    ensures ahead { OnErr result (S.ahead source.new ≡ []) }
     ensures counted { Counts result (S.tells source.old).read_faults (S.tells source.new).read_faults }
     ensures output { SameOutput (S.tells source.old) (S.tells source.new) }
 {
     let mut buffer = [0; PIECE];
     let room = most.min(PIECE);
-    match source.draw(&mut buffer[..room]) {
+    match source.read(&mut buffer[..room]) {
         Ok(count) => {
             body.take(&buffer[..count]);
             Ok(count)
@@ -148,13 +148,12 @@ fn read_piece<S: Feed, B: Body>(source: &mut S, body: &mut B, most: usize) -> Re
 
 /// Reads a body of this length, and nothing past it, hands it on piece by piece, and says how many bytes came: fewer where the
 /// input ended before.
-pub(crate) fn read_body<S: Feed, B: Body>(
+pub(crate) fn read_body<S: Source, B: Body>(
     source: &mut S,
     body: &mut B,
     len: usize,
 ) -> Result<usize, Failed>
     ensures answer { AnswersBody (TakesPieces B.took body.old body.new) len result (S.tells source.old).left (S.tells source.new).left }
-    ensures ahead { OnErr result (S.ahead source.new ≡ []) }
     ensures counted { Counts result (S.tells source.old).read_faults (S.tells source.new).read_faults }
     ensures output { SameOutput (S.tells source.old) (S.tells source.new) }
 {
@@ -178,15 +177,13 @@ pub(crate) fn read_body<S: Feed, B: Body>(
 ///
 /// The head is taken byte by byte, so a source with costly reads wants a buffer of its own. Where a read fails or there is
 /// no memory, what was taken is lost: a first part of a request that isn't whole, or, where there was no memory, of a head or all of it.
-/// Where a read fails, nothing is left of what was read ahead. Whatever it answers, what came of an accepted head's body went on, and
-/// nothing else did.
-pub fn read_request_into<S: Feed, B: Body>(
+/// Whatever it answers, what came of an accepted head's body went on, and nothing else did.
+pub fn read_request_into<S: Source, B: Body>(
     alloc: Global,
     source: &mut S,
     body: &mut B,
 ) -> Result<Incoming, LinkFault>
     ensures answer { AnswersTaken (TakesPieces B.took body.old body.new) result (S.tells source.old).left (S.tells source.new).left }
-    ensures ahead { LeavesNone result (S.ahead source.new) }
     ensures counted { CountsFault result (S.tells source.old).read_faults (S.tells source.new).read_faults }
     ensures output { SameOutput (S.tells source.old) (S.tells source.new) }
 {

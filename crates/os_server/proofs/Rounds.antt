@@ -1,25 +1,28 @@
 -- One request after another.
-use Rattle.std.proofs.Common.{◌≡◌, ℕ, ◌+◌, ◌<◌, true, false, List, [], ◌∷◌, ◌++◌, length, Option, Some, None, Result, Ok, Err, refl, sym, ◌∙◌, ap, subst, inl, inr, length-append, append-nil, append_assoc}
+use Rattle.std.proofs.Common.{◌≡◌, ℕ, ◌+◌, ◌<◌, true, false, List, [], ◌∷◌, ◌++◌, length, Option, Some, None, Result, Ok, Err, refl, sym, ◌∙◌, ap, subst, inl, inr, length-append, append-nil}
 use Rattle.std.specs.Prelude.{All}
 use Rattle.std.proofs.lemmas.List.Elements.{All-nil, All-push}
-use Rattle.os_io.specs.Streams.{Tells, BothTold, IsPart, Appends, AppendsPart, Grows, HasRisen, SameOutput, Sends}
+use Rattle.os_io.specs.Streams.{Tells, BothTold, IsPart, Appends, AppendsPart, Grows, HasRisen, SameInput, SameOutput, Sends}
 use Rattle.os_io.specs.declared.streams.Failed.{Failed}
 use Rattle.os_io.proofs.Pieces.{grows_same, grows_on}
-use Rattle.http_link.specs.Carry.{with_carry, tells_ahead}
 use Rattle.http_link.specs.declared.requests.Incoming.{Incoming}
 use Rattle.http_link.specs.declared.requests.Incoming.TheVariants as incoming
 use Rattle.http_link.specs.declared.requests.Head.{Head}
 use Rattle.http_link.specs.declared.requests.LinkFault.{LinkFault}
+use Rattle.http_link.specs.declared.requests.LinkFault.TheVariants as lost
+use Rattle.http_link.specs.Pieces.{TakesPieces}
 use Rattle.http_link.specs.Requests.{CountsFault, ShowsTaken, EndsWith, AnswersTaken as Reading}
 use Rattle.soap_calls.specs.declared.calling.CallReader.{CallReader}
-use Rattle.soap_calls.specs.Reading.{HasTaken}
+use Rattle.http_link.proofs.OneRequest.{begun_alone}
+use Rattle.http_link.proofs.Pieces.{pieces_taken}
+use Rattle.soap_calls.specs.Reading.{HasTaken, TakesMore, more_none, more_both}
 use Rattle.job_table.specs.History.{MoveEntry}
 use Rattle.os_server.specs.declared.reply.HttpReply.{HttpReply}
 use Rattle.os_server.specs.declared.reply.HttpReply.TheVariants.{Answer, Refused, NoMemory}
 use Rattle.os_server.specs.declared.serve.Served.{Served}
 use Rattle.os_server.specs.declared.serve.Served.TheVariants.{Ended, CutShort, ReadFault, WriteFault, Memory}
-use Rattle.os_server.specs.Talk.{Part, part, then, all_of, ReadsBytes, AtEnd, most_requests, text_of_reply, IsReplyDue, IsExchange, EndsTalk, IsLastPart, HandsOnAll, Accounts, Serves, ServesWhole, both_ends}
-use Rattle.os_server.specs.Serving.{IsReplied, AnswersOne, FollowsReply, CameWithDue, CountsCame, ComesOnLink, AccountsOne, ServesOne}
+use Rattle.os_server.specs.Talk.{Part, part, then, all_of, ReadsBytes, AtEnd, most_requests, text_of_reply, IsReplyDue, IsExchange, EndsTalk, HandsOnAll, Accounts, Serves, ServesWhole, both_ends}
+use Rattle.os_server.specs.Serving.{IsReplied, AnswersCame, IsFinished, AnswersOne, FollowsReply, CameWithDue, CountsCame, ComesOnLink, AccountsOne, ServesOne}
 use Rattle.job_runs.proofs.Judgements.{Made, Joins}
 use Rattle.os_server.proofs.Pieces.{Wakes}
 use Rattle.os_server.proofs.Steps.{read_then, wrote_then, at_end_then, read_none, wrote_none, read_whole, read_of, hands_then, then_none, all_more}
@@ -31,13 +34,12 @@ Bytes = Option (List ℕ)
 -- ---- what came
 
 -- a request that is whole, and whose body was read as it came
-pub whole_comes : (made : Made) (wakes : Wakes) (did : List MoveEntry → Type 0) (To : List ℕ → Type 0) (read : CallReader) (i : Incoming) (head : Head) (reply : HttpReply)
-    (old new : Tells) → ((bytes : List ℕ) → To bytes → HasTaken read bytes) → i ≡ incoming.Whole head → Reading To (Ok i) old.left new.left
+whole_comes : (made : Made) (wakes : Wakes) (did : List MoveEntry → Type 0) (To : List ℕ → Type 0) (read : CallReader) (head : Head) (reply : HttpReply)
+    (old new : Tells) → ((bytes : List ℕ) → To bytes → HasTaken read bytes) → Reading To (Ok (incoming.Whole head)) old.left new.left
     → new.read_faults ≡ old.read_faults → SameOutput old new
     → ((bytes : List ℕ) → HasTaken read bytes → (own : List MoveEntry) × did own × IsReplied made wakes bytes head.close own reply)
     → ComesOnLink made wakes did (Ok reply) old new
-whole_comes made wakes did To read i head reply old new took is came counted output replied =
-    let whole = subst (λ (j : Incoming). Reading To (Ok j) old.left new.left) is came in
+whole_comes made wakes did To read head reply old new took whole counted output replied =
     let body = whole.1.0 in
     let done = replied body (took body whole.1.3) in
     record {
@@ -50,28 +52,51 @@ whole_comes made wakes did To read i head reply old new took is came counted out
       output = output;
     }
 
-end_of : (b : Result Incoming LinkFault) (x y : Bytes) (taken : List ℕ) → BothTold x y (λ before after. (before ≡ taken ++ after) × EndsWith b after)
-    → BothTold x y (λ before after. EndsWith b after)
-end_of b None y taken p = tt
-end_of b (Some x) None taken p = p
-end_of b (Some x) (Some y) taken p = p.1
+end_of : (came : Result Incoming LinkFault) (x y : Bytes) (taken : List ℕ) → BothTold x y (λ before after. (before ≡ taken ++ after) × EndsWith came after)
+    → BothTold x y (λ before after. EndsWith came after)
+end_of came None y taken p = tt
+end_of came (Some x) None taken p = p
+end_of came (Some x) (Some y) taken p = p.1
 
--- what asks nothing: no request that is whole, an answer by another name
-pub quiet_comes : (made : Made) (wakes : Wakes) (did : List MoveEntry → Type 0) (To : List ℕ → Type 0) (a b : Result Incoming LinkFault) (came : Result HttpReply Served)
-    (old new : Tells) → a ≡ b → did [] → Reading To a old.left new.left → CountsFault a old.read_faults new.read_faults → SameOutput old new
-    → ((taken : List ℕ) → ShowsTaken To b taken → BothTold old.left new.left (λ before after. EndsWith b after) → CameWithDue made wakes came (AtEnd [] old.left new.left) taken [])
-    → (CountsFault b old.read_faults new.read_faults → CountsCame came old.read_faults new.read_faults) → ComesOnLink made wakes did came old new
-quiet_comes made wakes did To a b came old new is stays answer counted output shows counts =
-    let got = subst (λ (r : Result Incoming LinkFault). Reading To r old.left new.left) is answer in
-    record {
+-- what asks nothing, and how it is answered
+quiet_comes : (made : Made) (wakes : Wakes) (did : List MoveEntry → Type 0) (To : List ℕ → Type 0) (came : Result Incoming LinkFault) (quiet answer : Result HttpReply Served)
+    (old new : Tells) → did [] × (answer ≡ quiet) → Reading To came old.left new.left → SameOutput old new → CountsCame quiet old.read_faults new.read_faults
+    → ((taken : List ℕ) → ShowsTaken To came taken → BothTold old.left new.left (λ before after. EndsWith came after) → CameWithDue made wakes quiet (AtEnd [] old.left new.left) taken [])
+    → ComesOnLink made wakes did answer old new
+quiet_comes made wakes did To came quiet answer old new (stays, is) got output counted shows =
+    subst (λ (r : Result HttpReply Served). ComesOnLink made wakes did r old new) (sym is)
+    (record {
       taken = got.0;
       own = [];
-      shows = shows got.0 got.1 (end_of b old.left new.left got.0 got.2);
+      shows = shows got.0 got.1 (end_of came old.left new.left got.0 got.2);
       moves = stays;
       read = read_of _ old.left new.left got.0 got.2;
-      counted = counts (subst (λ (r : Result Incoming LinkFault). CountsFault r old.read_faults new.read_faults) is counted);
+      counted = counted;
       output = output;
-    }
+    })
+
+-- what was read, with a body that had taken nothing before, and how it is answered
+pub comes : (made : Made) (wakes : Wakes) (did : List MoveEntry → Type 0) (fresh read : CallReader) (came : Result Incoming LinkFault) (answer : Result HttpReply Served)
+    (old new : Tells) → HasTaken fresh [] → Reading (TakesPieces TakesMore fresh read) came old.left new.left → CountsFault came old.read_faults new.read_faults → SameOutput old new
+    → AnswersCame made wakes did read came answer → ComesOnLink made wakes did answer old new
+comes made wakes did fresh read (Ok (incoming.Whole head)) (Ok reply) old new none got counted output replied =
+    whole_comes made wakes did (TakesPieces TakesMore fresh read) read head reply old new (λ bytes pieces. (pieces_taken TakesMore more_none more_both fresh pieces).behind [] none) got counted output replied
+comes made wakes did fresh read (Ok (incoming.Whole head)) (Err end) old new none got counted output replied = absurd replied
+comes made wakes did fresh read (Ok (incoming.Refused refusal)) answer old new none got counted output quiet =
+    quiet_comes made wakes did (TakesPieces TakesMore fresh read) (Ok (incoming.Refused refusal)) (Ok (Refused refusal)) answer old new quiet got output counted
+    (λ taken shows end. (inl shows.0, refl))
+comes made wakes did fresh read (Ok incoming.Cut) answer old new none got counted output quiet =
+    quiet_comes made wakes did (TakesPieces TakesMore fresh read) (Ok incoming.Cut) (Err CutShort) answer old new quiet got output counted
+    (λ taken shows end. ((shows.0, begun_alone (TakesPieces TakesMore fresh read) taken shows.1), refl, end))
+comes made wakes did fresh read (Ok incoming.Ended) answer old new none got counted output quiet =
+    quiet_comes made wakes did (TakesPieces TakesMore fresh read) (Ok incoming.Ended) (Err Ended) answer old new quiet got output counted
+    (λ taken shows end. (shows.0, refl, end))
+comes made wakes did fresh read (Err lost.ReadFault) answer old new none got counted output quiet =
+    quiet_comes made wakes did (TakesPieces TakesMore fresh read) (Err lost.ReadFault) (Err ReadFault) answer old new quiet got output counted
+    (λ taken shows end. (begun_alone (TakesPieces TakesMore fresh read) taken shows, refl))
+comes made wakes did fresh read (Err lost.Memory) answer old new none got counted output quiet =
+    quiet_comes made wakes did (TakesPieces TakesMore fresh read) (Err lost.Memory) (Ok NoMemory) answer old new quiet got output counted
+    (λ taken shows end. inl (shows.0, refl))
 
 -- ---- one request
 
@@ -187,19 +212,8 @@ silent_accounts made wakes did ReadFault old new came = (came.counted, came.outp
 silent_accounts made wakes did WriteFault old new came = absurd came.counted
 silent_accounts made wakes did Memory old new came = absurd came.counted
 
-goes_on : (end : Served) → None ≡ Some end → ⊥
-goes_on end e = cc
-
--- what follows a reply is no read fault
-pub follows_no_fault : (made : Made) (wakes : Wakes) (reply : HttpReply) (after : List MoveEntry) (end : Option Served) → FollowsReply made wakes reply after end
-    → end ≡ Some ReadFault → ⊥
-follows_no_fault made wakes (Answer said true as_worker) after end (works, is) e = let same : Some Ended ≡ Some ReadFault = sym is ∙ e in cc
-follows_no_fault made wakes (Answer said false as_worker) after end (works, is) e = goes_on ReadFault (sym is ∙ e)
-follows_no_fault made wakes (Refused refusal) after end (none, is) e = let same : Some Ended ≡ Some ReadFault = sym is ∙ e in cc
-follows_no_fault made wakes NoMemory after end (none, is) e = let same : Some Memory ≡ Some ReadFault = sym is ∙ e in cc
-
 -- no request came, and nothing was written
-pub silent : (made : Made) (wakes : Wakes) (did : List MoveEntry → Type 0) (end : Served) (old new : Tells) → ComesOnLink made wakes did (Err end) old new
+silent : (made : Made) (wakes : Wakes) (did : List MoveEntry → Type 0) (end : Served) (old new : Tells) → ComesOnLink made wakes did (Err end) old new
     → ServesOne made wakes did (Some end) old new
 silent made wakes did end old new came = record {
   part = part came.taken came.own [];
@@ -210,6 +224,35 @@ silent made wakes did end old new came = record {
   accounts = silent_accounts made wakes did end old new came;
   grew = subst (λ (b : Bytes). Grows old.handed_on b) (sym came.output.handed_on) (grows_same old.handed_on);
 }
+
+-- of the moves for what came something else may be said
+comes_so : (made : Made) (wakes : Wakes) (did said : List MoveEntry → Type 0) (answer : Result HttpReply Served) (old new : Tells) → (c : ComesOnLink made wakes did answer old new)
+    → said c.own → ComesOnLink made wakes said answer old new
+comes_so made wakes did said answer old new c is = record {
+  taken = c.taken;
+  own = c.own;
+  shows = c.shows;
+  moves = is;
+  read = c.read;
+  counted = c.counted;
+  output = c.output;
+}
+
+-- without moves behind them
+made_alone : (did did' both : List MoveEntry → Type 0) (own after : List MoveEntry) → Joins did did' both → did own → did' after → after ≡ [] → both own
+made_alone did did' both own after joins p q none = subst both (ap (λ s. own ++ s) none ∙ append-nil own) (joins own after p q)
+
+-- what came was answered, and the answer written
+pub one_request : (made : Made) (wakes : Wakes) (did did' both : List MoveEntry → Type 0) (answer : Result HttpReply Served) (end : Option Served) (after : List MoveEntry) (old mid new : Tells)
+    → Joins did did' both → ComesOnLink made wakes did answer old mid → did' after → IsFinished made wakes answer after end mid new → ServesOne made wakes both end old new
+one_request made wakes did did' both (Ok reply) end after old mid new joins came moves (inl (x, sent, follows)) =
+    followed made wakes did did' both reply end x old mid new joins came sent (after, moves, follows)
+one_request made wakes did did' both (Ok reply) end after old mid new joins came moves (inr (e, sent, none, is)) =
+    subst (λ (s : Option Served). ServesOne made wakes both s old new) (sym is)
+    (unwritten made wakes both reply e old mid new (comes_so made wakes did both (Ok reply) old mid came (made_alone did did' both came.own after joins came.moves moves none)) sent)
+one_request made wakes did did' both (Err ended) end after old mid new joins came moves (same, none, is) =
+    subst (λ (z : Tells × Option Served). ServesOne made wakes both z.1 old z.0) (λ i. (sym same i, sym is i))
+    (silent made wakes both ended old mid (comes_so made wakes did both (Err ended) old mid came (made_alone did did' both came.own after joins came.moves moves none)))
 
 -- ---- two ends
 
@@ -246,6 +289,21 @@ sends_between r text i o p s = record {
   };
   handed_on = s.handed_on;
 }
+
+-- how it was finished on an output that is one of two ends
+pub finished_between : (made : Made) (wakes : Wakes) (answer : Result HttpReply Served) (after : List MoveEntry) (end : Option Served) (i o p : Tells)
+    → IsFinished made wakes answer after end o p → IsFinished made wakes answer after end (both_ends i o) (both_ends i p)
+finished_between made wakes (Ok reply) after end i o p (inl (x, sent, follows)) = inl (x, sends_between _ _ i o p sent, follows)
+finished_between made wakes (Ok reply) after end i o p (inr (e, sent, none, is)) = inr (e, sends_between _ _ i o p sent, none, is)
+finished_between made wakes (Err how) after end i o p (same, none, is) = (ap (both_ends i) same, none, is)
+
+-- and nothing of its way in is touched
+pub finished_out : (made : Made) (wakes : Wakes) (answer : Result HttpReply Served) (after : List MoveEntry) (end : Option Served) (o p : Tells)
+    → IsFinished made wakes answer after end o p → SameInput o p
+finished_out made wakes (Ok reply) after end o p (inl (x, sent, follows)) = sent.writes.input
+finished_out made wakes (Ok reply) after end o p (inr (e, sent, none, is)) = sent.writes.input
+finished_out made wakes (Err how) after end o p (same, none, is) =
+    record { left = ap (λ (t : Tells). t.left) same; read_faults = ap (λ (t : Tells). t.read_faults) same }
 
 -- ---- many requests
 
@@ -379,63 +437,3 @@ serves_so made wakes did said end old new s is = record {
   wrote = s.wrote;
   accounts = s.accounts;
 }
-
--- ---- read ahead
-
-at_end_of : (x y : Bytes) (past carry : List ℕ) → AtEnd past (with_carry [] x) (with_carry carry y) → AtEnd (past ++ carry) x y
-at_end_of None y past carry p = tt
-at_end_of (Some x) None past carry p = absurd p
-at_end_of (Some x) (Some y) past carry p = append_assoc past carry y ∙ p
-
-last_at : (made : Made) (wakes : Wakes) (end : Served) (count : ℕ) (A B : Type 0) (p : Part) → (A → B) → IsLastPart made wakes end count A p → IsLastPart made wakes end count B p
-last_at made wakes end count A B p f (inl (few, ends)) = inl (few, ends_at made wakes end A B p f ends)
-last_at made wakes end count A B p f (inr full) = inr full
-
-read_past : (x y : Bytes) (taken past carry : List ℕ) → ReadsBytes (taken ++ past) (with_carry [] x) (with_carry carry y)
-    → ReadsBytes (taken ++ (past ++ carry)) x y
-read_past None y taken past carry p = tt
-read_past (Some x) None taken past carry p = absurd p
-read_past (Some x) (Some y) taken past carry p =
-    p ∙ sym (append_assoc (taken ++ past) carry y) ∙ ap (λ s. s ++ y) (append_assoc taken past carry)
-
-accounts_of : (end : Served) (first carry : List ℕ) (a b : Tells) → Accounts end (tells_ahead first a) (tells_ahead carry b) → Accounts end a b
-accounts_of Ended first carry a b p = p
-accounts_of CutShort first carry a b p = p
-accounts_of ReadFault first carry a b p = p
-accounts_of WriteFault first carry a b p = p
-accounts_of Memory first carry a b p = p
-
-serves_from : (made : Made) (wakes : Wakes) (did : List MoveEntry → Type 0) (end : Served) (a b : Tells) (carry : List ℕ)
-    → (end ≡ ReadFault → carry ≡ []) → Serves made wakes did end (tells_ahead [] a) (tells_ahead carry b) → Serves made wakes did end a b
-serves_from made wakes did end a b carry none s = record {
-  part = s.part;
-  past = s.past ++ carry;
-  none_past = λ e i. s.none_past e i ++ none e i;
-  talk = record {
-    done = s.talk.done;
-    last = s.talk.last;
-    exchanges = s.talk.exchanges;
-    ends = last_at made wakes end (length s.talk.done) _ _ s.talk.last (at_end_of a.left b.left s.past carry) s.talk.ends;
-    whole = s.talk.whole;
-  };
-  moves = s.moves;
-  read = read_past a.left b.left s.part.taken s.past carry s.read;
-  wrote = s.wrote;
-  accounts = accounts_of end [] carry a b s.accounts;
-}
-
--- a link that is owned, with nothing read ahead of it yet
-pub none_of_owned : {L : Type 0} (tells : L → Tells) (made : Made) (wakes : Wakes) (did : List MoveEntry → Type 0) (link owned : L) (carry : List ℕ)
-    → owned ≡ link → carry ≡ [] → did [] → SoFar made wakes did 0 (tells_ahead [] (tells link)) (tells_ahead carry (tells owned))
-none_of_owned {L} tells made wakes did link owned carry owned_is none stays =
-    subst (λ (l : L). SoFar made wakes did 0 (tells_ahead [] (tells link)) (tells_ahead carry (tells l))) (sym owned_is)
-    (subst (λ (c : List ℕ). SoFar made wakes did 0 (tells_ahead [] (tells link)) (tells_ahead c (tells link))) (sym none)
-    (none_yet made wakes did (tells_ahead [] (tells link)) stays))
-
--- a link that was owned meanwhile is given back: what is carried at the end was read past it
-pub serves_owned : {L : Type 0} (tells : L → Tells) (made : Made) (wakes : Wakes) (did : List MoveEntry → Type 0) (end : Served) (link kept given : L)
-    (carry : List ℕ) → given ≡ kept → (end ≡ ReadFault → carry ≡ [])
-    → Serves made wakes did end (tells_ahead [] (tells link)) (tells_ahead carry (tells kept)) → Serves made wakes did end (tells link) (tells given)
-serves_owned {L} tells made wakes did end link kept given carry given_is none s =
-    subst (λ (l : L). Serves made wakes did end (tells link) (tells l)) (sym given_is)
-    (serves_from made wakes did end (tells link) (tells kept) carry none s)

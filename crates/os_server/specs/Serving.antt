@@ -1,8 +1,15 @@
 -- What the parts of the server promise on the way.
 use Rattle.std.specs.Prelude.{◌≡◌, ℕ, ◌⊎◌, Bool, true, false, List, [], Option, None, Some, Result, Ok, Err}
-use Rattle.os_io.specs.Streams.{Tells, BothTold, Appends, Grows, HasRisen, SameOutput}
+use Rattle.os_io.specs.Streams.{Tells, BothTold, Appends, Grows, HasRisen, SameOutput, Sends}
+use Rattle.os_io.specs.declared.streams.Failed.{Failed}
 use Rattle.http_link.specs.declared.refusal.Refusal.TheVariants.{BadRequest}
+use Rattle.http_link.specs.declared.requests.Incoming.{Incoming}
+use Rattle.http_link.specs.declared.requests.Incoming.TheVariants as incoming
+use Rattle.http_link.specs.declared.requests.LinkFault.{LinkFault}
+use Rattle.http_link.specs.declared.requests.LinkFault.TheVariants as lost
 use Rattle.http_link.specs.Requests.{IsBegun, IsCut, EndedBetween}
+use Rattle.soap_calls.specs.declared.calling.CallReader.{CallReader}
+use Rattle.soap_calls.specs.Reading.{HasTaken}
 use Rattle.soap_calls.specs.declared.fault.SoapFault.TheVariants as soap
 use Rattle.soap_calls.specs.Refusals.{CallFails}
 use Rattle.job_table.specs.declared.job.Job.{Job}
@@ -15,7 +22,7 @@ use Rattle.os_server.specs.declared.reply.HttpReply.TheVariants.{Answer, Refused
 use Rattle.os_server.specs.declared.serve.Served.{Served}
 use Rattle.os_server.specs.declared.serve.Served.TheVariants.{Ended, CutShort, ReadFault, WriteFault, Memory}
 use Rattle.os_server.specs.Answers.{said_by, Does, BeginsToDo}
-use Rattle.os_server.specs.Talk.{Part, was_taken, IsRung, AtEnd, ReadsBytes, IsBodyAnswered, LacksMemory, IsReplyDue, IsExchange, EndsTalk, HandsOnAll, Accounts}
+use Rattle.os_server.specs.Talk.{Part, was_taken, text_of_reply, IsRung, AtEnd, ReadsBytes, IsBodyAnswered, LacksMemory, IsReplyDue, IsExchange, EndsTalk, HandsOnAll, Accounts}
 
 module _ (made : List ℕ → List ℕ → List Bool → Option (List ℕ) → Type 0) (wakes : Bool → Type 0) where
   -- the moves that do what is asked, and the reply that says the last one's
@@ -54,6 +61,24 @@ module _ (made : List ℕ → List ℕ → List Bool → Option (List ℕ) → T
       ((given : Option Job) × Works made as_worker given after) × (end ≡ None)
   FollowsReply (Refused refusal) after end = (after ≡ []) × (end ≡ Some Ended)
   FollowsReply NoMemory after end = (after ≡ []) × (end ≡ Some Memory)
+
+  -- the moves for what was read, with this body, and the reply that is due to it, or how the conversation ends. What it is to make moves is given
+  abbrev pub AnswersCame : (List MoveEntry → Type 0) → CallReader → Result Incoming LinkFault → Result HttpReply Served → Type 0
+  AnswersCame did body (Ok (incoming.Whole head)) (Ok reply) =
+      (bytes : List ℕ) → HasTaken body bytes → (own : List MoveEntry) × did own × IsReplied bytes head.close own reply
+  AnswersCame did body (Ok (incoming.Whole head)) (Err end) = ⊥
+  AnswersCame did body (Ok (incoming.Refused refusal)) answer = did [] × (answer ≡ Ok (Refused refusal))
+  AnswersCame did body (Ok incoming.Cut) answer = did [] × (answer ≡ Err CutShort)
+  AnswersCame did body (Ok incoming.Ended) answer = did [] × (answer ≡ Err Ended)
+  AnswersCame did body (Err lost.ReadFault) answer = did [] × (answer ≡ Err ReadFault)
+  AnswersCame did body (Err lost.Memory) answer = did [] × (answer ≡ Ok NoMemory)
+
+  -- a reply was written, and what follows was done; or a first part of it was written; or there is none, and the conversation had ended
+  abbrev pub IsFinished : Result HttpReply Served → List MoveEntry → Option Served → Tells → Tells → Type 0
+  IsFinished (Ok reply) after end old new =
+      ((x : Unit {0}) × Sends {X = Unit {0}} {E = Failed} (Ok x) (text_of_reply reply) old new × FollowsReply reply after end)
+      ⊎ ((e : Failed) × Sends {X = Unit {0}} {E = Failed} (Err e) (text_of_reply reply) old new × (after ≡ []) × (end ≡ Some WriteFault))
+  IsFinished (Err ended) after end old new = (new ≡ old) × (after ≡ []) × (end ≡ Some ended)
 
 -- how often reads failed where a request came or didn't
 abbrev pub CountsCame : Result HttpReply Served → ℕ → ℕ → Type 0

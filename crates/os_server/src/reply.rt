@@ -1,12 +1,11 @@
 //! What a request is replied.
-ghost use Rattle.std.specs.Prelude.{◌≡◌, ℕ, List, [], Err};
+ghost use Rattle.std.specs.Prelude.{◌≡◌, ℕ, List};
 ghost use Rattle.os_io.specs.Streams.{Writes, Sends};
 ghost use Rattle.soap_calls.specs.Reading.{HasTaken};
 ghost use Rattle.job_table.specs.History.{MoveEntry};
-ghost use Rattle.os_server.specs.declared.serve.Served.TheVariants.{ReadFault};
 ghost use Rattle.os_server.specs.Answers.{reply_of};
 ghost use Rattle.os_server.specs.Talk.{was_taken, IsRung, text_of_reply, response_text};
-ghost use Rattle.os_server.specs.Serving.{IsReplied, DoesOrder, ComesOnLink};
+ghost use Rattle.os_server.specs.Serving.{IsReplied, DoesOrder, AnswersCame};
 
 use crate::asking::read_order;
 use crate::doing::{LastReply, do_order};
@@ -15,10 +14,7 @@ use crate::order::Order;
 use crate::saying::{Said, said_fault, say};
 use crate::serve::Served;
 use crate::server::Server;
-use http_link::{
-    Feed, Incoming, LinkFault, Refusal, pieces_are_their_bytes, read_request_into, write_answer,
-    write_fault_answer, write_refusal,
-};
+use http_link::{Incoming, LinkFault, Refusal, write_answer, write_fault_answer, write_refusal};
 use job_table::{Mover, Verdicts};
 use os_io::{Failed, Sink};
 use soap_calls::CallReader;
@@ -110,22 +106,18 @@ fn reply_to<V: Verdicts, C: Mover<V>, S: Server<V>>(
     }
 }
 
-/// Reads a request, its call as the body comes, and makes its moves. Where a read fails, nothing is left of what was read ahead.
-pub(crate) fn answer_next<I: Feed, V: Verdicts, C: Mover<V>, S: Server<V>>(
+/// Makes the moves that a request asks which was read, and says what it is replied; or how the conversation ends, where none was.
+pub(crate) fn answer_request<V: Verdicts, C: Mover<V>, S: Server<V>>(
     alloc: Global,
-    input: &mut I,
     mover: &mut C,
     server: &S,
+    came: Result<Incoming, LinkFault>,
+    body: CallReader,
 ) -> Result<HttpReply, Served>
-    ensures comes { ComesOnLink S.ran S.wakes (C.did mover.old mover.new) result (I.tells input.old) (I.tells input.new) }
-    ensures ahead { result ≡ Err ReadFault → I.ahead input.new ≡ [] }
+    ensures { AnswersCame S.ran S.wakes (C.did mover.old mover.new) body came result }
 {
-    let mut body = CallReader::new(alloc);
-    match read_request_into(alloc, input, &mut body) {
-        Ok(Incoming::Whole(head)) => {
-            pieces_are_their_bytes::<CallReader>();
-            Ok(reply_to(alloc, mover, server, body, head.close))
-        }
+    match came {
+        Ok(Incoming::Whole(head)) => Ok(reply_to(alloc, mover, server, body, head.close)),
         Ok(Incoming::Refused(refusal)) => Ok(HttpReply::Refused(refusal)),
         Ok(Incoming::Cut) => Err(Served::CutShort),
         Ok(Incoming::Ended) => Err(Served::Ended),

@@ -1,18 +1,17 @@
 //! The requests of a connection, one after another.
-ghost use Rattle.std.specs.Prelude.{◌≡◌, List, [], Some};
+ghost use Rattle.std.specs.Prelude.{◌≡◌, List, []};
 ghost use Rattle.job_table.specs.History.{MoveEntry};
 ghost use Rattle.os_io.specs.Streams.{SameInput, SameOutput};
-ghost use Rattle.http_link.specs.Carry.{tells_ahead};
 ghost use Rattle.os_server.specs.Talk.{Serves, ServesWhole, both_ends};
-ghost use Rattle.os_server.specs.declared.serve.Served.TheVariants.{ReadFault};
-ghost use Rattle.os_server.specs.Serving.{FollowsReply, ServesOne};
+ghost use Rattle.os_server.specs.Serving.{FollowsReply, IsFinished};
 
-use crate::reply::{HttpReply, answer_next, send_reply};
+use crate::reply::{HttpReply, answer_request, send_reply};
 use crate::server::Server;
-use http_link::Carried;
+use http_link::read_request_into;
 use job_runs::work_one;
 use job_table::{Mover, Verdicts};
 use os_io::{Link, Sink, Source};
+use soap_calls::CallReader;
 use std::alloc::Global;
 
 /// How a conversation ended.
@@ -58,38 +57,17 @@ fn follow<V: Verdicts, C: Mover<V>, S: Server<V>>(
     }
 }
 
-/// Serves one request, and says whether the conversation ends with it. Where a read fails, nothing is left of what was read ahead.
-fn serve_request<L: Link, V: Verdicts, C: Mover<V>, S: Server<V>>(
+/// Writes what a request is replied, and does what follows; where there is no reply, the conversation has ended. Says whether it ends.
+fn finish_request<O: Sink, V: Verdicts, C: Mover<V>, S: Server<V>>(
     alloc: Global,
-    link: &mut Carried<L>,
-    mover: &mut C,
-    server: &S,
-) -> Option<Served>
-    ensures serves { ServesOne S.ran S.wakes (C.did mover.old mover.new) result (tells_ahead link.old.carry (L.tells link.old.link)) (tells_ahead link.new.carry (L.tells link.new.link)) }
-    ensures ahead { result ≡ Some ReadFault → link.new.carry ≡ [] }
-{
-    match answer_next(alloc, link, mover, server) {
-        Ok(reply) => match send_reply(link, &reply) {
-            Ok(()) => follow(alloc, mover, server, &reply),
-            Err(_) => Some(Served::WriteFault),
-        },
-        Err(served) => Some(served),
-    }
-}
-
-/// Serves one request of an input and an output, and says whether the conversation ends with it.
-fn serve_request_of_ends<I: Source, O: Sink, V: Verdicts, C: Mover<V>, S: Server<V>>(
-    alloc: Global,
-    input: &mut I,
     output: &mut O,
     mover: &mut C,
     server: &S,
+    answer: Result<HttpReply, Served>,
 ) -> Option<Served>
-    ensures serves { ServesOne S.ran S.wakes (C.did mover.old mover.new) result (both_ends (I.tells input.old) (O.tells output.old)) (both_ends (I.tells input.new) (O.tells output.new)) }
-    ensures output_of_input { SameOutput (I.tells input.old) (I.tells input.new) }
-    ensures input_of_output { SameInput (O.tells output.old) (O.tells output.new) }
+    ensures { (after : List MoveEntry) × C.did mover.old mover.new after × IsFinished S.ran S.wakes answer after result (O.tells output.old) (O.tells output.new) }
 {
-    match answer_next(alloc, input, mover, server) {
+    match answer {
         Ok(reply) => match send_reply(output, &reply) {
             Ok(()) => follow(alloc, mover, server, &reply),
             Err(_) => Some(Served::WriteFault),
@@ -112,7 +90,10 @@ pub fn serve_ends<I: Source, O: Sink, V: Verdicts, C: Mover<V>, S: Server<V>>(
     ensures input_of_output { SameInput (O.tells output.old) (O.tells output.new) }
 {
     for _ in 0..MOST_REQUESTS {
-        match serve_request_of_ends(alloc, input, output, mover, server) {
+        let mut body = CallReader::new(alloc);
+        let came = read_request_into(alloc, input, &mut body);
+        let answer = answer_request(alloc, mover, server, came, body);
+        match finish_request(alloc, output, mover, server, answer) {
             None => {}
             Some(served) => return served,
         }
@@ -137,23 +118,24 @@ pub fn turn_away<I: Source, O: Sink, V: Verdicts, S: Server<V>>(
 }
 
 /// Serves a link, and gives it back: its requests are read and answered one after another, each by the moves that it asks, and
-/// behind each answer that is 200 or 500 a claim is made, and a job that it gives is run. The link is read ahead in large pieces,
-/// and what was read past the conversation's end is given up. Where a read fails, every whole request that had come before it was
-/// answered.
+/// behind each answer that is 200 or 500 a claim is made, and a job that it gives is run. Where a read fails, every whole request that
+/// had come before it was answered. A head is read byte by byte, so a link whose reads cost much reads ahead itself.
 pub fn serve_one<L: Link, V: Verdicts, C: Mover<V>, S: Server<V>>(
     alloc: Global,
-    link: L,
+    mut link: L,
     mover: &mut C,
     server: &S,
 ) -> (Served, L)
     ensures { Serves S.ran S.wakes (C.did mover.old mover.new) result.0 (L.tells link) (L.tells result.1) }
 {
-    let mut carried = Carried::new(link);
     for _ in 0..MOST_REQUESTS {
-        match serve_request(alloc, &mut carried, mover, server) {
+        let mut body = CallReader::new(alloc);
+        let came = read_request_into(alloc, &mut link, &mut body);
+        let answer = answer_request(alloc, mover, server, came, body);
+        match finish_request(alloc, &mut link, mover, server, answer) {
             None => {}
-            Some(served) => return (served, carried.into_link()),
+            Some(served) => return (served, link),
         }
     }
-    (Served::Ended, carried.into_link())
+    (Served::Ended, link)
 }

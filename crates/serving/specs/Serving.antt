@@ -12,15 +12,12 @@ use Rattle.job_runs.specs.Laws.{AreKept}
 use Rattle.desk.specs.declared.view.SeatEntry.{SeatEntry}
 use Rattle.desk.specs.declared.view.Met.{Met}
 use Rattle.desk.specs.History.{LeadsTo, moves_in, entries_by, by}
-use Rattle.desk.specs.SeatMoves.{IsSeatOf}
-use Rattle.desk.specs.SeatHistory.{AskedBy}
 use Rattle.workers.specs.Shifts.{WorksThrough}
 use Rattle.workers.specs.Bells.{Untold}
-use Rattle.server_threads.specs.declared.means.ServeLimits.{ServeLimits}
 use Rattle.server_threads.specs.declared.means.ServeFault.{ServeFault}
 use Rattle.server_threads.specs.declared.means.ServeFault.TheVariants.{Failed, Memory}
-use Rattle.server_threads.specs.Talks.{DeskSeat, LinkTalk, Shift, talk_met, shift_met, short_of, Came, GivenBack, AllTalked, AllWorked}
-use Rattle.server_threads.specs.Serving.{AtOnce, HasServed}
+use Rattle.server_threads.specs.Talks.{LinkTalk, Shift, talk_met, shift_met, short_of, Came, GivenBack, AllTalked, AllWorked}
+use Rattle.server_threads.specs.Serving.{AtOnce}
 use Rattle.os_server.specs.declared.serve.Served.{Served}
 use Rattle.os_server.specs.declared.serve.Served.TheVariants as served
 use Rattle.os_server.specs.Talk.{Serves}
@@ -167,11 +164,6 @@ abbrev pub TellsEnd : Result ℕ ServeFault → (given : ℕ) → Ending → (ou
 TellsEnd (Ok short) given how output output' =
     ((how ≡ done_if (nat_eq short 0)) × IsSent (jobs_line given) output output') ⊎ ((how ≡ ReportFault) × BreaksOff (jobs_line given) output output')
 TellsEnd (Err fault) given how output output' = (how ≡ ending_of fault) × (output' ≡ output)
-
--- links were served beside workers from this first seat on, and then it worked a shift
-abbrev pub ServesOn : {T N : Type 0} → (legal : List SeatEntry → Type 0) → (tells : N → NetTells) → ServeLimits → (seat seat' : DeskSeat T) → (net net' : N) → Result ℕ ServeFault → Type 0
-ServesOn {T} {N} legal tells limits seat seat' net net' answer =
-    (mid : DeskSeat T) × (own : List Said) × HasServed MakesDocument (Converses Untold) tells limits seat mid net net' answer × IsSeatOf seat.table_id mid × AskedBy legal mid.me.0 seat'.me.0 own × WorksThrough MakesDocument own
 
 -- a server listened at this host and port, served links as it was set up, and ended so; what holds of its history, and how many numbers its table had given
 -- behind it, is given

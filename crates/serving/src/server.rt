@@ -1,18 +1,18 @@
 //! A server, from `listen` to its last line.
 ghost use Rattle.std.specs.Prelude.{◌≡◌, ◌<◌, ◌≤◌, false, nat_eq, OnOk, IfErr};
-ghost use Rattle.desk.specs.Rule.{first_view, out_of};
+ghost use Rattle.desk.specs.Rule.{first_view};
 ghost use Rattle.desk.specs.SeatMoves.{desk_id, told_of, IsSeatOf};
 ghost use Rattle.job_table.specs.Steps.{most_first};
 ghost use Rattle.job_table.specs.Jobs.{Rises, NobodyRuns};
 ghost use Rattle.os_io.specs.Streams.{SameInput};
-ghost use Rattle.serving.specs.Serving.{done_if, ending_of, HasBegun, Unbegun, ServesOn, TellsEnd, IsServerRun};
+ghost use Rattle.serving.specs.Serving.{done_if, ending_of, HasBegun, Unbegun, TellsEnd, IsServerRun};
 ghost use Rattle.serving.specs.StoredServing.{IsStoredServerRun, ServesOver};
 
 use crate::ending::Ending;
 use crate::lines::{tell_jobs, tell_listening};
 use crate::links::LinkServer;
 use crate::setup::Setup;
-use desk::{Desk, DeskOf, SeatOf, Slotted, StoredDesk, StoredSeat};
+use desk::{Desk, StoredDesk, StoredSeat};
 use disks::Disk;
 use job_journal::Journal;
 use job_solver::{
@@ -68,30 +68,6 @@ fn begin<N: Listener, O: Sink>(
     }
 }
 
-/// Serves links beside workers by moves of this desk, works off what waits, and gives the first seat back, which has met all others.
-fn serve_on<N: Listener, T: Slotted<SolvedJobs> + Send + Sync, R: Threads + Wait + Sync>(
-    rt: &R,
-    alloc: Global,
-    desk: &DeskOf<SolvedJobs, T>,
-    seat: SeatOf<T>,
-    net: &mut N,
-    limits: ServeLimits,
-) -> (SeatOf<T>, Result<u64, ServeFault>)
-where
-    N::Conn: Send + Drop,
-    requires seat { IsSeatOf (desk_id desk.now) seat }
-    requires first { seat.me.0.number ≡ 0 }
-    requires some { 1 ≤ limits.servers }
-    ensures seat { IsSeatOf (desk_id desk.now) result.0 }
-    ensures first { result.0.me.0.number ≡ 0 }
-    ensures out { out_of result.0.me.0 ≡ out_of seat.me.0 }
-    ensures served { ServesOn (T.legal (told_of desk.now)) N.tells limits seat result.0 net.old net.new result.1 }
-{
-    let (mut seat, served) = serve_loop(rt, alloc, desk, seat, net, &LinkServer(()), limits);
-    work_closing_shift(rt, alloc, desk, &mut seat, &Solver);
-    (seat, served)
-}
-
 /// Says how many numbers of jobs were given, where all links came.
 fn tell_end<O: Sink>(output: &mut O, served: Result<u64, ServeFault>, given: u64) -> Ending
     ensures told { TellsEnd served given result (O.tells output.old) (O.tells output.new) }
@@ -139,7 +115,9 @@ where
     first_finish_is_kept::<SolvedJobs>();
     numbers_are_given_once::<SolvedJobs>();
     shown_documents_are_proved();
-    let (seat, served) = serve_on(rt, alloc, &desk, seat, net, setup.limits);
+    let service = LinkServer(());
+    let (mut seat, served) = serve_loop(rt, alloc, &desk, seat, net, &service, setup.limits);
+    work_closing_shift(rt, alloc, &desk, &mut seat, &Solver);
     let given = desk.close(seat).issued();
     tell_end(output, served, given)
 }
@@ -149,7 +127,7 @@ fn serve_over<N: Listener, O: Sink, D: Disk + Drop + Send + Sync, R: Threads + W
     rt: &R,
     alloc: Global,
     desk: StoredDesk<SolvedJobs, Journal<D>>,
-    seat: StoredSeat<SolvedJobs, Journal<D>>,
+    first: StoredSeat<SolvedJobs, Journal<D>>,
     net: &mut N,
     output: &mut O,
     setup: Setup,
@@ -157,8 +135,8 @@ fn serve_over<N: Listener, O: Sink, D: Disk + Drop + Send + Sync, R: Threads + W
 where
     N::Conn: Send + Drop,
     requires servers { 1 ≤ setup.limits.servers }
-    requires seat { IsSeatOf (desk_id desk) seat }
-    requires fresh { seat.me.0 ≡ first_view }
+    requires seat { IsSeatOf (desk_id desk) first }
+    requires fresh { first.me.0 ≡ first_view }
     requires rises { Rises (told_of desk).table }
     requires nobody { NobodyRuns (told_of desk).table }
     ensures served { ServesOver D.told D.seen D.may_leave D.moment D.left_since D.faults (told_of desk).table (told_of desk).store result.1 result.0 setup (N.tells net.old) (N.tells net.new) (O.tells output.old) (O.tells output.new) }
@@ -167,8 +145,10 @@ where
     first_finish_is_kept::<SolvedJobs>();
     numbers_are_given_once::<SolvedJobs>();
     shown_documents_are_proved_from_tables();
-    let (seat, served) = serve_on(rt, alloc, &desk, seat, net, setup.limits);
-    let (table, journal) = desk.close_stored(seat);
+    let service = LinkServer(());
+    let (mut first, served) = serve_loop(rt, alloc, &desk, first, net, &service, setup.limits);
+    work_closing_shift(rt, alloc, &desk, &mut first, &Solver);
+    let (table, journal) = desk.close_stored(first);
     let given = table.issued();
     let ending = tell_end(output, served, given);
     (ending, journal.into_disk())

@@ -1,5 +1,5 @@
 //! What is read of a socket, and how long it is waited for.
-ghost use Rattle.std.specs.Prelude.{IfSome};
+ghost use Rattle.std.specs.Prelude.{◌≡◌};
 ghost use Rattle.std.specs.Io.{ReadsAtMost};
 
 use crate::door::Door;
@@ -34,8 +34,10 @@ const CLOSING_IN_VAIN: (u16, usize) = (1, 2);
 /// How long a link that came waits for bytes of its peer.
 pub(crate) struct Pace<R> {
     clock: R,
-    /// How many seconds the peer may send nothing.
+    /// How many seconds the peer may send nothing while the conversation lasts. What is only read lasts no longer than a number of these.
     patience: u16,
+    /// How many seconds the peer may send nothing now.
+    silence: u16,
     /// When the first byte was read behind the last one that was written. None in an idle link.
     begun: Option<Instant>,
     /// Whether the peer was waited for in vain, or another link gets this one's seat.
@@ -48,6 +50,7 @@ impl<R: Drop> Drop for Pace<R> {
         let Pace {
             clock: _,
             patience: _,
+            silence: _,
             begun: _,
             is_given_up: _,
             door: _,
@@ -61,6 +64,7 @@ impl<R: Clock + Wait> Pace<R> {
         Pace {
             clock,
             patience,
+            silence: patience,
             begun: None,
             is_given_up: false,
             door,
@@ -75,56 +79,6 @@ impl<R: Clock + Wait> Pace<R> {
         Ok(self.patience)
     }
 
-    /// Reads some bytes, where any come in so many seconds.
-    fn read(&mut self, socket: &TcpStream, buf: &mut [u8], seconds: u16) -> io::Result<usize>
-        ensures { ReadsAtMost result buf.new }
-    {
-        for _ in 0..seconds {
-            if self.is_late() {
-                break;
-            }
-            if let Some(answer) = self.wait(socket, buf) {
-                return answer;
-            }
-            // While nobody accepts, someone may be about to: then a seat is free, and no link has to end.
-            let turn = self.door.turn();
-            if turn % 2 == 1 || self.begun.is_some() || self.is_given_up {
-                continue;
-            }
-            if let Some(answer) = self.wait_shortly(socket, buf) {
-                return answer;
-            }
-            if self.door.takes_one(&self.clock, turn) {
-                break;
-            }
-        }
-        self.is_given_up = true;
-        Err(io::Error::from(ErrorKind::TimedOut))
-    }
-
-    /// Reads by one call of the system. None where it waited in vain.
-    fn wait(&mut self, socket: &TcpStream, buf: &mut [u8]) -> Option<io::Result<usize>>
-        ensures { IfSome result (λ answer. ReadsAtMost answer buf.new) }
-    {
-        match read_once(socket, buf) {
-            Err(error) if was_in_vain(error.kind()) => None,
-            answer => {
-                self.note(&answer);
-                Some(answer)
-            }
-        }
-    }
-
-    /// The same, for a shorter time.
-    fn wait_shortly(&mut self, socket: &TcpStream, buf: &mut [u8]) -> Option<io::Result<usize>>
-        ensures { IfSome result (λ answer. ReadsAtMost answer buf.new) }
-    {
-        let _ = socket.set_read_timeout(Some(Duration::from_millis(LOOK)));
-        let answer = self.wait(socket, buf);
-        let _ = socket.set_read_timeout(Some(Duration::from_secs(WAIT)));
-        answer
-    }
-
     /// Whether the link has only read for too long.
     fn is_late(&self) -> bool {
         let most = Duration::from_secs(MOST_WAITS * u64::from(self.patience));
@@ -134,11 +88,14 @@ impl<R: Clock + Wait> Pace<R> {
         }
     }
 
-    /// Keeps when the first byte came.
-    fn note(&mut self, answer: &io::Result<usize>) {
+    /// What a read answered. When the first byte came is kept.
+    fn noted(&mut self, answer: io::Result<usize>) -> io::Result<usize>
+        ensures { result ≡ answer }
+    {
         if self.begun.is_none() && answer.as_ref().is_ok_and(|n| *n > 0) {
             self.begun = Instant::now(&self.clock).ok();
         }
+        answer
     }
 }
 
@@ -166,41 +123,39 @@ impl<R: Clock + Wait> Inlet<R> {
         }
     }
 
-    /// Reads some bytes of this socket. A link that came waits for so many seconds.
-    fn read_from(&mut self, socket: &TcpStream, buf: &mut [u8], seconds: u16) -> io::Result<usize>
-        ensures { ReadsAtMost result buf.new }
-    {
-        match &mut self.pace {
-            Some(pace) => pace.read(socket, buf, seconds),
-            None => read_once(socket, buf),
-        }
-    }
-
     /// Ends this side of the link, throws away what the peer still sends, and gives the socket up.
     pub(crate) fn close(&mut self) {
-        let Some(socket) = self.socket.take() else {
+        let Some(socket) = &self.socket else {
             return;
         };
         let _ = socket.shutdown(Shutdown::Write);
         // A connection that is given up with bytes that nobody took is reset, and the peer may lose the answer that is on its way
         // (RFC 9112, section 9.6).
-        self.throw_away(&socket);
+        let reads = self.begin_closing();
+        self.throw_away(reads);
+        self.socket = None;
+    }
+
+    /// Sets how long the peer may send nothing from now on, and says how often it is read.
+    fn begin_closing(&mut self) -> usize {
+        let (silence, reads) = match &self.pace {
+            Some(pace) if pace.is_given_up => CLOSING_IN_VAIN,
+            _ => (CLOSING, MOST_THROWN_AWAY),
+        };
+        if let Some(pace) = &mut self.pace {
+            pace.silence = silence;
+        } else if let Some(socket) = &self.socket {
+            let _ = socket.set_read_timeout(Some(Duration::from_secs(u64::from(silence))));
+        }
+        reads
     }
 
     /// Throws away what the peer still sends, until it ends, sends nothing for too long, or has sent too much.
-    fn throw_away(&mut self, socket: &TcpStream) {
-        let (seconds, reads) = match &self.pace {
-            Some(pace) if pace.is_given_up => CLOSING_IN_VAIN,
-            Some(_) => (CLOSING, MOST_THROWN_AWAY),
-            None => {
-                let _ = socket.set_read_timeout(Some(Duration::from_secs(u64::from(CLOSING))));
-                (CLOSING, MOST_THROWN_AWAY)
-            }
-        };
+    fn throw_away(&mut self, reads: usize) {
         let mut buffer = [0; 8_192];
         let mut left = MOST_THROWN_AWAY;
         for _ in 0..reads {
-            match self.read_from(socket, &mut buffer, seconds) {
+            match self.read(&mut buffer) {
                 Ok(n) if 0 < n && n < left => left -= n,
                 _ => return,
             }
@@ -209,20 +164,46 @@ impl<R: Clock + Wait> Inlet<R> {
 }
 
 impl<R: Clock + Wait> Read for Inlet<R> {
+    /// Reads some bytes of the socket, where any come in as many seconds as the peer has. A link that was made waits for them without end.
     fn read(&mut self, buf: &mut [u8]) -> io::Result<usize> {
-        let Some(socket) = self.socket.take() else {
+        let Some(mut socket) = self.socket.as_ref() else {
             return Err(io::Error::from(ErrorKind::NotConnected));
         };
-        let patience = self.pace.as_ref().map_or(0, |pace| pace.patience);
-        let answer = self.read_from(&socket, buf, patience);
-        self.socket = Some(socket);
-        answer
+        let Some(pace) = &mut self.pace else {
+            return socket.read(buf);
+        };
+        for _ in 0..pace.silence {
+            if pace.is_late() {
+                break;
+            }
+            match socket.read(buf) {
+                Err(error) if was_in_vain(error.kind()) => {}
+                answer => return pace.noted(answer),
+            }
+            // While nobody accepts, someone may be about to: then a seat is free, and no link has to end.
+            let turn = pace.door.turn();
+            if turn % 2 == 1 || pace.begun.is_some() || pace.is_given_up {
+                continue;
+            }
+            match read_shortly(socket, buf) {
+                Err(error) if was_in_vain(error.kind()) => {}
+                answer => return pace.noted(answer),
+            }
+            if pace.door.takes_one(&pace.clock, turn) {
+                break;
+            }
+        }
+        pace.is_given_up = true;
+        Err(io::Error::from(ErrorKind::TimedOut))
     }
 }
 
-/// Reads some bytes by one call of the system.
-fn read_once(mut socket: &TcpStream, buf: &mut [u8]) -> io::Result<usize>
+/// Reads some bytes by one call of the system, which waits for a shorter time than others do.
+fn read_shortly(mut socket: &TcpStream, buf: &mut [u8]) -> io::Result<usize>
     ensures { ReadsAtMost result buf.new }
 {
-    socket.read(buf)
+    let _ = socket.set_read_timeout(Some(Duration::from_millis(LOOK)));
+    let answer = socket.read(buf);
+    let _ = socket.set_read_timeout(Some(Duration::from_secs(WAIT)));
+    answer
 }

@@ -12,6 +12,9 @@ use std::net::TcpStream;
 use std::sync::Wait;
 use std::time::Clock;
 
+/// The most bytes that are read ahead.
+const READ_AHEAD: usize = 16_384;
+
 /// A link over TCP, with a count of faults each way. It tells nothing of its bytes. A read takes ahead what has come,
 /// and what is written goes out with a flush, or where its buffer is full. One that came waits for its peer as long as its listener
 /// says, one that was made without end.
@@ -62,7 +65,7 @@ impl<R: Clock + Wait + Drop> TcpLink<R> {
             waits,
         };
         Ok(TcpLink {
-            input: BufReader::new(alloc, inlet)?,
+            input: BufReader::with_capacity(alloc, READ_AHEAD, inlet)?,
             output: BufWriter::new(alloc, outlet)?,
             read_faults: 0,
             write_faults: 0,
