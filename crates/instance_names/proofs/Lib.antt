@@ -1,2 +1,3 @@
-pub mod NameLists
 pub mod NameCharacters
+pub mod Walks
+pub mod FoundNames
