@@ -1,7 +1,7 @@
 -- Where a search begins.
 use Rattle.std.proofs.Common.{◌≡◌, ℕ, None, Option, List, [], length, arith, refl, sym, ◌∙◌, ap, ap₂, subst}
 use Rattle.certificate.specs.declared.nodes.Cert.{Cert}
-use Rattle.certificate.specs.declared.lists.Mult.{Mult}
+use Rattle.certificate.specs.declared.nodes.Round.{Round}
 use Rattle.instance.specs.Parts.{Parts}
 use Rattle.instance.specs.Program.{program, problem}
 use Rattle.instance.proofs.Numbers.{program-instance}
@@ -30,10 +30,10 @@ given_begun : (p : Parts) (k : Cutting) → k.rows ≡ [] → k.goal ≡ 0 → I
 given_begun p k none zero = subst (λ (h : Cutting). IsGiven p h (program p)) (ap₂ (λ (rs : List Added) (g : ℕ). let h : Cutting = record { ends = k.ends; rows = rs; goal = g } in h) (sym none) (sym zero)) (given_first p k.ends)
 
 -- the first level, and what a search has at hand then
-abbrev pub begun_level : List Cert → List (List Mult) → Level
+abbrev pub begun_level : List Cert → List Round → Level
 begun_level ks rs = record { goal = 0; certs = ks; rounds = rs; before = 0 }
 
-module _ {M : _} {G : _} (p : Parts) (r : Relaxation M G) (ks : List Cert) (rs : List (List Mult)) (certs : ks ≡ []) (rounds : rs ≡ []) (beside : r.ends.rows ≡ []) (zero : r.ends.goal ≡ 0) (rows : r.rows.items ≡ []) where
+module _ {M : _} {G : _} (p : Parts) (r : Relaxation M G) (ks : List Cert) (rs : List Round) (certs : ks ≡ []) (rounds : rs ≡ []) (beside : r.ends.rows ≡ []) (zero : r.ends.goal ≡ 0) (rows : r.rows.items ≡ []) where
   is_rows : program p ≡ with_rows (program p) r.rows.items
   is_rows = ap (with_rows (program p)) (sym rows)
 

@@ -3,7 +3,6 @@ mod AddedRows
 mod RowEntries
 mod CutRows
 mod GivenRows
-mod Floors
 mod WholeParts
 mod Leftovers
 mod Factors

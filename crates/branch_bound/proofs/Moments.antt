@@ -4,7 +4,7 @@ use Rattle.std.proofs.lemmas.List.{length-map, length_push}
 use Rattle.rational.specs.Ratio.{Ratio}
 use Rattle.evidence.specs.Instance.{Instance}
 use Rattle.evidence.specs.Cases.{Multiplier, Node}
-use Rattle.evidence.specs.Rounds.{derive}
+use Rattle.evidence.specs.Rounds.{Round, RoundBy, derive}
 use Rattle.certificate.specs.declared.nodes.Node as Own
 use Rattle.certificate.specs.declared.nodes.Cert.{Cert}
 use Rattle.certificate.specs.Meanings as Means
@@ -73,7 +73,7 @@ module _ (p : Parts) (L D : Instance) (v : Level) (c : Clock) (w : Walk) (d : �
         ap (waiting E w) at
         ∙ ap₂ (λ (J : Instance) (Cs : List Case). let C : Case = record (case D w d) { program = J } in C ∷ Cs) same_case (ap (rest E w) none_above ∙ sym (ap (rest D w) none_above))
 
-    pub cuts : u.goal ≡ v.goal → u.certs ≡ v.certs → Means.rounds u.rounds ≡ Means.rounds v.rounds ++ ms ∷ [] → moment p L E u w c ≡ with_cut (moment p L D v w c) (case D w d) (rest D w d) ms cs k
+    pub cuts : u.goal ≡ v.goal → u.certs ≡ v.certs → Means.rounds u.rounds ≡ Means.rounds v.rounds ++ RoundBy ms ∷ [] → moment p L E u w c ≡ with_cut (moment p L D v w c) (case D w d) (rest D w d) ms cs k
     cuts goal certs rounds =
-        ap₂ (λ (Cs : List Case) (rs : List (List Multiplier)). let m : SearchMoment = record { level = level p L u; rounds = rs; waiting = Cs; nodes = Means.nodes w.nodes; clock = c; best = best w.best } in m) same_cases rounds
+        ap₂ (λ (Cs : List Case) (rs : List Round). let m : SearchMoment = record { level = level p L u; rounds = rs; waiting = Cs; nodes = Means.nodes w.nodes; clock = c; best = best w.best } in m) same_cases rounds
         ∙ ap₂ (λ (g : ℕ) (ks : List Cert). let m : SearchMoment = record (with_cut (moment p L D v w c) (case D w d) (rest D w d) ms cs k) { level = level p L (record v { goal = g; certs = ks }) } in m) goal certs

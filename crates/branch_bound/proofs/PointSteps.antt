@@ -10,7 +10,8 @@ use Rattle.evidence.specs.Instance.{Instance, Problem, width}
 use Rattle.evidence.specs.Cases.{Multiplier, BoundBy}
 use Rattle.evidence.specs.Width.{PointFits}
 use Rattle.certificate.specs.declared.causes.Step.TheVariants.{Point}
-use Rattle.certificate.specs.declared.lists.Mult.{Mult}
+use Rattle.evidence.specs.Rounds as With
+use Rattle.certificate.specs.declared.nodes.Round.{Round}
 use Rattle.certificate.specs.declared.nodes.Node as Own
 use Rattle.certificate.specs.Meanings as Means
 use Rattle.instance.specs.declared.parts.Goal as Asked
@@ -117,15 +118,15 @@ module _ (p : Parts) (t : Terms) (L D : Instance) (v : Level) (w : Walk) (c : Cl
   no_cut_left never may = never (
     one_goal p.goals v.goal some may.one_goal,
     no_nodes w.nodes may.first_case,
-    let f = may.fewer in let n = length-map v.rounds Means.multipliers in omega arith,
+    let f = may.fewer in let n = length-map v.rounds Means.round in omega arith,
   )
 
 pub may_derive : (p : Parts) (t : Terms) (L D : Instance) (v : Level) (w : Walk) (c : Clock) → length p.goals ≡ 1 → w.nodes ≡ [] → length v.rounds < t.rounds → MayCut (problem p) t (moment p L D v w c)
 may_derive p t L D v w c one none fewer = record {
   one_goal = later_none p.goals one;
   first_case = ap Means.nodes none;
-  fewer = let n = length-map v.rounds Means.multipliers in omega arith;
+  fewer = let n = length-map v.rounds Means.round in omega arith;
 }
 
-pub rounds_more : (rs ss : List (List Mult)) (ms : List Multiplier) → Means.rounds ss ≡ Means.rounds rs ++ ms ∷ [] → length ss ≡ length rs + 1
-rounds_more rs ss ms e = sym (length-map ss Means.multipliers) ∙ ap length e ∙ length_push (Means.rounds rs) ms ∙ ap (λ n. n + 1) (length-map rs Means.multipliers)
+pub rounds_more : (rs ss : List Round) (r : With.Round) → Means.rounds ss ≡ Means.rounds rs ++ r ∷ [] → length ss ≡ length rs + 1
+rounds_more rs ss r e = sym (length-map ss Means.round) ∙ ap length e ∙ length_push (Means.rounds rs) r ∙ ap (λ n. n + 1) (length-map rs Means.round)

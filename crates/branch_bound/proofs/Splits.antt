@@ -16,7 +16,7 @@ use Rattle.case_tree.specs.Cuts.{cut, cut_variable, HasNext}
 use Rattle.search_rules.specs.Branching.{IsWholeBelow, IsMet, AreMetBelow}
 use Rattle.search_rules.specs.Cuts.{IsFractional}
 use Rattle.branch_bound.specs.Divisions.{NeedsDivision, IsOpenAt}
-use Rattle.branch_bound.proofs.Floors.{floor_within}
+use Rattle.no_cycles.proofs.Floors.{floor_within}
 
 some_where : {T : Type 0} (o : Option T) (P : T → Type 0) → (IfSome o P → ⊥) → IsSome o
 some_where None P h = absurd (h tt)

@@ -90,7 +90,6 @@ fn left_beside<L: Ledger>(
     ensures ok { IfOk result (λ left. IsLeftOver (status_at (statuses_in work.now) col) (entries_in work.now variable col) (ratio left)) }
     ensures fits { IfOk result (λ _. LeftFits (status_at (statuses_in work.now) col) (entries_in work.now variable col)) }
     ensures wide { OnErr result (LeftFits (status_at (statuses_in work.now) col) (entries_in work.now variable col) → ⊥) }
-    ensures counted { steps.old ≤ steps.new }
 {
     match work.entry_at(variable, col, steps) {
         Some(entry) => left_of(side, entry),
@@ -112,7 +111,6 @@ fn left_at<L: Ledger>(
     ensures ok { IfOk result (λ left. IsLeftOver (status_at (statuses_in work.now) col) (entries_in work.now variable col) (ratio left)) }
     ensures fits { IfOk result (λ _. LeftFits (status_at (statuses_in work.now) col) (entries_in work.now variable col)) }
     ensures wide { OnErr result (LeftFits (status_at (statuses_in work.now) col) (entries_in work.now variable col) → ⊥) }
-    ensures counted { steps.old ≤ steps.new }
 {
     match work.side_at(col) {
         Some(side) => left_beside(work, variable, col, side, steps),
@@ -140,8 +138,7 @@ fn left_mults<L: Ledger>(
     requires row { variable < width_in work.now + height_in work.now }
     requires columns { columns ≡ width_in work.now + height_in work.now }
     requires basic { basic_in (statuses_in work.now) variable ≡ true }
-    ensures left { IfOk result (λ left. (I : Of.Instance) → goal_column I ≡ columns → LeavesOf I (statuses_in work.now) (entries_in work.now) variable left) }
-    ensures counted { steps.old ≤ steps.new }
+    ensures { IfOk result (λ left. (I : Of.Instance) → goal_column I ≡ columns → LeavesOf I (statuses_in work.now) (entries_in work.now) variable left) }
 {
     let mut mults = Mults::new(alloc);
     let mut is_at_zero = false;
@@ -209,7 +206,6 @@ fn try_equation<L: Ledger>(
     requires basic { basic_in (statuses_in work.now) variable ≡ true }
     ensures tries { IfOk result (λ trial. TriesEquation (with_rows (program instance.now) rows.now) (statuses_in work.now) (entries_in work.now) variable (tried trial slots.new)) }
     ensures holds { IfOk result (λ trial. HoldsCut (length cuts.now) trial slots.new) }
-    ensures counted { steps.old ≤ steps.new }
 {
     let columns = (cuts.len() + (instance.rows().len() + rows.len())) as u32;
     match left_mults(alloc, work, variable, columns, steps) {
@@ -239,7 +235,6 @@ pub fn try_cut<L: Ledger>(
     requires ran { (e : End) × RanTo (with_rows (program instance.now) rows.now) e work.now }
     ensures tries { IfOk result (λ trial. TriesBasis (with_rows (program instance.now) rows.now) (point_of work.now) (statuses_in work.now) (tried trial slots.new)) }
     ensures holds { IfOk result (λ trial. HoldsCut (length cuts.now) trial slots.new) }
-    ensures counted { steps.old ≤ steps.new }
 {
     match first_fractional(work, cuts) {
         Some(variable) => {

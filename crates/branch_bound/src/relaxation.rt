@@ -23,13 +23,14 @@ use std::alloc::{AllocError, Global};
 use std::sync::ledger::Ledger;
 
 /// Memory for the runs of a search, what a run is given beside the instance, the turns of all runs, and the rows of the cuts so far
-/// with a sum for each variable, by which cuts are derived.
+/// with a sum for each variable, by which cuts are derived; `steps` counts each entry of a dictionary that is read or written.
 pub struct Relaxation<L: Ledger> {
     pub work: Work<L>,
     pub ends: Cuts,
     pub turns: Turns,
     pub rows: Vec<Checked>,
     pub slots: Vec<Option<Frac>>,
+    pub steps: Steps<L>,
 }
 
 impl<L: Ledger> Drop for Relaxation<L> {
@@ -41,6 +42,7 @@ impl<L: Ledger> Drop for Relaxation<L> {
             turns: _,
             rows: _,
             slots: _,
+            steps: _,
         } = self;
     }
 }
@@ -70,7 +72,6 @@ pub fn run_case<W: Watch, L: Ledger>(
     cuts: &[Cut],
     zero_goal: bool,
     watch: &mut W,
-    steps: &mut Steps<L>,
 ) -> LpEnd
     requires size { HasSize instance.now relaxation.old }
     requires width { length cuts.now ≡ length instance.now.vars }
@@ -81,7 +82,6 @@ pub fn run_case<W: Watch, L: Ledger>(
     ensures most { relaxation.new.turns.most ≡ relaxation.old.turns.most }
     ensures run { (n : ℕ) × W.came watch.old watch.new (answers n (was_stopped result)) × ((D : Of.Instance) (t : Terms) (looks : ℕ) → IsGiven instance.now relaxation.old.ends D → t.turns ≡ relaxation.old.turns.most → AgreesWith t.stop looks n (was_stopped result) → Run (cut D cuts.now) zero_goal t (clock_at relaxation.old looks) (ended_with result relaxation.new.work) (clock_at relaxation.new (looks_after looks n (was_stopped result))) × (was_best result ≡ true → EndsAtBasis (cut D cuts.now) zero_goal t (clock_at relaxation.old looks) (ended_with result relaxation.new.work) (clock_at relaxation.new (looks_after looks n (was_stopped result))) (statuses_in relaxation.new.work))) }
     ensures basis { was_best result ≡ true → IsAtBasis relaxation.new.work × ((D : Of.Instance) → IsGiven instance.now relaxation.old.ends D → HasDictionary (cut D cuts.now) zero_goal (statuses_in relaxation.new.work) (entries_in relaxation.new.work)) }
-    ensures counted { steps.old ≤ steps.new }
 {
     let _few = instance.vars();
     set_ends(&mut relaxation.ends, cuts);
@@ -91,7 +91,7 @@ pub fn run_case<W: Watch, L: Ledger>(
         zero_goal,
         &mut relaxation.turns,
         watch,
-        steps,
+        &mut relaxation.steps,
     )
 }
 

@@ -12,7 +12,7 @@ ghost use Rattle.evidence.specs.Instance as Of;
 ghost use Rattle.evidence.specs.Instance.{entry_at};
 ghost use Rattle.evidence.specs.OneDenominator.{number_at};
 ghost use Rattle.evidence.specs.Point.{value_at};
-ghost use Rattle.evidence.specs.Rounds.{derive};
+ghost use Rattle.evidence.specs.Rounds.{RoundBy, derive};
 ghost use Rattle.instance.specs.Parts.{IsAscending};
 ghost use Rattle.certificate.specs.Meanings as Means;
 ghost use Rattle.simplex.specs.Cuts.{range_of, IsAdded};
@@ -42,8 +42,7 @@ use crate::relaxation::{Relaxation, add_row};
 use crate::walk::Walk;
 use case_tree::whole;
 use cert_checker::{Added as Checked, put};
-use certificate::{Cause, Mults, Step};
-use dictionary::Steps;
+use certificate::{Cause, Mults, Round, Step};
 use fraction::{End, Entry, Frac};
 use instance::{Instance, Row, zero};
 use items::Items;
@@ -136,7 +135,7 @@ fn add_cut<L: Ledger>(
     ensures suits { IfOk result (λ _. SuitsLevel instance.now relaxation.new level.new) }
     ensures turns { relaxation.new.turns ≡ relaxation.old.turns }
     ensures level { (level.new.goal ≡ level.old.goal) × (level.new.before ≡ level.old.before) }
-    ensures rounds { IfOk result (λ _. Means.rounds level.new.rounds ≡ Means.rounds level.old.rounds ++ Means.multipliers mults ∷ []) }
+    ensures rounds { IfOk result (λ _. Means.rounds level.new.rounds ≡ Means.rounds level.old.rounds ++ RoundBy (Means.multipliers mults) ∷ []) }
     ensures certs { level.new.certs ≡ level.old.certs }
     ensures at { IfOk result (λ _. (L D : Of.Instance) → IsAtLevel instance.now relaxation.old level.old L D → IsAtLevel instance.now relaxation.new level.new L (derive D (numerators relaxation.old.slots.items) low)) }
 {
@@ -145,7 +144,7 @@ fn add_cut<L: Ledger>(
     let added = added_row(alloc, place, &row)?;
     add_row(alloc, instance, relaxation, added)?;
     relaxation.rows.push(row)?;
-    level.rounds.push(mults)
+    level.rounds.push(Round::Whole(mults))
 }
 
 /// Tries a cut at the run's last basis; the slots have its coefficients then.
@@ -154,7 +153,6 @@ fn try_at<L: Ledger>(
     instance: &Instance,
     relaxation: &mut Relaxation<L>,
     walk: &Walk,
-    steps: &mut Steps<L>,
 ) -> Result<Trial, AllocError>
     requires size { HasSize instance.now relaxation.old }
     requires width { length walk.now.cuts.items ≡ length instance.now.vars }
@@ -169,7 +167,6 @@ fn try_at<L: Ledger>(
     ensures ends { relaxation.new.ends ≡ relaxation.old.ends }
     ensures turns { relaxation.new.turns ≡ relaxation.old.turns }
     ensures rows { relaxation.new.rows.items ≡ relaxation.old.rows.items }
-    ensures counted { steps.old ≤ steps.new }
 {
     try_cut(
         alloc,
@@ -178,7 +175,7 @@ fn try_at<L: Ledger>(
         relaxation.rows.as_slice(),
         walk.cuts.as_slice(),
         relaxation.slots.as_mut_slice(),
-        steps,
+        &mut relaxation.steps,
     )
 }
 
@@ -229,7 +226,6 @@ fn cut_or_branch<L: Ledger>(
     walk: &mut Walk,
     depth: usize,
     at: Open,
-    steps: &mut Steps<L>,
 ) -> Result<(), Ended>
     requires suits { SuitsLevel instance.now relaxation.old level.old }
     requires at { IsAt (length instance.now.vars) walk.old depth }
@@ -246,9 +242,8 @@ fn cut_or_branch<L: Ledger>(
     ensures err { IfErr result (λ ended. OrMemory walk.old ended ((L D : Of.Instance) (t : Terms) (looks : ℕ) → let c = clock_at relaxation.old looks in IsAtLevel instance.now relaxation.old level.old L D → TriesAt instance.now L D level.old walk.old depth t c (point_of relaxation.old.work) (statuses_in relaxation.old.work) (Out (outcome_of (Means.certificates level.old.certs) ended) c))) }
     ensures certs { level.new.certs ≡ level.old.certs }
     ensures went_on { IfErr result (λ ended. was_killed ended ≡ false) }
-    ensures counted { steps.old ≤ steps.new }
 {
-    match try_at(alloc, instance, relaxation, walk, steps) {
+    match try_at(alloc, instance, relaxation, walk) {
         Ok(trial) => go_on(alloc, instance, relaxation, level, walk, depth, at, trial),
         Err(_) => Err(give_up(walk, Cause::Memory)),
     }
@@ -263,7 +258,6 @@ pub fn improve<L: Ledger>(
     mults: Mults,
     walk: &mut Walk,
     depth: usize,
-    steps: &mut Steps<L>,
 ) -> Result<(), Ended>
     requires suits { SuitsLevel instance.now relaxation.old level.old }
     requires at { IsAt (length instance.now.vars) walk.old depth }
@@ -280,11 +274,10 @@ pub fn improve<L: Ledger>(
     ensures err { IfErr result (λ ended. OrMemory walk.old ended ((L D : Of.Instance) (t : Terms) (before : Clock) (looks : ℕ) (b : Ratio) → let c = clock_at relaxation.old looks in IsAtLevel instance.now relaxation.old level.old L D → length level.old.rounds < t.rounds → EndsAtBasis (cut D walk.old.cuts.items) false t before (Best b (point_of relaxation.old.work) (Means.multipliers mults)) c (statuses_in relaxation.old.work) → ImprovesAt instance.now L D level.old walk.old depth t before c b (point_of relaxation.old.work) (Means.multipliers mults) (Out (outcome_of (Means.certificates level.old.certs) ended) c))) }
     ensures certs { level.new.certs ≡ level.old.certs }
     ensures went_on { IfErr result (λ ended. was_killed ended ≡ false) }
-    ensures counted { steps.old ≤ steps.new }
 {
     let _few = instance.vars();
     match first_open(&relaxation.work, walk.cuts.as_slice()) {
-        Some(at) => cut_or_branch(alloc, instance, relaxation, level, walk, depth, at, steps),
+        Some(at) => cut_or_branch(alloc, instance, relaxation, level, walk, depth, at),
         None => take_point(alloc, instance, relaxation, mults, walk, depth),
     }
 }

@@ -34,7 +34,8 @@ use instance::{Instance, Var};
 use os_io::Watch;
 use simplex::{Cuts, LpEnd, Turns};
 use std::alloc::{AllocError, Global};
-use std::sync::ledger::Ledger;
+use std::marker::Brand;
+use std::sync::ledger::{Blank, Ledger};
 
 /// What a search claims, and how many turns its runs have done.
 #[derive(Drop)]
@@ -59,7 +60,6 @@ impl<L: Ledger> SearchState<L> {
         limits: Limits,
         depth: usize,
         watch: &mut W,
-        steps: &mut Steps<L>,
     ) -> Result<(), Ended>
         requires state { IsUnderWay instance.now limits self.old }
         requires at { self.old.walk.next ≡ Some depth }
@@ -67,7 +67,6 @@ impl<L: Ledger> SearchState<L> {
         ensures state { IfOk result (λ _. IsUnderWay instance.now limits self.new) }
         ensures further { IfOk result (λ _. GoesFurther limits self.old.level self.new.level self.old.walk self.new.walk) }
         ensures moments { Changes instance.now limits (W.came watch.old watch.new) self.old self.new result }
-        ensures counted { steps.old ≤ steps.new }
     {
         if self.level.before + self.walk.nodes.len() >= limits.nodes as usize {
             return Err(give_up(&mut self.walk, Cause::NodeLimit(limits.nodes)));
@@ -82,7 +81,6 @@ impl<L: Ledger> SearchState<L> {
             self.walk.cuts.as_slice(),
             zero_goal,
             watch,
-            steps,
         );
         if is_stop(end) {
             return Err(give_up(&mut self.walk, Cause::Killed));
@@ -96,7 +94,6 @@ impl<L: Ledger> SearchState<L> {
             end,
             &mut self.walk,
             depth,
-            steps,
         )
     }
 
@@ -107,7 +104,6 @@ impl<L: Ledger> SearchState<L> {
         instance: &Instance,
         limits: Limits,
         watch: &mut W,
-        steps: &mut Steps<L>,
     ) -> Result<(), Ended>
         requires state { IsUnderWay instance.now limits self.old }
         requires stops { W.stops watch.old < 2 ^ 64 - 1 }
@@ -115,10 +111,9 @@ impl<L: Ledger> SearchState<L> {
         ensures closed { IfOk result (λ _. self.new.walk.next ≡ None) }
         ensures goal { IfOk result (λ _. self.new.level.goal ≡ self.old.level.goal) }
         ensures moments { Changes instance.now limits (W.came watch.old watch.new) self.old self.new result }
-        ensures counted { steps.old ≤ steps.new }
     {
         while let Some(depth) = self.walk.next {
-            match self.step(alloc, instance, limits, depth, watch, steps) {
+            match self.step(alloc, instance, limits, depth, watch) {
                 Ok(()) => {}
                 Err(ended) => return Err(ended),
             }
@@ -134,7 +129,6 @@ impl<L: Ledger> SearchState<L> {
         limits: Limits,
         value: Frac,
         watch: &mut W,
-        steps: &mut Steps<L>,
     ) -> Result<(), Ended>
         requires state { IsUnderWay instance.now limits self.old }
         requires later { self.old.level.goal + 1 < length instance.now.goals }
@@ -145,10 +139,9 @@ impl<L: Ledger> SearchState<L> {
         ensures closed { IfOk result (λ _. self.new.walk.next ≡ None) }
         ensures goal { IfOk result (λ _. self.new.level.goal ≡ self.old.level.goal + 1) }
         ensures moments { Changes instance.now limits (W.came watch.old watch.new) self.old self.new result }
-        ensures counted { steps.old ≤ steps.new }
     {
         match self.next_goal(alloc, instance, limits, value, watch) {
-            Ok(()) => self.search_level(alloc, instance, limits, watch, steps),
+            Ok(()) => self.search_level(alloc, instance, limits, watch),
             Err(ended) => Err(ended),
         }
     }
@@ -160,7 +153,6 @@ impl<L: Ledger> SearchState<L> {
         instance: &Instance,
         limits: Limits,
         watch: &mut W,
-        steps: &mut Steps<L>,
     ) -> Result<(), Ended>
         requires state { IsUnderWay instance.now limits self.old }
         requires closed { self.old.walk.next ≡ None }
@@ -168,10 +160,9 @@ impl<L: Ledger> SearchState<L> {
         ensures closed { IfOk result (λ _. self.new.walk.next ≡ None) }
         ensures last { IfOk result (λ _. self.new.walk.best ≡ None ⊎ length instance.now.goals < self.new.level.goal + 2) }
         ensures moments { Changes instance.now limits (W.came watch.old watch.new) self.old self.new result }
-        ensures counted { steps.old ≤ steps.new }
     {
         while let Some(value) = value_to_reach(instance, &self.level, &self.walk.best) {
-            match self.search_next(alloc, instance, limits, value, watch, steps) {
+            match self.search_next(alloc, instance, limits, value, watch) {
                 Ok(()) => {}
                 Err(ended) => return Err(ended),
             }
@@ -186,17 +177,15 @@ impl<L: Ledger> SearchState<L> {
         instance: &Instance,
         limits: Limits,
         watch: &mut W,
-        steps: &mut Steps<L>,
     ) -> Result<(), Ended>
         requires state { IsUnderWay instance.now limits self.old }
         requires stops { W.stops watch.old < 2 ^ 64 - 1 }
         ensures closed { IfOk result (λ _. self.new.walk.next ≡ None) }
         ensures last { IfOk result (λ _. self.new.walk.best ≡ None ⊎ length instance.now.goals < self.new.level.goal + 2) }
         ensures moments { Changes instance.now limits (W.came watch.old watch.new) self.old self.new result }
-        ensures counted { steps.old ≤ steps.new }
     {
-        match self.search_level(alloc, instance, limits, watch, steps) {
-            Ok(()) => self.search_later(alloc, instance, limits, watch, steps),
+        match self.search_level(alloc, instance, limits, watch) {
+            Ok(()) => self.search_later(alloc, instance, limits, watch),
             Err(ended) => Err(ended),
         }
     }
@@ -209,14 +198,12 @@ fn explore<W: Watch, L: Ledger>(
     limits: Limits,
     mut state: SearchState<L>,
     watch: &mut W,
-    steps: &mut Steps<L>,
 ) -> Searched
     requires begun { IsBegun instance.now limits state }
     requires stops { W.stops watch.old < 2 ^ 64 - 1 }
-    ensures answer { (n : ℕ) × (o : Outcome) × ClaimTells result.claim o × W.came watch.old watch.new (answers n (is_killed o)) × ((stop : Option ℕ) → AgreesWith stop 0 n (is_killed o) → IsSearchAnswer (problem instance.now) (terms limits stop) o (record { turns = result.turns; looks = looks_after 0 n (is_killed o) })) }
-    ensures counted { steps.old ≤ steps.new }
+    ensures { (n : ℕ) × (o : Outcome) × ClaimTells result.claim o × W.came watch.old watch.new (answers n (is_killed o)) × ((stop : Option ℕ) → AgreesWith stop 0 n (is_killed o) → IsSearchAnswer (problem instance.now) (terms limits stop) o (record { turns = result.turns; looks = looks_after 0 n (is_killed o) })) }
 {
-    match state.search_levels(alloc, instance, limits, watch, steps) {
+    match state.search_levels(alloc, instance, limits, watch) {
         Ok(()) => {
             let SearchState {
                 relaxation,
@@ -247,6 +234,7 @@ fn relax<L: Ledger>(
     alloc: Global,
     instance: &Instance,
     turns: u32,
+    steps: Steps<L>,
 ) -> Result<Relaxation<L>, AllocError>
     ensures size { IfOk result (λ r. HasSize instance.now r) }
     ensures ends { IfOk result (λ r. r.ends.rows ≡ []) }
@@ -269,6 +257,7 @@ fn relax<L: Ledger>(
         turns,
         rows,
         slots,
+        steps,
     })
 }
 
@@ -304,6 +293,7 @@ fn begin<L: Ledger>(
     alloc: Global,
     instance: &Instance,
     limits: Limits,
+    steps: Steps<L>,
 ) -> Result<SearchState<L>, AllocError>
     ensures { IfOk result (λ s. IsBegun instance.now limits s) }
 {
@@ -314,41 +304,28 @@ fn begin<L: Ledger>(
         before: 0,
     };
     Ok(SearchState {
-        relaxation: relax(alloc, instance, limits.turns)?,
+        relaxation: relax(alloc, instance, limits.turns, steps)?,
         level,
         walk: first_walk(alloc, instance)?,
     })
 }
 
-/// Searches an instance for a point that is best by its goals in their order, within at most `nodes` cases, and `turns` turns in
-/// all runs; of an instance with one goal at most `rounds` rounding cuts are derived before the first branch. The watch is asked
-/// once before each run of a case, be it the first or one with a cut more, and after each 64th turn; `steps` counts each entry of the
-/// runs' dictionaries that is read or written.
-///
-/// Where an instance has one goal, no variable is whole or may be 0 besides, and the variables' first values keep each row between its
-/// ends, a limit of as many turns as there are ways for each column to be basic or to have one of three places is never what
-/// the search is given up for (Bland, 1977).
-pub fn search<W: Watch, L: Ledger>(
+/// Searches an instance's levels, with a count of steps on this ledger.
+fn search_on<W: Watch, L: Ledger>(
     alloc: Global,
     instance: &Instance,
-    nodes: u32,
-    turns: u32,
-    rounds: u32,
+    limits: Limits,
     watch: &mut W,
-    steps: &mut Steps<L>,
+    blank: Blank,
 ) -> Searched
-    requires { W.stops watch.old < 2 ^ 64 - 1 }
-    ensures answer { (n : ℕ) × (o : Outcome) × ClaimTells result.claim o × W.came watch.old watch.new (answers n (is_killed o)) × ((stop : Option ℕ) → AgreesWith stop 0 n (is_killed o) → IsSearchAnswer (problem instance.now) (record { nodes = nodes; turns = turns; rounds = rounds; stop = stop }) o (record { turns = result.turns; looks = looks_after 0 n (is_killed o) })) }
-    ensures enough { length instance.now.goals ≡ 1 → IsPlain (program instance.now) → HaveOneRange (program instance.now) → BeginsFeasible (program instance.now) → 4 ^ (length instance.now.vars + length instance.now.rows) ≤ turns → (n : ℕ) → claimed_cause result.claim ≡ Some (causes.TurnLimit n) → ⊥ }
-    ensures counted { steps.old ≤ steps.new }
+    requires name { blank.name ≡ L.name }
+    requires parts { blank.parts ≡ L.parts }
+    requires some { 0 < blank.parts }
+    requires stops { W.stops watch.old < 2 ^ 64 - 1 }
+    ensures { (n : ℕ) × (o : Outcome) × ClaimTells result.claim o × W.came watch.old watch.new (answers n (is_killed o)) × ((stop : Option ℕ) → AgreesWith stop 0 n (is_killed o) → IsSearchAnswer (problem instance.now) (terms limits stop) o (record { turns = result.turns; looks = looks_after 0 n (is_killed o) })) }
 {
-    let limits = Limits {
-        nodes,
-        turns,
-        rounds,
-    };
-    match begin(alloc, instance, limits) {
-        Ok(state) => explore(alloc, instance, limits, state, watch, steps),
+    match begin(alloc, instance, limits, Steps::<L>::new(blank)) {
+        Ok(state) => explore(alloc, instance, limits, state, watch),
         Err(_) => {
             let cause = Cause::Memory;
             Searched {
@@ -357,4 +334,31 @@ pub fn search<W: Watch, L: Ledger>(
             }
         }
     }
+}
+
+/// Searches an instance for a point that is best by its goals in their order, within at most `nodes` cases, and `turns` turns in
+/// all runs; of an instance with one goal at most `rounds` rounding cuts are derived before the first branch. The watch is asked
+/// once before each run of a case, be it the first or one with a cut more, and after each 64th turn.
+///
+/// Where an instance has one goal, no variable is whole or may be 0 besides, and the variables' first values keep each row between its
+/// ends, a limit of as many turns as there are ways for each column to be basic or to have one of three places is never what
+/// the search is given up for (Bland, 1977).
+pub fn search<W: Watch>(
+    alloc: Global,
+    instance: &Instance,
+    nodes: u32,
+    turns: u32,
+    rounds: u32,
+    watch: &mut W,
+) -> Searched
+    requires { W.stops watch.old < 2 ^ 64 - 1 }
+    ensures answer { (n : ℕ) × (o : Outcome) × ClaimTells result.claim o × W.came watch.old watch.new (answers n (is_killed o)) × ((stop : Option ℕ) → AgreesWith stop 0 n (is_killed o) → IsSearchAnswer (problem instance.now) (record { nodes = nodes; turns = turns; rounds = rounds; stop = stop }) o (record { turns = result.turns; looks = looks_after 0 n (is_killed o) })) }
+    ensures enough { length instance.now.goals ≡ 1 → IsPlain (program instance.now) → HaveOneRange (program instance.now) → BeginsFeasible (program instance.now) → 4 ^ (length instance.now.vars + length instance.now.rows) ≤ turns → (n : ℕ) → claimed_cause result.claim ≡ Some (causes.TurnLimit n) → ⊥ }
+{
+    let limits = Limits {
+        nodes,
+        turns,
+        rounds,
+    };
+    search_on::<W, Brand>(alloc, instance, limits, watch, Blank::new(1))
 }

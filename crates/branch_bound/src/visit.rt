@@ -32,7 +32,6 @@ use crate::values::is_no_better;
 use crate::walk::{RayAt, Walk};
 use case_tree::Division;
 use certificate::{Cause, Mults, Node, Step};
-use dictionary::Steps;
 use fraction::Frac;
 use instance::Instance;
 use simplex::LpEnd;
@@ -49,7 +48,6 @@ fn at_best<L: Ledger>(
     bound: Frac,
     walk: &mut Walk,
     depth: usize,
-    steps: &mut Steps<L>,
 ) -> Result<(), Ended>
     requires ready { IsWalkReady instance.now limits relaxation.old level.old walk.old depth }
     requires ran { walk.old.ray ≡ None → (D : Of.Instance) → IsGiven instance.now relaxation.old.ends D → RanTo (cut D walk.old.cuts.items) (Best (ratio bound) (point_of relaxation.old.work) (mults_of relaxation.old.work)) relaxation.old.work }
@@ -61,7 +59,6 @@ fn at_best<L: Ledger>(
     ensures ok { IfOk result (λ _. (L D : Of.Instance) (t : Terms) (before c : Clock) → IsAtLevel instance.now relaxation.old level.old L D → t.rounds ≡ limits.rounds → (walk.old.ray ≡ None → EndsAtBasis (cut D walk.old.cuts.items) false t before (Best (ratio bound) (point_of relaxation.old.work) (mults_of relaxation.old.work)) c (statuses_in relaxation.old.work)) → (E : Of.Instance) × IsAtLevel instance.now relaxation.new level.new L E × GoesAt instance.now L D level.old walk.old depth t before c (Best (ratio bound) (point_of relaxation.old.work) (mults_of relaxation.old.work)) (To (moment instance.now L E level.new walk.new c))) }
     ensures err { IfErr result (λ ended. OrMemory walk.old ended ((L D : Of.Instance) (t : Terms) (before : Clock) (looks : ℕ) → let c = clock_at relaxation.old looks in IsAtLevel instance.now relaxation.old level.old L D → t.rounds ≡ limits.rounds → t.turns ≡ limits.turns → (walk.old.ray ≡ None → EndsAtBasis (cut D walk.old.cuts.items) false t before (Best (ratio bound) (point_of relaxation.old.work) (mults_of relaxation.old.work)) c (statuses_in relaxation.old.work)) → GoesAt instance.now L D level.old walk.old depth t before c (Best (ratio bound) (point_of relaxation.old.work) (mults_of relaxation.old.work)) (Out (outcome_of (Means.certificates level.old.certs) ended) c))) }
     ensures went_on { IfErr result (λ ended. was_killed ended ≡ false) }
-    ensures counted { steps.old ≤ steps.new }
 {
     let columns = columns_of(instance, relaxation);
     let mults = match read_mults(alloc, &relaxation.work, columns) {
@@ -77,9 +74,7 @@ fn at_best<L: Ledger>(
     if !may_cut(instance, limits, level, walk) {
         return meet(alloc, instance, relaxation, mults, walk, depth);
     }
-    improve(
-        alloc, instance, relaxation, level, mults, walk, depth, steps,
-    )
+    improve(alloc, instance, relaxation, level, mults, walk, depth)
 }
 
 /// Keeps the ray of the run's direction, and goes on from its point: any one will do.
@@ -185,7 +180,6 @@ pub fn visit<L: Ledger>(
     end: LpEnd,
     walk: &mut Walk,
     depth: usize,
-    steps: &mut Steps<L>,
 ) -> Result<(), Ended>
     requires ready { IsWalkReady instance.now limits relaxation.old level.old walk.old depth }
     requires went_on { was_stopped end ≡ false }
@@ -198,13 +192,12 @@ pub fn visit<L: Ledger>(
     ensures ok { IfOk result (λ _. (L D : Of.Instance) (t : Terms) (before c : Clock) → IsAtLevel instance.now relaxation.old level.old L D → t.rounds ≡ limits.rounds → (was_best end ≡ true → walk.old.ray ≡ None → EndsAtBasis (cut D walk.old.cuts.items) false t before (ended_with end relaxation.old.work) c (statuses_in relaxation.old.work)) → (end ≡ endings.Endless → walk.old.ray ≡ None) → (E : Of.Instance) × IsAtLevel instance.now relaxation.new level.new L E × GoesAt instance.now L D level.old walk.old depth t before c (ended_with end relaxation.old.work) (To (moment instance.now L E level.new walk.new c))) }
     ensures err { IfErr result (λ ended. OrMemory walk.old ended ((L D : Of.Instance) (t : Terms) (before : Clock) (looks : ℕ) → let c = clock_at relaxation.old looks in IsAtLevel instance.now relaxation.old level.old L D → t.rounds ≡ limits.rounds → t.turns ≡ limits.turns → (was_best end ≡ true → walk.old.ray ≡ None → EndsAtBasis (cut D walk.old.cuts.items) false t before (ended_with end relaxation.old.work) c (statuses_in relaxation.old.work)) → (end ≡ endings.Endless → walk.old.ray ≡ None) → GoesAt instance.now L D level.old walk.old depth t before c (ended_with end relaxation.old.work) (Out (outcome_of (Means.certificates level.old.certs) ended) c))) }
     ensures went_on { IfErr result (λ ended. was_killed ended ≡ false) }
-    ensures counted { steps.old ≤ steps.new }
 {
     match end {
         LpEnd::Clash { col } => leaf(walk, depth, Node::Clash { col }),
         LpEnd::Empty => at_empty(alloc, instance, relaxation, walk, depth),
         LpEnd::Best { bound } => at_best(
-            alloc, instance, limits, relaxation, level, bound, walk, depth, steps,
+            alloc, instance, limits, relaxation, level, bound, walk, depth,
         ),
         LpEnd::Endless => at_endless(alloc, instance, relaxation, walk, depth),
         LpEnd::TurnLimit => Err(give_up(walk, Cause::TurnLimit(limits.turns))),

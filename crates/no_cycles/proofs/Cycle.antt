@@ -83,7 +83,7 @@ pub record Outcome (I : Instance) (ss : List Status) (x : Taken) (ts : List Stat
   pub move : IsMove I v w (rate x.way (x.u (goal_column I) x.entering)) q
   pub still : q.num ≡ pos 0 → IsStill I ss x ts
 
-left_nonbasic : (w : Way) (r : Range) → is_basic (reached_status w r) ≡ false
+pub left_nonbasic : (w : Way) (r : Range) → is_basic (reached_status w r) ≡ false
 left_nonbasic Rise r = by_bool (has_width r) (λ b. rw b refl) (λ b. rw b refl)
 left_nonbasic Fall r = refl
 

@@ -13,3 +13,10 @@ pub mod SecondPhase
 pub mod FirstBasis
 pub mod OneCaseSearches
 pub mod SafeLimits
+pub mod Doubts
+pub mod RunEnds
+pub mod Floors
+pub mod Sizes
+pub mod CutMultipliers
+pub mod CutTrials
+pub mod SearchEnds

@@ -5,3 +5,4 @@ pub mod Phase
 pub mod Beginning
 pub mod Searches
 pub mod Limit
+pub mod Ends

@@ -1,15 +1,16 @@
 //! What is known of runs and of searches.
 ghost use Rattle.std.specs.Prelude.{◌≡◌, ℕ, ◌+◌, ◌^◌, ◌<◌, ◌≤◌, Bool, false, Some};
-ghost use Rattle.evidence.specs.Instance.{Instance, IsInstance, alone, width, height};
+ghost use Rattle.evidence.specs.Instance.{Instance, IsInstance, Problem, IsProblem, alone, width, height};
 ghost use Rattle.bases.specs.Program.{goal_column};
 ghost use Rattle.simplex_rules.specs.Ends.{Terms, Clock, End, TurnsOut};
 ghost use Rattle.simplex_rules.specs.Runs.{Moment, To, IsNext, HasNoClash, ComesInRun, Run, IsRun};
-ghost use Rattle.search_rules.specs.Search.{Outcome, IsSearchAnswer};
+ghost use Rattle.search_rules.specs.Search.{Outcome, Search, IsSearchAnswer};
 ghost use Rattle.search_rules.specs.Outcomes.{HaveOneRange, IsPlain};
 ghost use Rattle.no_cycles.specs.Phase.{IsImprovingTurn, AreTurns, HaveSamePlaces, IsSettled, BeginsSettled, HasNoneTwice, came_through};
 ghost use Rattle.no_cycles.specs.Beginning.{BeginsFeasible};
 ghost use Rattle.no_cycles.specs.Searches.{is_out_of_turns};
 ghost use Rattle.no_cycles.specs.Limit.{safe_limit};
+ghost use Rattle.no_cycles.specs.Ends.{HasEndsWithin};
 
 /// Law: in the second phase no basis comes twice with the same places: not in turns of it one after the other, and not among
 /// all the bases that a run came through (Bland, 1977).
@@ -50,4 +51,15 @@ pub fn plain_searches_stay_within_turns()
 /// Law: nor is such a search where the limit is at least the safe one of its program.
 pub fn safe_limits_are_enough()
     ensures { (I : Instance) (t : Terms) (o : Outcome) (c : Clock) (l : ℕ) → IsInstance I → IsPlain I → HaveOneRange I → BeginsFeasible I → safe_limit (width I) (height I) ≡ Some l → l ≤ t.turns → IsSearchAnswer (alone I) t o c → is_out_of_turns o ≡ false }
+{}
+
+/// Law: a run within a limit of turns has an end: it can't be that it has none. A number that doesn't fit ends it too.
+pub fn runs_have_an_end()
+    ensures { (I : Instance) (zeroed : Bool) (t : Terms) (c : Clock) → IsInstance I → ((e : End) (d : Clock) → Run I zeroed t c e d → ⊥) → ⊥ }
+{}
+
+/// Law: a search has an outcome: it can't be that it has none. Within its limits of nodes, of turns and of cuts each case of each level
+/// is closed or divided, or searched anew with a cut, or ends it, where the ends of the variables are no greater than numbers may be.
+pub fn searches_have_an_outcome()
+    ensures { (P : Problem) (t : Terms) → IsProblem P → HasEndsWithin P.program → ((o : Outcome) (c : Clock) → Search P t o c → ⊥) → ⊥ }
 {}

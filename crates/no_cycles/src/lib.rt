@@ -7,6 +7,9 @@
 //! that many turns neither a run nor a search without whole variables ends at the limit. [`safe_limit`] is that limit, where
 //! it is small enough to be waited for. Of the first phase nothing is said.
 //!
+//! Within whatever limits, a run has an end and a search an outcome: each basis that a run comes to has a dictionary and values, and
+//! each moment a next one, or it is the last.
+//!
 //! `specs/Phase.antt` says what the second phase is, `specs/Beginning.antt` where it begins at once, and `specs/Searches.antt` which
 //! outcomes are of the limit. The functions of `laws` have an empty body: their contracts are the statements, over the
 //! runs and searches of `simplex_rules` and `search_rules`, whatever code makes them.
@@ -17,6 +20,7 @@ mod limit;
 
 pub use laws::{
     feasible_beginnings_are_settled, limit_never_comes, no_basis_twice,
-    plain_searches_stay_within_turns, safe_limits_are_enough, second_phase_stays, turns_are_few,
+    plain_searches_stay_within_turns, runs_have_an_end, safe_limits_are_enough,
+    searches_have_an_outcome, second_phase_stays, turns_are_few,
 };
 pub use limit::safe_limit;

@@ -16,7 +16,7 @@ use Rattle.simplex.specs.Tables.{values_in}
 use Rattle.simplex.specs.Answers.{listed, ended}
 use Rattle.simplex.specs.declared.finish.Finish.{Finish}
 use Rattle.simplex.specs.declared.finish.Finish.TheVariants as Finishes
-use Rattle.simplex.specs.Finishes.{is_best, KeepsBasis, ComesTo}
+use Rattle.simplex.specs.Finishes.{is_best, KeepsBasis, KeepsAt, ComesTo}
 
 -- what holds anyway is kept, and what a turn ends early at is no end that is read off the basis
 pub keeps : (f : Finish) (P : Type 0) → P → KeepsBasis f P
@@ -26,6 +26,10 @@ keeps (Finishes.Endless m) P p = p
 keeps Finishes.TurnLimit P p = tt
 keeps (Finishes.Wide s) P p = tt
 keeps Finishes.Stopped P p = tt
+
+pub keeps_at : (r : Option Finish) (P : Type 0) → P → KeepsAt r P
+keeps_at None P p = p
+keeps_at (Some f) P p = keeps f P p
 
 early_kept : (f : Finish) (P : Type 0) → KeepsBasis f ⊥ → KeepsBasis f P
 early_kept (Finishes.Empty m) P e = absurd e

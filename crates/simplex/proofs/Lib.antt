@@ -16,3 +16,4 @@ pub mod Starts
 pub mod CutPrograms
 pub mod AddedRows
 pub mod Finishes
+pub mod Changes

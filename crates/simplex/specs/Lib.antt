@@ -10,6 +10,7 @@ pub mod Cuts
 pub mod Tables
 pub mod Answers
 pub mod Memory
+pub mod States
 pub mod Finishes
 pub mod Choices
 pub mod Values

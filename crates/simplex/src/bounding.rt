@@ -43,8 +43,7 @@ fn cost_of<L: Ledger>(
     requires basic { basic_of dict.now goal ≡ true }
     requires col { col < goal }
     requires status { is_basic status ≡ basic_of dict.now col }
-    ensures entry { ratio result ≡ cond (is_basic status) none (entry_of dict.now goal col) }
-    ensures counted { steps.old ≤ steps.new }
+    ensures { ratio result ≡ cond (is_basic status) none (entry_of dict.now goal col) }
 {
     match status {
         Status::Basic => zero(),
@@ -71,7 +70,6 @@ pub fn bound<L: Ledger>(
     ensures ok { (a x : Values) → AreTerms (cost_in statuses.now (entry_of dict.now goal)) (place_values rest.now) goal a x → IfOk result (λ b. IsSame (ratio b) (total (ratio start) goal (λ c. product (a c) (x c)))) }
     ensures fits { (a x : Values) → AreTerms (cost_in statuses.now (entry_of dict.now goal)) (place_values rest.now) goal a x → IfOk result (λ _. StatedFits (ratio start) goal a x) }
     ensures wide { (a x : Values) → AreTerms (cost_in statuses.now (entry_of dict.now goal)) (place_values rest.now) goal a x → OnErr result (StatedFits (ratio start) goal a x → ⊥) }
-    ensures counted { steps.old ≤ steps.new }
 {
     let mut sum = start;
     for c in 0..goal {
@@ -99,7 +97,6 @@ pub fn best<L: Ledger>(
     ensures on { is_stop result ≡ false }
     ensures ready { IsFinishReady statuses.now result }
     ensures next { (I : Instance) (zeroed : Bool) (w : Values) (t : Terms) (c : Clock) → AreEndsOf I ends.now → HasSizeOf I dict.now → AreEntries (columns_of dict.now) (basic_of dict.now) (entry_of dict.now) → IsStart zeroed (minimising I I.goal.constant) start → NoneHelps I statuses.now (entry_of dict.now) w (goal_column I) Way.Fall → ChoiceLeadsTo I statuses.now (entry_of dict.now) w t c (Improves I zeroed t (record { statuses = statuses.now; clock = c }) (entry_of dict.now) w) (Done result) }
-    ensures counted { steps.old ≤ steps.new }
 {
     let _ends = ends;
     match start {

@@ -108,7 +108,6 @@ fn repair<L: Ledger>(
     requires basic { basic_in statuses.now out.col ≡ true }
     ensures allowed { IsChoiceAllowed statuses.now (entry_of dict.now) result }
     ensures next { (I : Instance) (w : Values) (zeroed : Bool) (t : Terms) (c : Clock) → AreEndsOf I ends.now → HasSizeOf I dict.now → ChoiceLeadsTo I statuses.now (entry_of dict.now) w t c (Repairs I zeroed t (record { statuses = statuses.now; clock = c }) (entry_of dict.now) w out.col out.way) result }
-    ensures counted { steps.old ≤ steps.new }
 {
     match first_help(dict, ends, statuses, out.col, out.way, goal, steps) {
         None => Choice::Done(Finish::Empty(out)),
@@ -142,7 +141,6 @@ fn leave<L: Ledger>(
     ensures nonbasic { result.nonbasic ≡ moving.col }
     ensures free { is_basic result.status ≡ false }
     ensures status { (I : Instance) → AreEndsOf I ends.now → result.status ≡ left_status I (entry_of dict.now) basic moving.col moving.way }
-    ensures counted { steps.old ≤ steps.new }
 {
     let entry = entry_at(dict, basic, moving.col, goal, steps);
     let way = way_of(rate(moving.way, entry));
@@ -172,7 +170,6 @@ fn move_on<L: Ledger>(
     requires nonbasic { basic_in statuses.now moving.col ≡ false }
     ensures allowed { IsChoiceAllowed statuses.now (entry_of dict.now) result }
     ensures next { (I : Instance) (zeroed : Bool) (t : Terms) (c : Clock) → AreEndsOf I ends.now → HasSizeOf I dict.now → ChoiceLeadsTo I statuses.now (entry_of dict.now) (values_in values.now) t c (MovesColumn I zeroed t (record { statuses = statuses.now; clock = c }) (entry_of dict.now) (values_in values.now) moving.col moving.way) result }
-    ensures counted { steps.old ≤ steps.new }
 {
     match first_limit(dict, ends, statuses, values, moving, goal, steps) {
         Err(_) => Choice::Done(Finish::Wide(Step::Ratio)),
@@ -208,7 +205,6 @@ fn improve<L: Ledger>(
     requires goal { goal ≡ length statuses.now }
     ensures allowed { IsChoiceAllowed statuses.now (entry_of dict.now) result }
     ensures next { (I : Instance) (zeroed : Bool) (t : Terms) (c : Clock) → AreEndsOf I ends.now → HasSizeOf I dict.now → AreEntries (columns_of dict.now) (basic_of dict.now) (entry_of dict.now) → IsStart zeroed (minimising I I.goal.constant) start → ChoiceLeadsTo I statuses.now (entry_of dict.now) (values_in values.now) t c (Improves I zeroed t (record { statuses = statuses.now; clock = c }) (entry_of dict.now) (values_in values.now)) result }
-    ensures counted { steps.old ≤ steps.new }
 {
     match first_help(dict, ends, statuses, goal, Way::Fall, goal, steps) {
         None => Choice::Done(best(dict, ends, statuses, rest, start, goal, steps)),
@@ -240,7 +236,6 @@ pub fn choose<L: Ledger>(
     ensures size { size_of unknown.new ≡ size_of unknown.old }
     ensures allowed { IsChoiceAllowed statuses.now (entry_of dict.now) result }
     ensures next { (I : Instance) (zeroed : Bool) (t : Terms) (c : Clock) → AreEndsOf I ends.now → HasSizeOf I dict.now → Holds (rows_with_goal zeroed I) dict.now → IsStart zeroed (minimising I I.goal.constant) start → ChoiceLeadsTo I statuses.now (entry_of dict.now) (values_in values.new) t c (IsNext I zeroed t (record { statuses = statuses.now; clock = c })) result }
-    ensures counted { steps.old ≤ steps.new }
 {
     match find_values(dict, ends, statuses, rest, values, unknown, goal, steps) {
         Err(_) => Choice::Done(Finish::Wide(Step::Values)),

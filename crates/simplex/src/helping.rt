@@ -31,8 +31,7 @@ pub fn entry_at<L: Ledger>(
     requires basic { basic_of dict.now row ≡ true }
     requires col { col < goal }
     requires nonbasic { basic_of dict.now col ≡ false }
-    ensures entry { ratio result ≡ entry_of dict.now row col }
-    ensures counted { steps.old ≤ steps.new }
+    ensures { ratio result ≡ entry_of dict.now row col }
 {
     if row < goal {
         dict.entry(row, col, steps)
@@ -56,8 +55,7 @@ fn help_at<L: Ledger>(
     requires basic { basic_of dict.now row ≡ true }
     requires nonbasic { IsNonbasic dict.now col }
     requires status { is_basic status ≡ basic_of dict.now col }
-    ensures help { MatchOption result ((v : Way) → Can v (range_of ends.now) status → MovesIn wanted (rate v (entry_of dict.now row col)) → ⊥) (λ v. (is_basic status ≡ false) × Can v (range_of ends.now) status × MovesIn wanted (rate v (entry_of dict.now row col))) }
-    ensures counted { steps.old ≤ steps.new }
+    ensures { MatchOption result ((v : Way) → Can v (range_of ends.now) status → MovesIn wanted (rate v (entry_of dict.now row col)) → ⊥) (λ v. (is_basic status ≡ false) × Can v (range_of ends.now) status × MovesIn wanted (rate v (entry_of dict.now row col))) }
 {
     help(*ends, status, wanted, dict.entry_sign(row, col, steps))
 }
@@ -78,8 +76,7 @@ pub fn first_help<L: Ledger>(
     requires goal { goal ≡ length statuses.now }
     requires row { row ≤ goal }
     requires basic { basic_in statuses.now row ≡ true }
-    ensures help { (I : Instance) (w : Values) → AreEndsOf I ends.now → MatchOption result (NoneHelps I statuses.now (entry_of dict.now) w row wanted) (λ m. IsFirstHelp I statuses.now (entry_of dict.now) w row wanted m.col m.way) }
-    ensures counted { steps.old ≤ steps.new }
+    ensures { (I : Instance) (w : Values) → AreEndsOf I ends.now → MatchOption result (NoneHelps I statuses.now (entry_of dict.now) w row wanted) (λ m. IsFirstHelp I statuses.now (entry_of dict.now) w row wanted m.col m.way) }
 {
     let _goal = goal;
     let mut from = 0;

@@ -14,20 +14,14 @@ ghost use Rattle.simplex.specs.Values.{AreResting, AreKnown, IsForgotten};
 use crate::choosing::{Flip, Swap};
 use crate::ends::Ends;
 use crate::valued::rest_value;
-use dictionary::{Dict, Places, Steps};
+use dictionary::{Dict, Places};
 use instance::zero;
 use marks::{Marks, Walk};
 use simplex_rules::Status;
 use std::sync::ledger::Ledger;
 
 /// Forgets the value of a basic column, where it moves with that of another one, which isn't basic.
-fn forget_at<L: Ledger>(
-    dict: &Dict<L>,
-    unknown: &mut Marks,
-    col: u32,
-    moving: u32,
-    steps: &mut Steps<L>,
-)
+fn forget_at<L: Ledger>(dict: &Dict<L>, unknown: &mut Marks, col: u32, moving: u32)
     requires loaded { IsLoaded dict.now }
     requires col { IsBasic dict.now col }
     requires moving { IsNonbasic dict.now moving }
@@ -36,9 +30,7 @@ fn forget_at<L: Ledger>(
     ensures less { is_marked unknown.new col ≡ false → is_marked unknown.old col ≡ false }
     ensures others { (c : ℕ) → c ≢ col → is_marked unknown.new c ≡ is_marked unknown.old c }
     ensures size { size_of unknown.new ≡ size_of unknown.old }
-    ensures counted { steps.old ≤ steps.new }
 {
-    let _steps = steps;
     if dict.has_entry(col, moving) {
         unknown.mark(col);
     }
@@ -51,7 +43,6 @@ fn forget<L: Ledger>(
     unknown: &mut Marks,
     moving: u32,
     goal: u32,
-    steps: &mut Steps<L>,
 )
     requires loaded { IsLoaded dict.now }
     requires statuses { AreStatuses dict.now statuses.now }
@@ -61,7 +52,6 @@ fn forget<L: Ledger>(
     requires nonbasic { basic_in statuses.now moving ≡ false }
     ensures forgotten { IsForgotten (entry_of dict.now) statuses.now moving unknown.old unknown.new }
     ensures size { size_of unknown.new ≡ size_of unknown.old }
-    ensures counted { steps.old ≤ steps.new }
 {
     let _statuses = statuses;
     let _goal = goal;
@@ -69,7 +59,7 @@ fn forget<L: Ledger>(
     let mut walk = Walk::new();
     let mut from = 0;
     while let Some(c) = basic.next_by(&mut walk, from) {
-        forget_at(dict, unknown, c, moving, steps);
+        forget_at(dict, unknown, c, moving);
         from = c + 1;
     }
     unknown.mark(moving);
@@ -97,7 +87,6 @@ pub fn expect_swap<L: Ledger>(
     unknown: &mut Marks,
     swap: Swap,
     goal: u32,
-    steps: &mut Steps<L>,
 )
     requires held { AreHeld dict.now statuses.now }
     requires ends { length ends.now ≡ length statuses.now }
@@ -110,9 +99,8 @@ pub fn expect_swap<L: Ledger>(
     ensures resting { (d : dictionaries.Dict L L.Ledger) (ss : List Columns.Status) → IsSwapped dict.now d statuses.now ss swap → AreResting (ranges_in ends.now) ss (place_values rest.new) }
     ensures known { (d : dictionaries.Dict L L.Ledger) (ss : List Columns.Status) (vs : List numbers.Frac) → IsSwapped dict.now d statuses.now ss swap → AreKnown dict.now rest.old statuses.now vs unknown.old → AreKnown d rest.new ss vs unknown.new }
     ensures size { size_of unknown.new ≡ size_of unknown.old }
-    ensures counted { steps.old ≤ steps.new }
 {
-    forget(dict, statuses, unknown, swap.nonbasic, goal, steps);
+    forget(dict, statuses, unknown, swap.nonbasic, goal);
     unknown.mark(swap.basic);
     let value = rest_value(&ends[swap.basic as usize], swap.status);
     rest.set(swap.basic, value);
@@ -128,7 +116,6 @@ pub fn expect_flip<L: Ledger>(
     unknown: &mut Marks,
     flip: Flip,
     goal: u32,
-    steps: &mut Steps<L>,
 )
     requires held { AreHeld dict.now statuses.now }
     requires ends { length ends.now ≡ length statuses.now }
@@ -141,9 +128,8 @@ pub fn expect_flip<L: Ledger>(
     ensures resting { AreResting (ranges_in ends.now) (slice_set statuses.now flip.col flip.status) (place_values rest.new) }
     ensures known { (vs : List numbers.Frac) → AreKnown dict.now rest.old statuses.now vs unknown.old → AreKnown dict.now rest.new (slice_set statuses.now flip.col flip.status) vs unknown.new }
     ensures size { size_of unknown.new ≡ size_of unknown.old }
-    ensures counted { steps.old ≤ steps.new }
 {
-    forget(dict, statuses, unknown, flip.col, goal, steps);
+    forget(dict, statuses, unknown, flip.col, goal);
     let value = rest_value(&ends[flip.col as usize], flip.status);
     rest.set(flip.col, value);
 }

@@ -13,6 +13,7 @@
 //! A moment of a run is a list of statuses, one for each column, beside the dictionary of the basis. A turn is chosen before
 //! anything changes (`choosing`), then made, counted and maybe looked at (`turning`). Each turn forms those values of columns anew
 //! that the last one changed, looks at the columns that are basic, a set of bits, and at one row, and pivots rows in place.
+//! [`Work`] is the state of a run: what holds of it between turns is one predicate, and what turns change one relation.
 //!
 //! A run that ends at a best point leaves its last basis: [`Work::entry_at`] and [`Work::side_at`] (a [`Side`]) read it.
 //!
@@ -33,8 +34,8 @@ mod keeping;
 mod laws;
 mod limits;
 mod loading;
+mod opening;
 mod reporting;
-mod running;
 mod turning;
 mod valued;
 mod work;

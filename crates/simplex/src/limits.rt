@@ -108,7 +108,6 @@ fn limit_at<L: Ledger>(
     ensures ok { IfOk result (IsLimit (limit_one (is_basic status) (nat_eq col moving.col) (range_of ends.now) (ratio value.now) (rate moving.way (entry_of dict.now col moving.col)))) }
     ensures fits { IfOk result (λ _. OneFits (is_basic status) (nat_eq col moving.col) (range_of ends.now) (ratio value.now) (rate moving.way (entry_of dict.now col moving.col))) }
     ensures wide { OnErr result (OneFits (is_basic status) (nat_eq col moving.col) (range_of ends.now) (ratio value.now) (rate moving.way (entry_of dict.now col moving.col)) → ⊥) }
-    ensures counted { steps.old ≤ steps.new }
 {
     if status == Status::Basic {
         if !dict.has_entry(col, moving.col) {
@@ -178,7 +177,6 @@ pub fn first_limit<L: Ledger>(
     ensures ok { (I : Instance) → AreEndsOf I ends.now → IfOk result (λ o. MatchOption o (NoLimit I statuses.now (entry_of dict.now) (values_in values.now) moving.col moving.way) (λ l. IsFirstLimit I statuses.now (entry_of dict.now) (values_in values.now) moving.col moving.way l.col)) }
     ensures fits { (I : Instance) → AreEndsOf I ends.now → IfOk result (λ _. LimitsFit I statuses.now (entry_of dict.now) (values_in values.now) moving.col moving.way) }
     ensures wide { (I : Instance) → AreEndsOf I ends.now → OnErr result (LimitsFit I statuses.now (entry_of dict.now) (values_in values.now) moving.col moving.way → ⊥) }
-    ensures counted { steps.old ≤ steps.new }
 {
     let mut best: Option<Limit> = None;
     let mut from = 0;

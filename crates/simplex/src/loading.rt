@@ -38,7 +38,6 @@ fn set_rows<L: Ledger>(
     requires added { (i : ℕ) → i < length added.now → IsAdded (width_of dict.old) (first + i) (added_at added.now i) }
     ensures size { HaveOneSize dict.old dict.new }
     ensures rows { (A : Entries) → IsJustLoaded A dict.old → (B : Entries) × IsJustLoaded B dict.new × AreRowsBeside A first added.now (length added.now) B }
-    ensures counted { steps.old ≤ steps.new }
 {
     for row in first..height {
         let k = row - first;
@@ -64,7 +63,6 @@ pub fn load<L: Ledger>(
     ensures basis { (c : ℕ) → c < columns_of dict.new → basic_of dict.new c ≡ is_fresh (width_of dict.new) c }
     ensures held { (B : Entries) × Holds B dict.new }
     ensures holds { (I : Of.Instance) → IsCutBy instance.now cuts.now I → Holds (rows_with_goal zero_goal I) dict.new }
-    ensures counted { steps.old ≤ steps.new }
 {
     let asked = goal_at(instance, cuts.goal());
     let vars = instance.vars().len() as u32;

@@ -58,8 +58,7 @@ fn factor_at<L: Ledger>(
     requires basic { basic_of dict.now row ≡ true }
     requires col { col < width_of dict.now + height_of dict.now }
     requires status { is_basic status ≡ basic_of dict.now col }
-    ensures factor { AreEntries (columns_of dict.now) (basic_of dict.now) (entry_of dict.now) → ratio result ≡ factor_at (entry_of dict.now) row wanted col }
-    ensures counted { steps.old ≤ steps.new }
+    ensures { AreEntries (columns_of dict.now) (basic_of dict.now) (entry_of dict.now) → ratio result ≡ factor_at (entry_of dict.now) row wanted col }
 {
     if col == row {
         return against(wanted, step_of(Way::Fall));
@@ -88,8 +87,7 @@ fn set_factors<L: Ledger>(
     requires row { row ≤ goal }
     requires basic { basic_in statuses.now row ≡ true }
     requires factors { length factors.old ≡ goal }
-    ensures factors { AreEntries (columns_of dict.now) (basic_of dict.now) (entry_of dict.now) → (c : ℕ) → c < goal → values_in factors.new c ≡ factor_at (entry_of dict.now) row wanted c }
-    ensures counted { steps.old ≤ steps.new }
+    ensures { AreEntries (columns_of dict.now) (basic_of dict.now) (entry_of dict.now) → (c : ℕ) → c < goal → values_in factors.new c ≡ factor_at (entry_of dict.now) row wanted c }
 {
     for c in 0..goal {
         factors[c as usize] = factor_at(dict, statuses[c as usize], row, wanted, c, steps);
@@ -111,8 +109,7 @@ fn movement_at<L: Ledger>(
     requires nonbasic { basic_of dict.now moving.col ≡ false }
     requires col { col < goal }
     requires status { is_basic status ≡ basic_of dict.now col }
-    ensures movement { ratio result ≡ cond (is_basic status) (rate moving.way (entry_of dict.now col moving.col)) (cond (nat_eq col moving.col) (step_of moving.way) none) }
-    ensures counted { steps.old ≤ steps.new }
+    ensures { ratio result ≡ cond (is_basic status) (rate moving.way (entry_of dict.now col moving.col)) (cond (nat_eq col moving.col) (step_of moving.way) none) }
 {
     if status == Status::Basic {
         let entry = entry_at(dict, col, moving.col, goal, steps);
@@ -139,8 +136,7 @@ fn set_movements<L: Ledger>(
     requires inside { moving.col < goal }
     requires nonbasic { basic_in statuses.now moving.col ≡ false }
     requires movements { length movements.old ≤ goal }
-    ensures movements { (c : ℕ) → c < length movements.old → values_in movements.new c ≡ movement statuses.now (entry_of dict.now) moving.col moving.way c }
-    ensures counted { steps.old ≤ steps.new }
+    ensures { (c : ℕ) → c < length movements.old → values_in movements.new c ≡ movement statuses.now (entry_of dict.now) moving.col moving.way c }
 {
     for c in 0..movements.len() {
         movements[c] = movement_at(dict, statuses[c], moving, c as u32, goal, steps);
@@ -164,7 +160,6 @@ pub fn report<L: Ledger>(
     ensures stopped { was_stopped result ≡ is_stop finish }
     ensures best { was_best result ≡ is_best finish }
     ensures end { (I : Instance) (w : Values) → width I ≡ length movements.old → goal_column I ≡ goal → end_at I statuses.now (entry_of dict.now) w finish ≡ ended result (listed (length movements.old) w) (collected (values_in factors.new) goal) (listed (length movements.old) (values_in movements.new)) }
-    ensures counted { steps.old ≤ steps.new }
 {
     match finish {
         Finish::Empty(out) => {

@@ -56,7 +56,6 @@ fn exchange<L: Ledger>(
     ensures entries { IfOk result (λ _. IsPivoted (entry_of dict.old) swap.basic swap.nonbasic (entry_of dict.new)) }
     ensures fits { IfOk result (λ _. PivotFits (entry_of dict.old) swap.basic swap.nonbasic) }
     ensures wide { OnErr result (PivotFits (entry_of dict.old) swap.basic swap.nonbasic → ⊥) }
-    ensures counted { steps.old ≤ steps.new }
 {
     dict.pivot(swap.basic, swap.nonbasic, steps)?;
     statuses[swap.basic as usize] = swap.status;
@@ -85,7 +84,6 @@ pub fn swap_turn<W: Watch, L: Ledger>(
     ensures swapped { result ≡ None → IsSwapped dict.old dict.new statuses.old statuses.new swap }
     ensures holds { (A : Entries) → Holds A dict.old → KeepsAt result (Holds A dict.new) }
     ensures turn { (n : ℕ) × W.came watch.old watch.new (answers n (stops_at result)) × ((I : Instance) (u : Entries) (w : Values) (t : Terms) (looks : ℕ) → t.turns ≡ turns.old.most → AgreesWith t.stop looks n (stops_at result) → BeginsTurn t (record { turns = turns.old.done; looks = looks }) (PivotFits (entry_of dict.old) swap.basic swap.nonbasic) (pivoted statuses.old swap.basic swap.nonbasic swap.status) (next_at I statuses.new u w (record { turns = turns.new.done; looks = looks_after looks n (stops_at result) }) result)) }
-    ensures steps { steps.old ≤ steps.new }
 {
     if turns.done >= turns.most {
         return Some(Finish::TurnLimit);

@@ -76,7 +76,6 @@ fn value_at<L: Ledger>(
     requires status { is_basic status ≡ basic_of dict.now col }
     ensures ok { (w : Values) → Rest dict.now rest.now w → IfOk result (λ v. IsColumnValue dict.now w (is_basic status) col (ratio v)) }
     ensures wide { (w : Values) → Rest dict.now rest.now w → OnErr result ((is_basic status ≡ true) × (ValueFits (columns_of dict.now) (entry_of dict.now col) w → ⊥)) }
-    ensures counted { steps.old ≤ steps.new }
 {
     match status {
         Status::Basic => dict.value_of(col, rest, steps),
@@ -106,7 +105,6 @@ fn all_values<L: Ledger>(
     ensures size { size_of unknown.new ≡ size_of unknown.old }
     ensures ok { (w : Values) → Rest dict.now rest.now w → IfOk result (λ _. (c : ℕ) → c < goal → IsColumnValue dict.now w (basic_in statuses.now c) c (values_in values.new c)) }
     ensures wide { (w : Values) → Rest dict.now rest.now w → OnErr result ((b : ℕ) × (b < goal) × (basic_in statuses.now b ≡ true) × (ValueFits (columns_of dict.now) (entry_of dict.now b) w → ⊥)) }
-    ensures counted { steps.old ≤ steps.new }
 {
     let _goal = goal;
     let mut walk = Walk::new();
@@ -145,7 +143,6 @@ pub fn find_values<L: Ledger>(
     ensures ok { (I : Instance) → AreEndsOf I ends.now → HasSizeOf I dict.now → IfOk result (λ _. HasValues I statuses.now (entry_of dict.now) (values_in values.new)) }
     ensures fits { (I : Instance) → AreEndsOf I ends.now → HasSizeOf I dict.now → IfOk result (λ _. ValuesFit I statuses.now (entry_of dict.now)) }
     ensures wide { (I : Instance) → AreEndsOf I ends.now → HasSizeOf I dict.now → OnErr result (ValuesFit I statuses.now (entry_of dict.now) → ⊥) }
-    ensures counted { steps.old ≤ steps.new }
 {
     let _ends = ends;
     all_values(dict, statuses, rest, values, unknown, goal, steps)

@@ -12,9 +12,11 @@ ghost use Rattle.simplex_rules.specs.Looks.{answers, AgreesWith, looks_after};
 ghost use Rattle.simplex.specs.Answers.{side_of};
 
 use crate::answer::{LpEnd, Side, Turns};
+use crate::beginning::start;
 use crate::cuts::Cuts;
 use crate::ends::Ends;
-use crate::running::run_over;
+use crate::loading::goal_at;
+use crate::reporting::report;
 use dictionary::{Dict, Places, Steps};
 use fraction::{End, Frac};
 use instance::{Instance, zero};
@@ -24,18 +26,23 @@ use simplex_rules::Status;
 use std::alloc::{AllocError, Global};
 use std::sync::ledger::Ledger;
 
-/// Memory for runs of one size, and what the last of them found. The entries of its dictionary are read and written on the ledger
-/// `L` alone.
+/// Memory for runs of one size: the state of a run, and what the last of them found. The entries of its dictionary are read and
+/// written on the ledger `L` alone.
+///
+/// Of a run there are the dictionary of its basis, the ends and statuses of the columns, the values of those that aren't basic
+/// (`rest`), and each column's value, where it isn't unknown. The goal's column is the last one of the dictionary.
 pub struct Work<L: Ledger> {
-    dict: Dict<L>,
-    ends: Vec<Ends>,
-    statuses: Vec<Status>,
-    rest: Places,
-    values: Vec<Frac>,
-    unknown: Marks,
-    factors: Vec<Frac>,
-    movements: Vec<Frac>,
+    pub(crate) dict: Dict<L>,
+    pub(crate) ends: Vec<Ends>,
+    pub(crate) statuses: Vec<Status>,
+    pub(crate) rest: Places,
+    pub(crate) values: Vec<Frac>,
+    pub(crate) unknown: Marks,
+    pub(crate) factors: Vec<Frac>,
+    pub(crate) movements: Vec<Frac>,
+    pub(crate) goal: u32,
     ghost few: { width_of dict + (height_of dict + 1) ≤ 2 ^ 32 },
+    ghost goal_is: { goal ≡ width_of dict + height_of dict },
     ghost ends_long: { vec_len ends ≡ width_of dict + height_of dict },
     ghost statuses_long: { vec_len statuses ≡ width_of dict + height_of dict },
     ghost rest_long: { count_of rest ≡ width_of dict + height_of dict },
@@ -57,6 +64,7 @@ impl<L: Ledger> Drop for Work<L> {
             unknown: _,
             factors: _,
             movements: _,
+            goal: _,
         } = self;
     }
 }
@@ -109,6 +117,7 @@ impl<L: Ledger> Work<L> {
             unknown,
             factors,
             movements,
+            goal: n + m,
         })
     }
 
@@ -148,24 +157,20 @@ impl<L: Ledger> Work<L> {
         ensures basis { was_best result ≡ true → IsAtBasis self.new × ((I : Of.Instance) → IsCutBy instance.now cuts.now I → HasDictionary I zero_goal (statuses_in self.new) (entries_in self.new)) }
         ensures once { (I : Of.Instance) (t : Terms) (c d : Clock) → Of.IsInstance I → IsCutBy instance.now cuts.now I → (run : IsRun I zero_goal t c (ended_with result self.new) d) → HasNoneTwice I zero_goal (came_through run.comes) }
         ensures enough { (I : Of.Instance) → Of.IsInstance I → IsCutBy instance.now cuts.now I → BeginsSettled I zero_goal → turns.old.done + 4 ^ (Of.width I + Of.height I) ≤ turns.old.most → result ≢ Has.TurnLimit }
-        ensures counted { steps.old ≤ steps.new }
     {
-        let goal = self.ends.len() as u32;
-        run_over(
-            &mut self.dict,
-            self.ends.as_mut_slice(),
-            self.statuses.as_mut_slice(),
-            &mut self.rest,
-            self.values.as_mut_slice(),
-            &mut self.unknown,
+        if let Some(col) = self.begin(instance, cuts, zero_goal, steps) {
+            return LpEnd::Clash { col };
+        }
+        let asked = goal_at(instance, cuts.goal());
+        let start = start(zero_goal, asked.sense, asked.constant);
+        let finish = self.make_turns(start, turns, watch, steps);
+        report(
+            &self.dict,
+            self.statuses.as_slice(),
+            finish,
             self.factors.as_mut_slice(),
             self.movements.as_mut_slice(),
-            instance,
-            cuts,
-            zero_goal,
-            goal,
-            turns,
-            watch,
+            self.goal,
             steps,
         )
     }
@@ -200,7 +205,6 @@ impl<L: Ledger> Work<L> {
         requires { IsAtBasis self.now }
         ensures none { result ≡ None → IsEntryOf self.now basic nonbasic → ⊥ }
         ensures entry { IfSome result (λ x. IsEntryOf self.now basic nonbasic × (ratio x ≡ entries_in self.now basic nonbasic)) }
-        ensures counted { steps.old ≤ steps.new }
     {
         let is_row = (basic as usize) < self.statuses.len() && self.side_at(basic).is_none();
         if !is_row || self.side_at(nonbasic).is_none() {

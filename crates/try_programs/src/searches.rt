@@ -4,19 +4,14 @@
 mod reading;
 mod telling;
 
-ghost use Rattle.std.specs.Prelude.{◌≡◌, ◌<◌};
-
 use branch_bound::{Searched, search};
 use cases::Answers;
 use certificate::Claim;
-use dictionary::Steps;
 use items::TryCopy;
 use memory_ends::MemWatch;
 use os_io::{Memory, Text};
 use reading::{Case, read_case};
 use std::alloc::Global;
-use std::marker::Brand;
-use std::sync::ledger::{Blank, Ledger};
 use tableaus::put_count;
 use telling::put_claim;
 
@@ -47,13 +42,8 @@ fn tell_found(alloc: Global, found: &Searched, looks: u64) -> Result<Text, Memor
     Ok(text)
 }
 
-/// What is claimed of a case.
-fn tell<L: Ledger>(alloc: Global, case: Case, blank: Blank) -> Result<Text, Memory>
-    requires name { blank.name ≡ L.name }
-    requires parts { blank.parts ≡ L.parts }
-    requires some { 0 < blank.parts }
-{
-    let mut steps = Steps::<L>::new(blank);
+/// What is claimed of a case, as a text.
+fn tell(alloc: Global, case: Case) -> Result<Text, Memory> {
     let mut watch = MemWatch::new(alloc, case.stops.as_slice())?;
     let found = search(
         alloc,
@@ -62,20 +52,14 @@ fn tell<L: Ledger>(alloc: Global, case: Case, blank: Blank) -> Result<Text, Memo
         case.turns,
         case.rounds,
         &mut watch,
-        &mut steps,
     );
     tell_found(alloc, &found, watch.looks())
-}
-
-/// What is claimed of a case, as a text.
-fn tell_search(alloc: Global, case: Case) -> Result<Text, Memory> {
-    tell::<Brand>(alloc, case, Blank::new(1))
 }
 
 impl Answers for Searches {
     fn answer(&mut self, alloc: Global, given: &[Vec<u8>]) -> Result<Text, Memory> {
         match read_case(alloc, given)? {
-            Some(case) => tell_search(alloc, case),
+            Some(case) => tell(alloc, case),
             None => Text::from_slice(alloc, b"no case"),
         }
     }

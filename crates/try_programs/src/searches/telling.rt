@@ -1,5 +1,5 @@
 //! Claims as texts.
-use certificate::{Cause, Cert, Certs, Claim, Mults, Node, Values};
+use certificate::{Cause, Cert, Certs, Claim, Mults, Node, Round, Values};
 use decimal_text::write_ratio;
 use fraction::Frac;
 use itoa::Buffer;
@@ -26,6 +26,12 @@ fn put_mults(text: &mut Text, word: &[u8], mults: &Mults) -> Result<(), Memory> 
     Ok(())
 }
 
+fn put_grid(text: &mut Text, word: &[u8], step: Frac, mults: &Mults) -> Result<(), Memory> {
+    text.extend(word)?;
+    write_ratio(step, text)?;
+    put_mults(text, b"", mults)
+}
+
 fn put_node(text: &mut Text, node: &Node) -> Result<(), Memory> {
     match node {
         Node::Split { col, k } => {
@@ -44,18 +50,24 @@ fn put_node(text: &mut Text, node: &Node) -> Result<(), Memory> {
         }
         Node::Farkas(mults) => put_mults(text, b"farkas", mults),
         Node::Bound(mults) => put_mults(text, b"bound", mults),
-        Node::Grid { step, mults } => {
-            text.extend(b"grid ")?;
-            write_ratio(*step, text)?;
-            put_mults(text, b"", mults)
-        }
+        Node::Grid { step, mults } => put_grid(text, b"grid ", *step, mults),
+        Node::FarkasRows(mults) => put_mults(text, b"farkasRows", mults),
+        Node::BoundRows(mults) => put_mults(text, b"boundRows", mults),
+        Node::GridRows { step, mults } => put_grid(text, b"gridRows ", *step, mults),
+    }
+}
+
+fn put_round(text: &mut Text, round: &Round) -> Result<(), Memory> {
+    match round {
+        Round::Whole(mults) => put_mults(text, b"round", mults),
+        Round::OfRows(mults) => put_mults(text, b"roundRows", mults),
     }
 }
 
 fn put_cert(text: &mut Text, cert: &Cert) -> Result<(), Memory> {
     for round in cert.rounds.as_slice() {
         text.extend(b" (")?;
-        put_mults(text, b"round", round)?;
+        put_round(text, round)?;
         text.push(b')')?;
     }
     for node in cert.nodes.as_slice() {

@@ -7,7 +7,7 @@ use Rattle.instance.specs.Program.{goals}
 use Rattle.certificate.specs.Meanings as Means
 use Rattle.certificate.specs.declared.nodes.Node.{Node}
 use Rattle.certificate.specs.declared.nodes.Cert.{Cert}
-use Rattle.certificate.specs.declared.lists.Mult.{Mult}
+use Rattle.certificate.specs.declared.nodes.Round.{Round}
 use Rattle.search_rules.specs.Search.{nodes_with, begun_at}
 use Rattle.simplex.specs.Cuts.{Cutting, Suits}
 use Rattle.branch_bound.specs.declared.level.Level.{Level}
@@ -42,7 +42,7 @@ shown : (g : _) (c : After-begin_again g) → Means.certificates c.push.new.self
 shown g c =
     let v = c.args.level.now in
     ap Means.certificates c.in_ok-push.ensures.ok ∙ map-append Means.certificate v.certs (record { rounds = c.replace-rounds.result; nodes = c.replace-nodes.result } ∷ [])
-    ∙ ap₂ (λ (rs : List (List Mult)) (ns : List Node). Means.certificates v.certs ++ record { rounds = Means.rounds rs; nodes = Means.nodes ns } ∷ []) c.replace-rounds.ensures.value c.replace-nodes.ensures.value
+    ∙ ap₂ (λ (rs : List Round) (ns : List Node). Means.certificates v.certs ++ record { rounds = Means.rounds rs; nodes = Means.nodes ns } ∷ []) c.replace-rounds.ensures.value c.replace-nodes.ensures.value
 
 pub returns-clause-suits : goal.returns-clause-suits
 returns-clause-suits g c = record { size = size g (goal.at.returns-clause-suits g c).After-begin_again; goal = c.requires.later; one = λ e. let l = c.requires.later in absurd (omega arith) }

@@ -8,13 +8,11 @@ use Rattle.branch_bound.proofs.Leftovers.{AreLeft, left_none, left_more, all_wit
 use Rattle.branch_bound.proofs.cutting.left_mults.Goals as goal
 
 pub loop-col-init : goal.loop-col-init
-loop-col-init g c = record {
-  left = rw c.new-mults.ensures (left_none (statuses_in c.args.work.now) (entries_in c.args.work.now c.args.variable));
-  counted = omega arith;
-}
+loop-col-init g c =
+    rw c.new-mults.ensures (left_none (statuses_in c.args.work.now) (entries_in c.args.work.now c.args.variable))
 
-pub returns-in-Err-clause-left : goal.returns-in-Err-clause-left
-returns-in-Err-clause-left g c = λ I e. λ all.
+pub returns-in-Err : goal.returns-in-Err
+returns-in-Err g c = λ I e. λ all.
     let low : c.loop-col.col < c.args.columns = c.loop-col-test.true in
     c.in-Err.ensures.wide (all c.loop-col.col (omega arith))
 
@@ -25,25 +23,21 @@ loop-col-preserved g c =
     let x = entries_in w c.args.variable in
     let l = c.loop-col in
     let v = c.in-Ok.value in
-    record {
-      left =
-          subst (λ (ms : List Multiplier). AreLeft ss x (l.col + 1) ms c.is_left_at_zero-is_at_zero.result) (sym c.in_ok-add.ensures)
-          (left_more ss x l.col (Means.multipliers l.mults) l.is_at_zero l.invariant.left (ratio v) c.is_left_at_zero-is_at_zero.result c.in-Ok.ensures.ok c.in-Ok.ensures.fits c.is_left_at_zero-is_at_zero.ensures.yes c.is_left_at_zero-is_at_zero.ensures.no);
-      counted = let a = l.invariant.counted in let b = c.left_at.ensures.counted in omega arith;
-    }
+    subst (λ (ms : List Multiplier). AreLeft ss x (l.col + 1) ms c.is_left_at_zero-is_at_zero.result) (sym c.in_ok-add.ensures)
+    (left_more ss x l.col (Means.multipliers l.mults) l.is_at_zero l.invariant (ratio v) c.is_left_at_zero-is_at_zero.result c.in-Ok.ensures.ok c.in-Ok.ensures.fits c.is_left_at_zero-is_at_zero.ensures.yes c.is_left_at_zero-is_at_zero.ensures.no)
 
-pub returns-then-is_at_zero-clause-left : goal.returns-then-is_at_zero-clause-left
-returns-then-is_at_zero-clause-left g c = λ I e.
+pub returns-then-is_at_zero : goal.returns-then-is_at_zero
+returns-then-is_at_zero g c = λ I e.
     let w = c.args.work.now in
     let out : c.args.columns ≤ c.loop-col.col = c.loop-col-test.false in
     let all : c.loop-col.col ≡ goal_column I = (let a = c.loop-col.auto.col-end in omega arith) in
-    let left = subst (λ n. AreLeft (statuses_in w) (entries_in w c.args.variable) n (Means.multipliers c.loop-col.mults) c.loop-col.is_at_zero) all c.loop-col.invariant.left in
+    let left = subst (λ n. AreLeft (statuses_in w) (entries_in w c.args.variable) n (Means.multipliers c.loop-col.mults) c.loop-col.is_at_zero) all c.loop-col.invariant in
     (all_within I (statuses_in w) (entries_in w) c.args.variable _ _ left, some_at_zero I (statuses_in w) (entries_in w) c.args.variable _ _ left c.if-is_at_zero.true)
 
-pub returns-clause-left : goal.returns-clause-left
-returns-clause-left g c = λ I e.
+pub returns : goal.returns
+returns g c = λ I e.
     let w = c.args.work.now in
     let out : c.args.columns ≤ c.loop-col.col = c.loop-col-test.false in
     let all : c.loop-col.col ≡ goal_column I = (let a = c.loop-col.auto.col-end in omega arith) in
-    let left = subst (λ n. AreLeft (statuses_in w) (entries_in w c.args.variable) n (Means.multipliers c.loop-col.mults) c.loop-col.is_at_zero) all c.loop-col.invariant.left in
+    let left = subst (λ n. AreLeft (statuses_in w) (entries_in w c.args.variable) n (Means.multipliers c.loop-col.mults) c.loop-col.is_at_zero) all c.loop-col.invariant in
     (all_within I (statuses_in w) (entries_in w) c.args.variable _ _ left, none_at_zero I (statuses_in w) (entries_in w) c.args.variable _ _ left c.if-is_at_zero.false, cut_multipliers I (statuses_in w) (entries_in w) c.args.variable _ _ left)

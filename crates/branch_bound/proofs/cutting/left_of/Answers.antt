@@ -7,7 +7,7 @@ use Rattle.rational.specs.Ratio.{whole, IsFloor}
 use Rattle.rational.specs.Width.{most}
 use Rattle.evidence.specs.Rounds.{IsCeiling}
 use Rattle.search_rules.proofs.OneCut.{one_floor, one_ceiling}
-use Rattle.branch_bound.proofs.Floors.{floor_low}
+use Rattle.no_cycles.proofs.Floors.{floor_low}
 use Rattle.branch_bound.proofs.WholeParts.{left_ok, left_fits, left_wide}
 use Rattle.branch_bound.proofs.cutting.left_of.Goals as goal
 

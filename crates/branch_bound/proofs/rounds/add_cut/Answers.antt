@@ -9,6 +9,7 @@ use Rattle.evidence.specs.Instance.{entry_at}
 use Rattle.evidence.specs.OneDenominator.{number_at}
 use Rattle.instance.specs.declared.parts.Row.{Row}
 use Rattle.instance.specs.Program.{entries, row}
+use Rattle.certificate.specs.declared.nodes.Round.TheVariants.{Whole}
 use Rattle.certificate.specs.Meanings as Means
 use Rattle.cert_checker.specs.Programs.{coefficient, numerators}
 use Rattle.branch_bound.proofs.AddedRows.{on_ok}
@@ -16,7 +17,7 @@ use Rattle.branch_bound.proofs.CutRows.{cut_range, ends_range, placed, cut_suits
 use Rattle.branch_bound.proofs.rounds.add_cut.Goals as goal
 
 pub returns-clause-rounds : goal.returns-clause-rounds
-returns-clause-rounds g c = on_ok _ _ _ c.push-2.result (λ e. ap Means.rounds e ∙ map_push Means.multipliers c.args.level.now.rounds c.args.mults) c.push-2.ensures.ok
+returns-clause-rounds g c = on_ok _ _ _ c.push-2.result (λ e. ap Means.rounds e ∙ map_push Means.round c.args.level.now.rounds (Whole c.args.mults)) c.push-2.ensures.ok
 
 pub returns-clause-suits : goal.returns-clause-suits
 returns-clause-suits g c =

@@ -4,7 +4,7 @@ use mir.Syntax.{w128}
 use Rattle.std.proofs.Math.Facts.{to_z-of_z}
 use Rattle.rational.specs.Width.{most}
 use Rattle.std.proofs.lemmas.List.{length-map}
-use Rattle.evidence.specs.Rounds.{derive}
+use Rattle.evidence.specs.Rounds.{RoundBy, derive}
 use Rattle.certificate.specs.Meanings as Means
 use Rattle.instance.specs.Program.{program}
 use Rattle.instance.proofs.Terms.{if_ok}
@@ -72,7 +72,7 @@ returns-in-Ok-clause-on g c = λ l ready fewer.
       walk = at_walk (length c.args.instance.now.vars) c.args.depth c.args.walk.now c.requires.at;
       fresh = λ e. c.requires.fresh;
       values = c.requires.values;
-      further = record { level = level; within = ready.within; one = inr (refl, rounds_more v.rounds c.add_cut.new.level.rounds (Means.multipliers c.in-Cut.mults) c.in-Ok.ensures.rounds, fewer) };
+      further = record { level = level; within = ready.within; one = inr (refl, rounds_more v.rounds c.add_cut.new.level.rounds (RoundBy (Means.multipliers c.in-Cut.mults)) c.in-Ok.ensures.rounds, fewer) };
     }
 
 pub returns-in-Ok-clause-ok : goal.returns-in-Ok-clause-ok

@@ -22,8 +22,8 @@ last_level p b k (inr l) = inr (drop_all (k + 1) (goals p.goals) (let long = len
 pub search_levels-requires-clause-state : goal.search_levels-requires-clause-state
 search_levels-requires-clause-state g c = begun_state c.args.instance.now c.args.limits c.args.state c.requires.begun
 
-pub returns-in-Ok-clause-answer : goal.returns-in-Ok-clause-answer
-returns-in-Ok-clause-answer g c =
+pub returns-in-Ok : goal.returns-in-Ok
+returns-in-Ok g c =
     let a = c.args in
     let p = a.instance.now in
     let u = c.search_levels.new.self in
@@ -46,8 +46,8 @@ returns-in-Ok-clause-answer g c =
           (answer (problem p) (terms a.limits stop) (moment p L D v w (clock_at s (looks_after 0 m.looks m.killed))) refl refl refl none (last_level p w.best v.goal c.in-Ok.ensures.last) (subst (ComesInSearch (problem p) (terms a.limits stop)) last.stands.is last.comes)),
     )
 
-pub returns-in-Err-clause-answer : goal.returns-in-Err-clause-answer
-returns-in-Err-clause-answer g c =
+pub returns-in-Err : goal.returns-in-Err
+returns-in-Err g c =
     let a = c.args in
     let p = a.instance.now in
     let u = c.search_levels.new.self in

@@ -1,4 +1,3 @@
-use Rattle.std.proofs.Common.{◌≤◌}
 use Rattle.fraction.specs.Frac.{ratio}
 use Rattle.evidence.proofs.Steps.{IsSum}
 use Rattle.bases.specs.Dictionary.{Values}
@@ -7,7 +6,4 @@ use Rattle.simplex.specs.Values.{cost_in, AreTerms}
 use Rattle.simplex.proofs.bounding.bound.Given as goal
 
 abbrev pub invariant-loop-c : goal.invariant-loop-c
-invariant-loop-c g l = record {
-  sum : (a x : Values) → AreTerms (cost_in l.statuses (entry_of l.dict l.goal)) (place_values l.rest) l.goal a x → IsSum (ratio l.fn.start) l.c a x (ratio l.sum);
-  counted : l.fn.steps ≤ l.steps;
-}
+invariant-loop-c g l = (a x : Values) → AreTerms (cost_in l.statuses (entry_of l.dict l.goal)) (place_values l.rest) l.goal a x → IsSum (ratio l.fn.start) l.c a x (ratio l.sum)

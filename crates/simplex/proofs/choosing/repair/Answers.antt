@@ -11,12 +11,12 @@ use Rattle.simplex.proofs.PlainPrograms.{plain, plain_ends, moves_nonzero}
 use Rattle.simplex.proofs.choosing.repair.Goals as goal
 
 pub returns-in-None-clause-next : goal.returns-in-None-clause-next
-returns-in-None-clause-next g c = λ I w zeroed t k e size. inl (c.in-None.ensures.help I w e, refl)
+returns-in-None-clause-next g c = λ I w zeroed t k e size. inl (c.in-None.ensures I w e, refl)
 
 pub returns-in-Some-clause-allowed : goal.returns-in-Some-clause-allowed
 returns-in-Some-clause-allowed g c =
     let e = plain_ends c.args.ends.now in
-    let h = c.in-Some.ensures.help (plain c.args.ends.now) (λ j. none) e in
+    let h = c.in-Some.ensures (plain c.args.ends.now) (λ j. none) e in
     record {
       basic_inside = let i = c.requires.inside in let g = c.requires.goal in omega arith;
       basic = c.requires.basic;
@@ -34,6 +34,6 @@ returns-in-Some-clause-next g c = λ I w zeroed t k e size next p.
     inr (
       c.in-Some.n.col,
       c.in-Some.n.way,
-      c.in-Some.ensures.help I w e,
+      c.in-Some.ensures I w e,
       subst (λ (z : Status). BeginsTurn t k (PivotFits (entry_of c.args.dict.now) c.args.out.col c.in-Some.n.col) (pivoted c.args.statuses.now c.args.out.col c.in-Some.n.col z) next) s p,
     )

@@ -6,8 +6,8 @@ use Rattle.simplex.specs.Cuts.{range_of}
 use Rattle.simplex.proofs.Helps.{HasSign, nonbasic_helps}
 use Rattle.simplex.proofs.helping.help_at.Goals as goal
 
-pub returns-clause-help : goal.returns-clause-help
-returns-clause-help g c =
+pub returns : goal.returns
+returns g c =
     let u = entry_of c.args.dict.now c.args.row c.args.col in
     let sign : HasSign c.entry_sign.result u = record { above = c.entry_sign.ensures.above; below = c.entry_sign.ensures.below } in
     let fits : FitsSigned w64 c.entry_sign.result = search rules in

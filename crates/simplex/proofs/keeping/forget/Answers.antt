@@ -28,7 +28,6 @@ loop-c-init g c = record {
   apart = λ k l. absurd (omega arith);
   inside = λ k l h. h;
   size = refl;
-  counted = omega arith;
 }
 
 pub next_by-requires : goal.next_by-requires
@@ -52,7 +51,6 @@ loop-c-preserved g c =
           (λ i. absurd (not_left c.args.dict.now c.args.statuses.now s c.basic_columns-basic.result.now c.basic_columns-basic.ensures.basic j (omega (arith, h, c.requires.goal)) b (at.first j i (omega arith)))));
       inside = λ j h t. f.others j (λ e. absurd (omega (arith, inside, s.count, c.requires.goal, h, e))) ∙ v.inside j h t;
       size = f.size ∙ v.size;
-      counted = omega (arith, v.counted, f.counted);
     }
 
 pub returns-clause-forgotten : goal.returns-clause-forgotten

@@ -12,7 +12,6 @@ invariant-loop-c g l = record {
   apart : (k : ℕ) → k < l.from → k < l.goal → basic_in l.statuses k ≡ true → is_marked l.unknown k ≡ false → (entry_of l.dict k l.moving).num ≡ pos 0;
   inside : (k : ℕ) → l.goal ≤ k → is_marked l.fn.unknown k ≡ false → is_marked l.unknown k ≡ false;
   size : size_of l.unknown ≡ size_of l.fn.unknown;
-  counted : l.fn.steps ≤ l.steps;
 }
 
 abbrev pub decreases-loop-c : goal.decreases-loop-c

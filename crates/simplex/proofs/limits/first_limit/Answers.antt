@@ -18,7 +18,7 @@ use Rattle.simplex.proofs.BasicColumns.{still_none, still_fits}
 use Rattle.simplex.proofs.limits.first_limit.Goals as goal
 
 pub loop-c-init : goal.loop-c-init
-loop-c-init g c = record { best = λ k h. absurd (omega arith); fits = λ k h. absurd (omega arith); inside = omega arith; counted = omega arith }
+loop-c-init g c = record { best = λ k h. absurd (omega arith); fits = λ k h. absurd (omega arith); inside = omega arith }
 
 pub returns-in_err-next-clause-wide : goal.returns-in_err-next-clause-wide
 returns-in_err-next-clause-wide g c = λ I e.
@@ -53,7 +53,6 @@ loop-c-preserved g c =
           (subst (λ (x : Ratio). OneFits (basic_in c.args.statuses.now c.in-Some.c) (nat_eq c.in-Some.c c.args.moving.col) (ranges_in c.args.ends.now c.in-Some.c) x (rate c.args.moving.way (entry_of c.args.dict.now c.in-Some.c c.args.moving.col))) v
           (subst (λ (x : Range). OneFits (basic_in c.args.statuses.now c.in-Some.c) (nat_eq c.in-Some.c c.args.moving.col) x (ratio c.index-values-c.result) (rate c.args.moving.way (entry_of c.args.dict.now c.in-Some.c c.args.moving.col))) r c.in_ok-next.ensures.fits));
       inside = let a = c.requires.goal in omega (arith, a, s.count, at.inside);
-      counted = let a = c.loop-c.invariant.counted in let b = c.in_ok-next.ensures.counted in omega arith;
     }
 
 pub returns-clause-ok : goal.returns-clause-ok

@@ -13,7 +13,6 @@ invariant-loop-c g l = record {
   best : IsLeastOf (λ c. limit_one (basic_in l.statuses c) (nat_eq c l.moving.col) (ranges_in l.ends c) (values_in l.values c) (rate l.moving.way (entry_of l.dict c l.moving.col))) l.from l.best;
   fits : (k : ℕ) → k < l.from → OneFits (basic_in l.statuses k) (nat_eq k l.moving.col) (ranges_in l.ends k) (values_in l.values k) (rate l.moving.way (entry_of l.dict k l.moving.col));
   inside : l.from ≤ l.goal;
-  counted : l.fn.steps ≤ l.steps;
 }
 
 abbrev pub decreases-loop-c : goal.decreases-loop-c

@@ -16,7 +16,6 @@ loop-row-init g c = record {
   to = let r = c.requires.rows in omega arith;
   size = record { width = refl; height = refl };
   rows = λ A first. (A, first, subst (λ n. AreRowsBeside A c.args.first c.args.added.now n A) (omega arith) (none_beside A c.args.first c.args.added.now));
-  counted = omega arith;
 }
 
 -- the row at hand
@@ -80,7 +79,6 @@ loop-row-preserved g c =
                 (subst (λ q. AreRowsBeside A first rs ((row - first) + 1) (with_entries B q c.as_slice-entries.result.now)) e
                 (subst (λ (es : List Entry). AreRowsBeside A first rs ((row - first) + 1) (with_entries B (first + (row - first)) es)) (sym (entries_are g (goal.at.loop-row-preserved g c).After-as_slice-entries)) more)),
           );
-      counted = let a = i.counted in let b = c.set_row.ensures.counted in omega arith;
     }
 
 pub returns-clause-rows : goal.returns-clause-rows

@@ -10,5 +10,4 @@ invariant-loop-row g l = record {
   to : l.row ≤ l.height;
   size : HaveOneSize l.fn.dict l.dict;
   rows : (A : Entries) → IsJustLoaded A l.fn.dict → (B : Entries) × IsJustLoaded B l.dict × AreRowsBeside A l.first l.added (l.row - l.first) B;
-  counted : l.fn.steps ≤ l.steps;
 }

@@ -11,7 +11,6 @@ loop-col-init g c = record {
   known = c.requires.known;
   before = λ k l. absurd (omega arith);
   size = refl;
-  counted = omega arith;
 }
 
 pub next_by-requires : goal.next_by-requires
@@ -30,7 +29,6 @@ loop-col-preserved g c =
           (λ e. ap (is_marked c.unmark.new.self) e ∙ c.unmark.ensures.own)
           (λ n. c.unmark.ensures.others j n ∙ by_lt j c.loop-col.from (λ i. v.before j i) (λ i. at.first j i (omega arith)));
       size = c.unmark.ensures.size ∙ v.size;
-      counted = let a = v.counted in let b = c.in_ok-value.ensures.counted in omega arith;
     }
 
 pub returns-clause-ok : goal.returns-clause-ok

@@ -10,7 +10,6 @@ invariant-loop-col g l = record {
   known : AreKnown l.dict l.rest l.statuses l.values l.unknown;
   before : (k : ℕ) → k < l.from → is_marked l.unknown k ≡ false;
   size : size_of l.unknown ≡ size_of l.fn.unknown;
-  counted : l.fn.steps ≤ l.steps;
 }
 
 abbrev pub decreases-loop-col : goal.decreases-loop-col

@@ -8,7 +8,6 @@ loop-value-init g c =
     record {
       state = c.requires.state;
       closed = c.requires.closed;
-      counted = omega arith;
       moments = unchanged a.self.now (g.met.W.Watch.stays a.watch.now);
     }
 
@@ -25,7 +24,6 @@ loop-value-preserved g c =
     record {
       state = c.in-Ok.ensures.state;
       closed = c.in-Ok.ensures.closed;
-      counted = let a = l.invariant.counted in let b = c.search_next.ensures.counted in omega arith;
       moments = joined l.invariant.moments c.in-Ok.ensures.moments (g.met.W.Watch.joined a.watch.now l.watch c.search_next.new.watch);
     }
 

@@ -6,7 +6,6 @@ abbrev pub invariant-loop-value : goal.invariant-loop-value
 invariant-loop-value g l = record {
   state : IsUnderWay l.instance l.limits l.self;
   closed : l.self.walk.next ≡ None;
-  counted : l.fn.steps ≤ l.steps;
   moments : Changes l.instance l.limits (g.W.Watch.came l.fn.watch l.watch) l.fn.self l.self (Ok tt);
 }
 

@@ -9,7 +9,6 @@ loop-self-init g c =
     record {
       state = c.requires.state;
       goal = refl;
-      counted = omega arith;
       moments = unchanged a.self.now (g.met.W.Watch.stays a.watch.now);
     }
 
@@ -26,7 +25,6 @@ loop-self-preserved g c =
     record {
       state = c.in-Ok.ensures.state;
       goal = c.in-Ok.ensures.further.level.0 ∙ l.invariant.goal;
-      counted = let a = l.invariant.counted in let b = c.step.ensures.counted in omega arith;
       moments = joined l.invariant.moments c.in-Ok.ensures.moments (g.met.W.Watch.joined a.watch.now l.watch c.step.new.watch);
     }
 

@@ -6,7 +6,6 @@ abbrev pub invariant-loop-self : goal.invariant-loop-self
 invariant-loop-self g l = record {
   state : IsUnderWay l.instance l.limits l.self;
   goal : l.self.level.goal ≡ l.fn.self.level.goal;
-  counted : l.fn.steps ≤ l.steps;
   moments : Changes l.instance l.limits (g.W.Watch.came l.fn.watch l.watch) l.fn.self l.self (Ok tt);
 }
 
