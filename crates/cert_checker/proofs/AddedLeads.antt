@@ -9,13 +9,11 @@ use Rattle.fraction.specs.Frac.{ratio}
 use Rattle.fraction.specs.declared.frac.Frac.{Frac}
 use Rattle.fraction.specs.declared.frac.Wide.{Wide as Unfit}
 use Rattle.std.specs.declared.result.Result.{Result}
-use Rattle.evidence.specs.Sums.{none}
 use Rattle.evidence.specs.Instance.{Goal, Instance, no_goal, width, cost_at, minimising}
-use Rattle.evidence.specs.Cases.{Multiplier}
-use Rattle.evidence.specs.Width.{LeafFits, ProvesWithin, RayFits}
+use Rattle.evidence.specs.Width.{ProvesWithin, RayFits}
 use Rattle.evidence.specs.Point.{IsRay}
 use Rattle.evidence.specs.AddedRows.{with_row}
-use Rattle.evidence.specs.Rounds.{Certificate, CertificateShows, ShowsAfter, IsRoundingCut, derive}
+use Rattle.evidence.specs.Rounds.{Certificate, Round, IsRound, RoundFits, CertificateShows, ShowsAfter, derive}
 use Rattle.evidence.specs.Levels.{IsReachedEnd, next_level, AreBest, AreEndless}
 use Rattle.instance.specs.Parts.{Parts}
 use Rattle.instance.specs.Program.{variable, row, goals, program}
@@ -53,8 +51,8 @@ pub wide_with : (rs : List Added) (k : ℕ) (a : Added) (m : ℕ) → m ≤ leng
 wide_with rs k a m g w = All-set (λ (b : Added). m ≤ length b.coefficients.items) rs k a g w
 
 -- a round
-pub round_on : (I : Instance) (rounds : List (List Multiplier)) (n : ℕ) (J : Instance) (ms : List Multiplier) (rest : List (List Multiplier)) (m : ℕ) (K : Instance) (cs : List ℤ) (k : ℤ) → IsRoundingCut J ms cs k → LeafFits J none ms → K ≡ derive J cs k → LeadsThroughRounds I rounds n J (ms ∷ rest) m → LeadsThroughRounds I rounds n K rest (m + 1)
-round_on I rounds n J ms rest m K cs k cut fits e f = record {
+pub round_on : (I : Instance) (rounds : List Round) (n : ℕ) (J : Instance) (w : Round) (rest : List Round) (m : ℕ) (K : Instance) (cs : List ℤ) (k : ℤ) → IsRound J w cs k → RoundFits J w cs → K ≡ derive J cs k → LeadsThroughRounds I rounds n J (w ∷ rest) m → LeadsThroughRounds I rounds n K rest (m + 1)
+round_on I rounds n J w rest m K cs k cut fits e f = record {
   after = λ L a. f.after L (cs, k, cut, fits, subst (λ K. IsAfterRounds K rest L) e a);
   refused = λ r q. f.refused r (inr (cs, k, cut, fits, subst (λ K. RoundsRefuse K rest (m + 1) r) e q));
 }

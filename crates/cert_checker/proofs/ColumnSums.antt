@@ -16,11 +16,20 @@ use Rattle.evidence.proofs.Totals.{total-number}
 use Rattle.evidence.proofs.Steps.{no_term, more, wide}
 use Rattle.certificate.specs.declared.lists.Mult.{Mult}
 use Rattle.certificate.specs.Meanings.{multiplier, multipliers}
-use Rattle.cert_checker.specs.Slots.{IsStep, HoldsSum}
+use Rattle.cert_checker.specs.Slots.{IsStep, HoldsTotal, HoldsSum}
 use Rattle.cert_checker.specs.Leaves.{wanted, HasForm}
 
 pub factors-number : (ms : List Mult) (k : ℕ) → IsNumber (multiplier_at (multipliers ms) k).by
 factors-number ms k = All-anywhere (λ m. IsNumber m.by) (multipliers ms) (record { column = 0; by = none }) none-number (All-map (λ m. IsNumber m.by) multiplier ms (λ k d h. (slice_index_or ms k d).value.above)) k
+
+-- a sum, and one more product
+module _ (s : Ratio) (a x : ℕ → Ratio) (ps : IsNumber s) (pa : (j : ℕ) → IsNumber (a j)) (px : (j : ℕ) → IsNumber (x j)) where
+  pub total_next : (k : ℕ) (old new : Option Frac) → HoldsTotal s k a x old → IsStep old (a k) (x k) new → HoldsTotal s (k + 1) a x new
+  total_next k None new unfit e = subst (λ o. HoldsTotal s (k + 1) a x o) (sym e) (λ f. unfit (record { steps = λ i h. f.steps i (omega arith) }))
+  total_next k (Some o) None so unfit = wide s a x ps pa px k (k + 1) (ratio o) (a k) (x k) refl refl (omega arith) o.above (record { is = so.1; fits = so.0 }) unfit
+  total_next k (Some o) (Some t) so step =
+      let all = more s a x ps pa px k (ratio o) (ratio t) (a k) (x k) refl refl o.above t.above (record { is = so.1; fits = so.0 }) step.1 step.0 in
+      (all.fits, all.is)
 
 module _ (I : Instance) (good : IsInstance I) (ms : List Mult) (j : ℕ) where
   abbrev by_at : ℕ → Ratio
@@ -36,11 +45,7 @@ module _ (I : Instance) (good : IsInstance I) (ms : List Mult) (j : ℕ) where
   holds_first s f e z = subst (λ s. HoldsSum I (multipliers ms) j 0 s) (sym e) (let t = no_term none by_at coefficient in (t.fits, subst (λ r. IsSame r none) (sym z) refl))
 
   pub holds_next : (k : ℕ) (old new : Option Frac) → HoldsSum I (multipliers ms) j k old → IsStep old (by_at k) (coefficient k) new → HoldsSum I (multipliers ms) j (k + 1) new
-  holds_next k None new unfit e = subst (λ s. HoldsSum I (multipliers ms) j (k + 1) s) (sym e) (λ f. unfit (record { steps = λ i h. f.steps i (omega arith) }))
-  holds_next k (Some s) None so unfit = wide none by_at coefficient none-number (factors-number ms) coefficients-number k (k + 1) (ratio s) (by_at k) (coefficient k) refl refl (omega arith) s.above (record { is = so.1; fits = so.0 }) unfit
-  holds_next k (Some s) (Some t) so step =
-      let all = more none by_at coefficient none-number (factors-number ms) coefficients-number k (ratio s) (ratio t) (by_at k) (coefficient k) refl refl s.above t.above (record { is = so.1; fits = so.0 }) step.1 step.0 in
-      (all.fits, all.is)
+  holds_next = total_next none by_at coefficient none-number (factors-number ms) coefficients-number
 
   pub form-number : IsNumber (form I (multipliers ms) j)
   form-number = total-number none (length (multipliers ms)) (λ k. product (by_at k) (coefficient k)) none-number (λ k. product-number (by_at k) (coefficient k) (factors-number ms k) (coefficients-number k))

@@ -4,8 +4,8 @@ use Rattle.std.specs.List.{All, flat_map}
 use Rattle.std.proofs.lemmas.List.{length-append, get_or_append_left, get_or-append-add}
 use Rattle.std.proofs.lemmas.List.Concat.{flat_map-cons}
 use Rattle.std.proofs.lemmas.List.Elements.{All-nil, All-cons, All-map, All-head, All-tail}
-use Rattle.certificate.specs.declared.lists.Mult.{Mult}
 use Rattle.certificate.specs.declared.nodes.Node.{Node}
+use Rattle.certificate.specs.declared.nodes.Round.{Round}
 use Rattle.certificate.specs.declared.nodes.Cert.{Cert}
 use Rattle.certificate.specs.Meanings as Means
 use Rattle.certificate.specs.Nodes.{IsInRange}
@@ -28,9 +28,9 @@ each_range (c ∷ cs) f =
     All-cons (λ (c : Cert). All IsInRange c.nodes) c cs (all_left IsInRange c.nodes (flat_map nodes_in cs) g) (each_range cs (all_right IsInRange c.nodes (flat_map nodes_in cs) g))
 
 -- no rounds are no rounds
-no_multipliers : (rs : List (List Mult)) → Means.rounds rs ≡ [] → rs ≡ []
-no_multipliers [] e = refl
-no_multipliers (r ∷ rs) e = cc
+none_meant : (rs : List Round) → Means.rounds rs ≡ [] → rs ≡ []
+none_meant [] e = refl
+none_meant (r ∷ rs) e = cc
 
 pub alone_to : (cs : List Cert) → All (λ (c : Cert). c.rounds ≡ []) cs → All (λ (c : Certificate). c.rounds ≡ []) (Means.certificates cs)
 alone_to cs f = All-map (λ (c : Certificate). c.rounds ≡ []) Means.certificate cs (λ k d h. ap Means.rounds (f k d h))
@@ -38,5 +38,5 @@ alone_to cs f = All-map (λ (c : Certificate). c.rounds ≡ []) Means.certificat
 pub alone_from : (cs : List Cert) → All (λ (c : Certificate). c.rounds ≡ []) (Means.certificates cs) → All (λ (c : Cert). c.rounds ≡ []) cs
 alone_from [] f = All-nil (λ (c : Cert). c.rounds ≡ [])
 alone_from (c ∷ cs) f =
-    All-cons (λ (c : Cert). c.rounds ≡ []) c cs (no_multipliers c.rounds (All-head (λ (c : Certificate). c.rounds ≡ []) (Means.certificate c) (Means.certificates cs) f))
+    All-cons (λ (c : Cert). c.rounds ≡ []) c cs (none_meant c.rounds (All-head (λ (c : Certificate). c.rounds ≡ []) (Means.certificate c) (Means.certificates cs) f))
     (alone_from cs (All-tail (λ (c : Certificate). c.rounds ≡ []) (Means.certificate c) (Means.certificates cs) f))

@@ -25,6 +25,14 @@ stage_once Holds Fails Next r s fails next (inr h) (inr k) = next h.1 k.1
 stage_once Holds Fails Next r s fails next (inl h) (inr k) = absurd (h.0 k.0)
 stage_once Holds Fails Next r s fails next (inr h) (inl k) = absurd (k.0 h.0)
 
+-- what is refused doesn't hold, so the one or the other does
+apart : {R : Type 0} (Holds : Type 0) (Fails Next : R → Type 0) (r : R) → (Holds → Fails r → ⊥) → Fails r ⊎ (Holds × Next r) → Staged Holds Fails Next r
+apart Holds Fails Next r not (inl h) = inl (λ holds. not holds h, h)
+apart Holds Fails Next r not (inr h) = inr h
+
+pub node_once : {R : Type 0} (Holds : Type 0) (Fails Next : R → Type 0) (r s : R) → ((q : R) → Holds → Fails q → ⊥) → (Fails r → Fails s → r ≡ s) → (Next r → Next s → r ≡ s) → Fails r ⊎ (Holds × Next r) → Fails s ⊎ (Holds × Next s) → r ≡ s
+node_once Holds Fails Next r s not fails next h k = stage_once Holds Fails Next r s fails next (apart Holds Fails Next r (not r) h) (apart Holds Fails Next s (not s) k)
+
 -- two checks, each with its reason
 abbrev pub Twofold : {R : Type 0} (First Second : Type 0) (a b : R) → R → Type 0
 Twofold First Second a b r = ((First → ⊥) × (r ≡ a)) ⊎ (First × (Second → ⊥) × (r ≡ b))

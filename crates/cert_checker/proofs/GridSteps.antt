@@ -16,19 +16,19 @@ use Rattle.fraction.specs.Frac.{ratio}
 use Rattle.fraction.specs.declared.frac.Frac.{Frac}
 use Rattle.evidence.specs.Sums.{none, IsCeiling, IsMultiple}
 use Rattle.evidence.specs.Instance.{Instance, IsInstance, Variable, no_variable, variable_at, cost_at, minimising}
-use Rattle.evidence.specs.Cases.{Multiplier, low_sum, IsGrid}
+use Rattle.evidence.specs.Cases.{Multiplier, low_sum, AreLegal, IsGrid}
 use Rattle.evidence.specs.Width.{TermFits, LowFits, LeafFits, StepsFit}
 use Rattle.evidence.proofs.Numbers.{◌≈◌, ◌≲◌, ≈-refl, ≈-sym, ◌⊙◌, ≲-from, ≲-trans, product-≈, product-number, sum-number}
 use Rattle.evidence.proofs.Columns.{none-number}
 use Rattle.evidence.proofs.Inverses.{inverse-number}
-use Rattle.evidence.proofs.UniqueRows.{one_ceiling}
+use Rattle.evidence.proofs.UniqueRows.{low-number, one_ceiling}
 use Rattle.evidence.proofs.Fits.{reduced_same}
 use Rattle.std.proofs.lemmas.List.{get_or-map}
 use Rattle.evidence.proofs.Numbers.{one_times}
 use Rattle.case_tree.specs.declared.cuts.Cut.{Cut}
 use Rattle.case_tree.specs.Cuts.{cut, cut_variable}
 use Rattle.cert_checker.proofs.RoundRows.{ceiling_same}
-use Rattle.cert_checker.specs.Grids.{GoesInSteps, GridFits, ReachesInSteps, GridHolds}
+use Rattle.cert_checker.specs.Grids.{IsLow, GoesInSteps, GridFits, ReachesInSteps, GridHolds}
 
 pub step-some : (z : ℤ) → pos 0 <ℤ z → z ≡ pos 0 → ⊥
 step-some z h e = omega (arith, ints)
@@ -90,7 +90,7 @@ module _ (cost step : Frac) (up : pos 0 <ℤ step.numer) where
     first_test f = (λ t. absurd (false≢true (sym f ∙ t)), λ m. to_sizes (multiple_to m).0)
 
 -- the sums of the ends, of the steps and of the value
-module _ (I : Instance) (good : IsInstance I) (step : Frac) (up : pos 0 <ℤ step.numer) (ms : List Multiplier) (pl : IsNumber (low_sum I none ms)) (fits : LowFits I none ms) (low : Frac) (is : IsSame (ratio low) (low_sum I none ms)) where
+module _ (I : Instance) (step : Frac) (up : pos 0 <ℤ step.numer) (ms : List Multiplier) (pl : IsNumber (low_sum I none ms)) (fits : LowFits I none ms) (low : Frac) (is : IsSame (ratio low) (low_sum I none ms)) where
   near : ratio low ≈ low_sum I none ms
   near = record { left = low.above; right = pl; is = is }
 
@@ -149,6 +149,14 @@ module _ (I : Instance) (good : IsInstance I) (step : Frac) (up : pos 0 <ℤ ste
             let a : ratio aim ≲ sum (minimising I I.goal.constant) (product (whole k) (ratio step)) = record { left = aim.above; right = near.right; is = subst (λ n. IsAtMost (ratio aim) (sum (minimising I I.goal.constant) (product (whole n) (ratio step)))) e r.reaches } in
             let b = ≲-trans a (≲-from (≈-sym near_value)) in
             w b.is
+
+-- the low sum of legal multipliers, as it is made
+pub is_low : (I : Instance) → IsInstance I → (ms : List Multiplier) → AreLegal I ms → (s : Ratio) → s ≡ none → (low : Frac) → LowFits I s ms → IsSame (ratio low) (low_sum I s ms) → IsLow I ms (ratio low)
+is_low I good ms legal s e low fits is = record {
+  number = low-number I good ms legal;
+  fits = subst (λ t. LowFits I t ms) e fits;
+  is = subst (λ t. IsSame (ratio low) (low_sum I t ms)) e is;
+}
 
 zero-none : (x : Ratio) → IsNumber x → x.num ≡ pos 0 → x ≈ none
 zero-none x p e = record { left = p; right = none-number; is = ap (λ z. z *ℤ pos 1) e ∙ zero-*ℤ (pos 1) ∙ sym (zero-*ℤ (pos x.den)) }

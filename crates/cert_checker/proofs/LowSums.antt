@@ -5,7 +5,7 @@ use Rattle.fraction.specs.Frac.{ratio}
 use Rattle.fraction.specs.declared.frac.Frac.{Frac}
 use Rattle.evidence.specs.Sums.{none}
 use Rattle.evidence.specs.Instance.{Instance, IsInstance, column_at}
-use Rattle.evidence.specs.Cases.{multiplier_at, end_of, or_none, low_sum}
+use Rattle.evidence.specs.Cases.{Multiplier, multiplier_at, end_of, or_none, low_sum}
 use Rattle.evidence.specs.Width.{LowFits}
 use Rattle.evidence.proofs.Numbers.{◌≈◌, ◌⋖◌, ◌≲◌, ≈-sym, ≲-from, ≲-trans, ⋖-≲, product-number}
 use Rattle.evidence.proofs.Totals.{total-number}
@@ -38,22 +38,20 @@ pub aim-number : (z : Option Frac) → IfSome (aim z) IsNumber
 aim-number None = tt
 aim-number (Some z) = z.above
 
-module _ (I : Instance) (good : IsInstance I) (ms : List Mult) (z : Option Frac) (f s : Frac) (ef : ratio f ≡ start I (aim z)) (fits : LowFits I (ratio f) (multipliers ms)) (is : IsSame (ratio s) (low_sum I (ratio f) (multipliers ms))) where
-  near : ratio s ≈ low_sum I (start I (aim z)) (multipliers ms)
-  near =
-      subst (λ t. ratio s ≈ low_sum I t (multipliers ms)) ef
-      (record {
-        left = s.above;
-        right = total-number (ratio f) (length (multipliers ms)) (λ k. product (multiplier_at (multipliers ms) k).by (or_none (end_of I (multiplier_at (multipliers ms) k)))) f.above
-            (λ k. product-number (multiplier_at (multipliers ms) k).by (or_none (end_of I (multiplier_at (multipliers ms) k))) (factors-number ms k) (ends-number I good ms k));
-        is = is;
-      })
+pub mults_low-number : (I : Instance) → IsInstance I → (ms : List Mult) (f : Frac) → IsNumber (low_sum I (ratio f) (multipliers ms))
+mults_low-number I good ms f =
+    total-number (ratio f) (length (multipliers ms)) (λ k. product (multiplier_at (multipliers ms) k).by (or_none (end_of I (multiplier_at (multipliers ms) k)))) f.above
+    (λ k. product-number (multiplier_at (multipliers ms) k).by (or_none (end_of I (multiplier_at (multipliers ms) k))) (factors-number ms k) (ends-number I good ms k))
 
-  fits_start : LowFits I (start I (aim z)) (multipliers ms)
-  fits_start = subst (λ t. LowFits I t (multipliers ms)) ef fits
+module _ (I : Instance) (ms : List Multiplier) (z : Option Frac) (f s : Frac) (ef : ratio f ≡ start I (aim z)) (pl : IsNumber (low_sum I (ratio f) ms)) (fits : LowFits I (ratio f) ms) (is : IsSame (ratio s) (low_sum I (ratio f) ms)) where
+  near : ratio s ≈ low_sum I (start I (aim z)) ms
+  near = subst (λ t. ratio s ≈ low_sum I t ms) ef (record { left = s.above; right = pl; is = is })
 
-  pub has_sum : ReachesBound (aim z) (ratio s) → HasSum I (multipliers ms) (aim z)
-  has_sum r = record { fits = fits_start; reaches = reaches_same (aim z) (ratio s) (low_sum I (start I (aim z)) (multipliers ms)) (aim-number z) near r }
+  fits_start : LowFits I (start I (aim z)) ms
+  fits_start = subst (λ t. LowFits I t ms) ef fits
 
-  pub lacks_sum : (node : ℕ) → (ReachesBound (aim z) (ratio s) → ⊥) → SumRefuses I (multipliers ms) (aim z) node (Sum node)
-  lacks_sum node fails = inr (fits_start, λ r. fails (reaches_same (aim z) (low_sum I (start I (aim z)) (multipliers ms)) (ratio s) (aim-number z) (≈-sym near) r), refl)
+  pub has_sum : ReachesBound (aim z) (ratio s) → HasSum I ms (aim z)
+  has_sum r = record { fits = fits_start; reaches = reaches_same (aim z) (ratio s) (low_sum I (start I (aim z)) ms) (aim-number z) near r }
+
+  pub lacks_sum : (node : ℕ) → (ReachesBound (aim z) (ratio s) → ⊥) → SumRefuses I ms (aim z) node (Sum node)
+  lacks_sum node fails = inr (fits_start, λ r. fails (reaches_same (aim z) (low_sum I (start I (aim z)) ms) (ratio s) (aim-number z) (≈-sym near) r), refl)

@@ -14,14 +14,14 @@ use Rattle.evidence.specs.Levels.{IsReachedEnd}
 use Rattle.instance.specs.Parts.{Parts}
 use Rattle.instance.specs.Program.{variable, row, goal, goals, program}
 use Rattle.certificate.specs.Meanings as Means
-use Rattle.certificate.specs.declared.lists.Mult.{Mult}
+use Rattle.certificate.specs.declared.nodes.Round.{Round}
 use Rattle.certificate.specs.declared.nodes.Cert.{Cert}
 use Rattle.cert_checker.specs.declared.at_hand.Added.{Added}
 use Rattle.cert_checker.specs.declared.refused.Refused.{Refused}
 use Rattle.cert_checker.specs.declared.refused.Refused.TheVariants.{Level}
 use Rattle.cert_checker.specs.declared.refused.Unshown.TheVariants.{Wide}
-use Rattle.cert_checker.specs.Programs.{coefficient, with_rows, numerators, MakesRound}
-use Rattle.cert_checker.specs.RoundRefusals.{RoundRefuses, RoundsRefuse, IsAfterRounds, LeadsThroughRounds}
+use Rattle.cert_checker.specs.Programs.{coefficient, with_rows, numerators, GivesRow}
+use Rattle.cert_checker.specs.RoundRefusals.{AnyRoundRefuses, RoundsRefuse, IsAfterRounds, LeadsThroughRounds}
 use Rattle.cert_checker.specs.Reached.{at_level, TreeIsRefused}
 use Rattle.cert_checker.specs.LevelRefusals.{Ending, EndIsWide, LevelsRefuse, LeadsUp}
 use Rattle.cert_checker.proofs.AddedLeads.{drop_at, drop_map, rows_with, round_on, level_on, level_with, level_refused, level_wide, no_rounds_shows}
@@ -68,29 +68,29 @@ pub leads_first : (p : Parts) (values : List Frac) (certs : List Cert) (rs : Lis
 leads_first p values certs rs end = record { shown = λ s. s; refused = λ r q. q }
 
 -- one round, as the code makes it
-module _ (p : Parts) (rounds : List (List Mult)) (rs : List Added) (k : ℕ) (ms : List Mult) (h : k < length rounds) (is : ms ≡ slice_index_or rounds k ms)
+module _ (p : Parts) (rounds : List Round) (rs : List Added) (k : ℕ) (w : Round) (h : k < length rounds) (is : w ≡ slice_index_or rounds k w)
     (leads : LeadsThroughRounds (program p) (Means.rounds rounds) 1 (with_rows (program p) (take k rs)) (drop k (Means.rounds rounds)) (k + 1)) where
-  at_round : LeadsThroughRounds (program p) (Means.rounds rounds) 1 (with_rows (program p) (take k rs)) (Means.multipliers ms ∷ drop (k + 1) (Means.rounds rounds)) (k + 1)
-  at_round = subst (λ l. LeadsThroughRounds (program p) (Means.rounds rounds) 1 (with_rows (program p) (take k rs)) l (k + 1)) (drop_map Means.multipliers rounds k ms h is) leads
+  at_round : LeadsThroughRounds (program p) (Means.rounds rounds) 1 (with_rows (program p) (take k rs)) (Means.round w ∷ drop (k + 1) (Means.rounds rounds)) (k + 1)
+  at_round = subst (λ l. LeadsThroughRounds (program p) (Means.rounds rounds) 1 (with_rows (program p) (take k rs)) l (k + 1)) (drop_map Means.round rounds k w h is) leads
 
-  pub round_refused : (r : Refused) → RoundRefuses (with_rows (program p) (take k rs)) (Means.multipliers ms) (k + 1) r → RoundsRefuse (program p) (Means.rounds rounds) 1 r
+  pub round_refused : (r : Refused) → AnyRoundRefuses (with_rows (program p) (take k rs)) (Means.round w) (k + 1) r → RoundsRefuse (program p) (Means.rounds rounds) 1 r
   round_refused r q = (at_round).refused r (inl q)
 
-  pub round_next : (slots : List (Option Frac)) (low : ℤ) (a : Added) → k < length rs → MakesRound (with_rows (program p) (take k rs)) (Means.multipliers ms) slots low → row a.ends ≡ record { lb = Some (whole low); ub = None } → ((j : ℕ) → j < length p.vars → coefficient a j ≡ whole (number_at (numerators slots) j)) →
+  pub round_next : (slots : List (Option Frac)) (low : ℤ) (a : Added) → k < length rs → GivesRow (with_rows (program p) (take k rs)) (Means.round w) slots low → row a.ends ≡ record { lb = Some (whole low); ub = None } → ((j : ℕ) → j < length p.vars → coefficient a j ≡ whole (number_at (numerators slots) j)) →
       LeadsThroughRounds (program p) (Means.rounds rounds) 1 (with_rows (program p) (take (k + 1) (slice_set rs k a))) (drop (k + 1) (Means.rounds rounds)) (k + 1 + 1)
   round_next slots low a g made ends same =
       let J : Instance = with_rows (program p) (take k rs) in
       let f : ℕ → Ratio = λ j. whole (number_at (numerators slots) j) in
       let n = length-map p.vars variable in
-      round_on (program p) (Means.rounds rounds) 1 J (Means.multipliers ms) (drop (k + 1) (Means.rounds rounds)) (k + 1) (with_rows (program p) (take (k + 1) (slice_set rs k a))) (numerators slots) low made.cut made.fits
+      round_on (program p) (Means.rounds rounds) 1 J (Means.round w) (drop (k + 1) (Means.rounds rounds)) (k + 1) (with_rows (program p) (take (k + 1) (slice_set rs k a))) (numerators slots) low made.cut made.fits
       (rows_with (program p) rs k a f g (λ j l. same j (omega arith)) ∙ ap (λ r. with_row J r f) ends) at_round
 
-pub rounds_first : (p : Parts) (rounds : List (List Mult)) (rs : List Added) → LeadsThroughRounds (program p) (Means.rounds rounds) 1 (with_rows (program p) (take 0 rs)) (drop 0 (Means.rounds rounds)) (0 + 1)
+pub rounds_first : (p : Parts) (rounds : List Round) (rs : List Added) → LeadsThroughRounds (program p) (Means.rounds rounds) 1 (with_rows (program p) (take 0 rs)) (drop 0 (Means.rounds rounds)) (0 + 1)
 rounds_first p rounds rs = record { after = λ K a. a; refused = λ r q. q }
 
-pub rounds_last : (p : Parts) (rounds : List (List Mult)) (rs : List Added) (k : ℕ) → k ≡ length rounds → LeadsThroughRounds (program p) (Means.rounds rounds) 1 (with_rows (program p) (take k rs)) (drop k (Means.rounds rounds)) (k + 1) → IsAfterRounds (program p) (Means.rounds rounds) (with_rows (program p) (take (length rounds) rs))
+pub rounds_last : (p : Parts) (rounds : List Round) (rs : List Added) (k : ℕ) → k ≡ length rounds → LeadsThroughRounds (program p) (Means.rounds rounds) 1 (with_rows (program p) (take k rs)) (drop k (Means.rounds rounds)) (k + 1) → IsAfterRounds (program p) (Means.rounds rounds) (with_rows (program p) (take (length rounds) rs))
 rounds_last p rounds rs k e leads =
-    let n = length-map rounds Means.multipliers in
+    let n = length-map rounds Means.round in
     let J : Instance = with_rows (program p) (take k rs) in
     let end : drop k (Means.rounds rounds) ≡ [] = drop_all (Means.rounds rounds) k (omega arith) in
     subst (λ m. IsAfterRounds (program p) (Means.rounds rounds) (with_rows (program p) (take m rs))) e (leads.after J (subst (λ l. IsAfterRounds J l J) (sym end) refl))

@@ -17,10 +17,10 @@ illegal_once I ms told r s (c, h, e) (d, k, f) =
     let same : h.at ≡ k.at = first_once (IsPair I ms) h.at k.at (record { below = h.below; fails = h.out }) (record { below = k.below; fails = k.out }) in
     e ∙ ap told (h.is ∙ ap (λ (i : ℕ). (multiplier_at ms i).column) same ∙ sym k.is) ∙ sym f
 
-sign_once : (I : Instance) (ms : List Multiplier) (n : ℕ) (r s : Unshown) → SignRefuses I ms n r → SignRefuses I ms n s → r ≡ s
+pub sign_once : (I : Instance) (ms : List Multiplier) (n : ℕ) (r s : Unshown) → SignRefuses I ms n r → SignRefuses I ms n s → r ≡ s
 sign_once I ms n r s h k = illegal_once I ms (Sign n) r s h k
 
-not_legal : (I : Instance) (ms : List Multiplier) (n : ℕ) (r : Unshown) → SignRefuses I ms n r → AreLegal I ms → ⊥
+pub not_legal : (I : Instance) (ms : List Multiplier) (n : ℕ) (r : Unshown) → SignRefuses I ms n r → AreLegal I ms → ⊥
 not_legal I ms n r (c, h, e) legal = h.out (pair_of I ms legal h.at h.inside)
 
 abbrev IsWanted : Instance → List Multiplier → Option Ratio → ℕ → Type 0
@@ -59,13 +59,13 @@ Off I g n r = (j : ℕ) × IsFirstOff I g j × (r ≡ Step n j)
 off_once : (I : Instance) (g : Ratio) (n : ℕ) (r s : Unshown) → Off I g n r → Off I g n s → r ≡ s
 off_once I g n r s (i, h, e) (j, k, f) = e ∙ ap (Step n) (first_once (GoesInSteps I g) i j (record { below = h.below; fails = h.off }) (record { below = k.below; fails = k.off })) ∙ sym f
 
-abbrev Goes : Instance → Ratio → Type 0
+abbrev pub Goes : Instance → Ratio → Type 0
 Goes I g = IsBelow none g × StepsBelow I g (width I)
 
-step_once : (I : Instance) (g : Ratio) (n : ℕ) (r s : Unshown) → StepRefuses I g n r → StepRefuses I g n s → r ≡ s
+pub step_once : (I : Instance) (g : Ratio) (n : ℕ) (r s : Unshown) → StepRefuses I g n r → StepRefuses I g n s → r ≡ s
 step_once I g n r s h k = stage_once (IsBelow none g) (λ (q : Unshown). q ≡ Step n (width I)) (Off I g n) r s (λ e f. e ∙ sym f) (off_once I g n r s) h k
 
-not_step : (I : Instance) (g : Ratio) (n : ℕ) (r : Unshown) → StepRefuses I g n r → Goes I g → ⊥
+pub not_step : (I : Instance) (g : Ratio) (n : ℕ) (r : Unshown) → StepRefuses I g n r → Goes I g → ⊥
 not_step I g n r (inl (low, e)) goes = low goes.0
 not_step I g n r (inr (up, (j, h, e))) goes = h.off (goes.1 j h.inside)
 

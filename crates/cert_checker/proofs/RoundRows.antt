@@ -45,7 +45,7 @@ ceiling_same x y k e c =
     let a = above.is in
     record { low = omega (arith, ints); high = omega (arith, ints) }
 
-numerator_at : (slots : List (Option Frac)) (j : ℕ) (f : Frac) → slot_at slots j ≡ Some f → number_at (numerators slots) j ≡ f.numer
+pub numerator_at : (slots : List (Option Frac)) (j : ℕ) (f : Frac) → slot_at slots j ≡ Some f → number_at (numerators slots) j ≡ f.numer
 numerator_at slots j f e = ListN.get_or-map numerator slots j None ∙ ap numerator e
 
 whole_is : (f : Frac) → IsWhole (ratio f) → ratio f ≡ whole f.numer

@@ -1,6 +1,6 @@
 -- Which refusal of a leaf on the goal's grid is the first.
 use Rattle.std.specs.Prelude.{◌≡◌, ℕ, ◌<◌, ◌⊎◌, ℤ, Option, None, Some, IsTrue, List}
-use Rattle.rational.specs.Ratio.{Ratio, whole, sum, product, quotient, IsSame, IsBelow, IsAtMost}
+use Rattle.rational.specs.Ratio.{Ratio, whole, sum, product, quotient, IsNumber, IsSame, IsBelow, IsAtMost}
 use Rattle.evidence.specs.Sums.{none, IsCeiling, IsMultiple}
 use Rattle.evidence.specs.Instance.{Instance, width, variable_at, cost_at, minimising}
 use Rattle.evidence.specs.Cases.{Multiplier, low_sum, AreLegal}
@@ -26,6 +26,12 @@ pub record IsFirstOff (I : Instance) (g : Ratio) (j : ℕ) : Type 0 where
 -- the step isn't above 0, which is told past all variables, or isn't one of the goal
 abbrev pub StepRefuses : Instance → Ratio → ℕ → Unshown → Type 0
 StepRefuses I g node r = ((IsBelow none g → ⊥) × (r ≡ Step node (width I))) ⊎ (IsBelow none g × ((j : ℕ) × IsFirstOff I g j × (r ≡ Step node j)))
+
+-- the number is the low sum, which fits
+pub record IsLow (I : Instance) (ms : List Multiplier) (low : Ratio) : Type 0 where
+  pub number : IsNumber (low_sum I none ms)
+  pub fits : LowFits I none ms
+  pub is : IsSame low (low_sum I none ms)
 
 -- the low sum, rounded up to a whole number of steps, reaches z
 pub record ReachesInSteps (I : Instance) (g : Ratio) (ms : List Multiplier) (z : Ratio) : Type 0 where

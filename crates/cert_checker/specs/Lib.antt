@@ -6,7 +6,10 @@ pub mod Points
 pub mod Rays
 pub mod Leaves
 pub mod Grids
+pub mod RowLeaves
 pub mod Trees
+pub mod Lefts
+pub mod RowRounds
 pub mod RoundRefusals
 pub mod LevelRefusals
 pub mod Refusals

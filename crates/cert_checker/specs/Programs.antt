@@ -9,9 +9,9 @@ use Rattle.evidence.specs.Instance as Of
 use Rattle.evidence.specs.Point.{value_at}
 use Rattle.evidence.specs.Sums.{none}
 use Rattle.evidence.specs.Cases.{Multiplier, low_sum}
-use Rattle.evidence.specs.Width.{LowFits, LeafFits}
+use Rattle.evidence.specs.Width.{LowFits}
 use Rattle.evidence.specs.OneDenominator.{number_at}
-use Rattle.evidence.specs.Rounds.{IsCeiling, IsRoundingCut}
+use Rattle.evidence.specs.Rounds.{IsCeiling, Round, RoundBy, IsRound, RoundFits}
 use Rattle.evidence.specs.AddedRows.{with_row}
 use Rattle.instance.specs.declared.parts.Goal.{Goal}
 use Rattle.instance.specs.Parts.{Parts}
@@ -60,12 +60,16 @@ numerator (Some x) = x.numer
 abbrev pub numerators : List (Option Frac) → List ℤ
 numerators slots = map numerator slots
 
--- the multipliers are a round, whose sums fit, and whose row's coefficients these are
-pub record MakesRound (I : Of.Instance) (ms : List Multiplier) (slots : List (Option Frac)) (k : ℤ) : Type 0 where
-  pub cut : IsRoundingCut I ms (numerators slots) k
-  pub fits : LeafFits I none ms
+-- the round has this row, with these coefficients and this lower end, by sums that fit
+pub record GivesRow (I : Of.Instance) (r : Round) (slots : List (Option Frac)) (k : ℤ) : Type 0 where
+  pub cut : IsRound I r (numerators slots) k
+  pub fits : RoundFits I r (numerators slots)
   pub low : neg_ℤ (pos most) ≤ℤ k
   pub row : HoldsRow (Of.width I) (λ j. whole (number_at (numerators slots) j)) slots
+
+-- the multipliers do by themselves
+abbrev pub MakesRound : Of.Instance → List Multiplier → List (Option Frac) → ℤ → Type 0
+MakesRound I ms slots k = GivesRow I (RoundBy ms) slots k
 
 -- legal multipliers have sums as a round's must be, which fit, and this is the sum of the ends: rounded up, it makes the round
 pub record MayRound (I : Of.Instance) (ms : List Multiplier) (slots : List (Option Frac)) (sum : Frac) : Type 0 where

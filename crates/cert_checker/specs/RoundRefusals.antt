@@ -4,11 +4,13 @@ use Rattle.rational.specs.Ratio.{IsSame}
 use Rattle.evidence.specs.Sums.{none, IsWhole}
 use Rattle.evidence.specs.Instance.{Instance, width, variable_at}
 use Rattle.evidence.specs.Cases.{Multiplier, AreLegal, form}
-use Rattle.evidence.specs.Width.{FormFits, LowFits, LeafFits}
-use Rattle.evidence.specs.Rounds.{IsRoundingCut, derive}
+use Rattle.evidence.specs.Width.{FormFits, LowFits}
+use Rattle.evidence.specs.Rounds as With
+use Rattle.evidence.specs.Rounds.{IsRound, RoundFits, derive}
 use Rattle.cert_checker.specs.declared.refused.Refused.{Refused}
 use Rattle.cert_checker.specs.declared.refused.Refused.TheVariants.{Round, WideRound}
 use Rattle.cert_checker.specs.Leaves.{IsFirstIllegal}
+use Rattle.cert_checker.specs.RowRounds.{RowRoundRefuses}
 
 -- at variable j the sum of columns is whole, and 0 where the variable isn't
 abbrev pub IsWholeForm : Instance → List Multiplier → ℕ → Type 0
@@ -47,19 +49,24 @@ RoundRefuses I ms round r =
     ⊎ (AreLegal I ms × PartRefuses I ms round r)
     ⊎ (AreLegal I ms × WholeFormsBelow I ms (width I) × (LowFits I none ms → ⊥) × (r ≡ WideRound round))
 
+-- of any round
+abbrev pub AnyRoundRefuses : Instance → With.Round → ℕ → Refused → Type 0
+AnyRoundRefuses I (With.RoundBy ms) round r = RoundRefuses I ms round r
+AnyRoundRefuses I (With.RoundByRows ms) round r = RowRoundRefuses I ms round r
+
 -- the first round that is refused, of those numbered from the given number on; each is over the rows of those before it
-abbrev pub RoundsRefuse : Instance → List (List Multiplier) → ℕ → Refused → Type 0
+abbrev pub RoundsRefuse : Instance → List With.Round → ℕ → Refused → Type 0
 RoundsRefuse I [] round r = ⊥
-RoundsRefuse I (ms ∷ rounds) round r =
-    RoundRefuses I ms round r
-    ⊎ ((cs : List ℤ) × (k : ℤ) × IsRoundingCut I ms cs k × LeafFits I none ms × RoundsRefuse (derive I cs k) rounds (round + 1) r)
+RoundsRefuse I (w ∷ rounds) round r =
+    AnyRoundRefuses I w round r
+    ⊎ ((cs : List ℤ) × (k : ℤ) × IsRound I w cs k × RoundFits I w cs × RoundsRefuse (derive I cs k) rounds (round + 1) r)
 
 -- the instance with the rows of all rounds
-abbrev pub IsAfterRounds : Instance → List (List Multiplier) → Instance → Type 0
+abbrev pub IsAfterRounds : Instance → List With.Round → Instance → Type 0
 IsAfterRounds I [] J = I ≡ J
-IsAfterRounds I (ms ∷ rounds) J = (cs : List ℤ) × (k : ℤ) × IsRoundingCut I ms cs k × LeafFits I none ms × IsAfterRounds (derive I cs k) rounds J
+IsAfterRounds I (w ∷ rounds) J = (cs : List ℤ) × (k : ℤ) × IsRound I w cs k × RoundFits I w cs × IsAfterRounds (derive I cs k) rounds J
 
 -- the rest of the rounds leads to all of them: the rows after it are those after all, and its first refusal is that of all
-pub record LeadsThroughRounds (I : Instance) (rounds : List (List Multiplier)) (round : ℕ) (J : Instance) (rest : List (List Multiplier)) (next : ℕ) : Type 0 where
+pub record LeadsThroughRounds (I : Instance) (rounds : List With.Round) (round : ℕ) (J : Instance) (rest : List With.Round) (next : ℕ) : Type 0 where
   pub after : (K : Instance) → IsAfterRounds J rest K → IsAfterRounds I rounds K
   pub refused : (r : Refused) → RoundsRefuse J rest next r → RoundsRefuse I rounds round r

@@ -4,8 +4,8 @@ use Rattle.rational.specs.Ratio.{Ratio, sum, negative, IsSame}
 use Rattle.rational.specs.Width.{IsReduced}
 use Rattle.evidence.specs.Instance.{Goal, Instance, minimising}
 use Rattle.evidence.specs.Point.{IsRay}
-use Rattle.evidence.specs.Cases.{Multiplier, Tree, Node, preorder, Shows}
-use Rattle.evidence.specs.Rounds.{Certificate, IsRoundingCut, derive}
+use Rattle.evidence.specs.Cases.{Tree, Node, preorder, Shows}
+use Rattle.evidence.specs.Rounds.{Certificate, Round, IsRound, derive}
 use Rattle.evidence.specs.Levels.{next_level}
 use Rattle.cert_checker.specs.declared.refused.Refused.{Refused}
 use Rattle.cert_checker.specs.declared.refused.Refused.TheVariants.{WideRound, Level}
@@ -13,9 +13,9 @@ use Rattle.cert_checker.specs.declared.refused.Unshown.TheVariants.{Wide}
 use Rattle.cert_checker.specs.LevelRefusals.{Ending, Best, Endless}
 
 -- the tree shows it of the instance with the rounds' rows
-abbrev pub Settles : Instance → List (List Multiplier) → List Node → Option Ratio → Type 0
+abbrev pub Settles : Instance → List Round → List Node → Option Ratio → Type 0
 Settles I [] nodes z = (tree : Tree) × (nodes ≡ preorder tree) × Shows I tree z
-Settles I (ms ∷ rounds) nodes z = (cs : List ℤ) × (k : ℤ) × IsRoundingCut I ms cs k × Settles (derive I cs k) rounds nodes z
+Settles I (r ∷ rounds) nodes z = (cs : List ℤ) × (k : ℤ) × IsRound I r cs k × Settles (derive I cs k) rounds nodes z
 
 -- e, in lowest terms, is the minimising value v without the goal's constant
 pub record IsReachedValue (I : Instance) (v e : Ratio) : Type 0 where

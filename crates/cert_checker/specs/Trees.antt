@@ -2,12 +2,13 @@
 use Rattle.std.specs.Prelude.{◌≡◌, ℕ, ◌+◌, ◌⊎◌, pos, ◌+ℤ◌, Option, None, Some, List, [], ◌∷◌}
 use Rattle.rational.specs.Ratio.{Ratio}
 use Rattle.evidence.specs.Instance.{Instance}
-use Rattle.evidence.specs.Cases.{Node, ClashAt, FarkasBy, BoundBy, GridBy, SplitAt, ZeroAt, IsBranch, IsZeroBranch, at_most, at_least, at_zero, unless_zero}
+use Rattle.evidence.specs.Cases.{Node, ClashAt, FarkasBy, BoundBy, GridBy, FarkasByRows, BoundByRows, GridByRows, SplitAt, ZeroAt, IsBranch, IsZeroBranch, at_most, at_least, at_zero, unless_zero}
 use Rattle.evidence.specs.PendingNodes.{ShowsAll}
 use Rattle.cert_checker.specs.declared.refused.Unshown.{Unshown}
 use Rattle.cert_checker.specs.declared.refused.Unshown.TheVariants.{Tree}
 use Rattle.cert_checker.specs.Leaves.{LeafHolds, LeafRefuses, ClashHolds, ClashRefuses}
 use Rattle.cert_checker.specs.Grids.{GridLeafHolds, GridLeafRefuses}
+use Rattle.cert_checker.specs.RowLeaves.{RowLeafHolds, RowLeafRefuses, BoundRowsHold, BoundRowsRefuse, GridRowLeafHolds, GridRowLeafRefuses}
 
 -- the first node, of those numbered from the given number on, that is refused: it isn't needed, or is missing, or has no place,
 -- or doesn't show its case; the nodes before it do
@@ -20,6 +21,9 @@ TreeRefuses (I ∷ cases) (FarkasBy ms ∷ nodes) z number r = LeafRefuses I ms 
 TreeRefuses (I ∷ cases) (BoundBy ms ∷ nodes) None number r = r ≡ Tree number
 TreeRefuses (I ∷ cases) (BoundBy ms ∷ nodes) (Some z) number r = LeafRefuses I ms (Some z) number r ⊎ (LeafHolds I ms (Some z) × TreeRefuses cases nodes (Some z) (number + 1) r)
 TreeRefuses (I ∷ cases) (GridBy g ms ∷ nodes) z number r = GridLeafRefuses I g ms z number r ⊎ (GridLeafHolds I g ms z × TreeRefuses cases nodes z (number + 1) r)
+TreeRefuses (I ∷ cases) (FarkasByRows ms ∷ nodes) z number r = RowLeafRefuses I ms None number r ⊎ (RowLeafHolds I ms None × TreeRefuses cases nodes z (number + 1) r)
+TreeRefuses (I ∷ cases) (BoundByRows ms ∷ nodes) z number r = BoundRowsRefuse I ms z number r ⊎ (BoundRowsHold I ms z × TreeRefuses cases nodes z (number + 1) r)
+TreeRefuses (I ∷ cases) (GridByRows g ms ∷ nodes) z number r = GridRowLeafRefuses I g ms z number r ⊎ (GridRowLeafHolds I g ms z × TreeRefuses cases nodes z (number + 1) r)
 TreeRefuses (I ∷ cases) (SplitAt j k ∷ nodes) z number r =
     ((IsBranch I j k → ⊥) × (r ≡ Tree number)) ⊎ (IsBranch I j k × TreeRefuses (at_most I j k ∷ at_least I j (k +ℤ pos 1) ∷ cases) nodes z (number + 1) r)
 TreeRefuses (I ∷ cases) (ZeroAt j ∷ nodes) z number r =

@@ -40,7 +40,7 @@ pub(crate) fn add_columns(
 }
 
 /// What the sum at a variable should be: its cost in the minimising objective where a value is aimed at, else 0.
-fn wanted(program: &Program, aim: Option<Frac>, j: usize) -> Frac
+pub(crate) fn wanted(program: &Program, aim: Option<Frac>, j: usize) -> Frac
     ensures { (cs : List tree.Cut) → ratio result ≡ Leaf.wanted (cut program.now cs) (Of.aim aim) j }
 {
     match aim {

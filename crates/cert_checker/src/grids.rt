@@ -7,9 +7,10 @@ ghost use Rattle.evidence.specs.Instance.{Instance, IsInstance, width, cost_at, 
 ghost use Rattle.evidence.specs.Cases.{Multiplier, AreLegal, IsGrid};
 ghost use Rattle.evidence.specs.Width.{LeafFits, StepsFit};
 ghost use Rattle.certificate.specs.Meanings.{multipliers};
+ghost use Rattle.case_tree.specs.declared.cuts.Cut as tree;
 ghost use Rattle.case_tree.specs.Cuts.{cut};
 ghost use Rattle.cert_checker.specs.Cuts as Of;
-ghost use Rattle.cert_checker.specs.Grids.{GoesInSteps, StepsBelow, IsFirstOff, StepsRefuse, GridFits, ReachesInSteps, GridHolds, GridRefuses, GridLeafHolds, GridLeafRefuses};
+ghost use Rattle.cert_checker.specs.Grids.{IsLow, StepsBelow, IsFirstOff, StepRefuses, StepsRefuse, GridFits, ReachesInSteps, GridHolds, GridRefuses, GridLeafHolds, GridLeafRefuses};
 
 use crate::at_hand::Program;
 use crate::forms::check_forms;
@@ -40,6 +41,36 @@ fn rounded_up(x: Frac) -> Frac
     whole(steps)
 }
 
+/// Whether a low sum, rounded up to a whole number of steps, reaches the value that is aimed at. It is that of any multipliers.
+pub(crate) fn check_value(
+    program: &Program,
+    low: Frac,
+    step: Frac,
+    aim: Frac,
+    node: u32,
+) -> Result<(), Unshown>
+    requires above { pos 0 <ℤ step.numer }
+    ensures fits { OnOk result ((cs : List tree.Cut) (ms : List Multiplier) → IsLow (cut program.now cs) ms (ratio low) → GridFits (cut program.now cs) (ratio step) ms) }
+    ensures ok { OnOk result ((cs : List tree.Cut) (ms : List Multiplier) → IsLow (cut program.now cs) ms (ratio low) → ReachesInSteps (cut program.now cs) (ratio step) ms (ratio aim)) }
+    ensures err { IfErr result (λ r. (cs : List tree.Cut) (ms : List Multiplier) → IsLow (cut program.now cs) ms (ratio low) → StepsRefuse (cut program.now cs) (ratio step) ms (ratio aim) node r) }
+{
+    match low.div(step) {
+        Err(_) => Err(Unshown::Wide { node }),
+        Ok(steps) => {
+            match add_product(program.constant(), rounded_up(steps), step) {
+                Err(_) => Err(Unshown::Wide { node }),
+                Ok(value) => {
+                    if is_at_most(aim, value) {
+                        Ok(())
+                    } else {
+                        Err(Unshown::Sum { node })
+                    }
+                }
+            }
+        }
+    }
+}
+
 /// Whether the low sum, rounded up to a whole number of steps, reaches the value that is aimed at.
 fn check_steps(
     program: &Program,
@@ -59,23 +90,7 @@ fn check_steps(
 {
     match low_sum(program, cuts, mults, zero()) {
         Err(_) => Err(Unshown::Wide { node }),
-        Ok(low) => {
-            match low.div(step) {
-                Err(_) => Err(Unshown::Wide { node }),
-                Ok(steps) => {
-                    match add_product(program.constant(), rounded_up(steps), step) {
-                        Err(_) => Err(Unshown::Wide { node }),
-                        Ok(value) => {
-                            if is_at_most(aim, value) {
-                                Ok(())
-                            } else {
-                                Err(Unshown::Sum { node })
-                            }
-                        }
-                    }
-                }
-            }
-        }
+        Ok(low) => check_value(program, low, step, aim, node),
     }
 }
 
@@ -107,6 +122,28 @@ fn first_off(program: &Program, cuts: &[Cut], step: Frac) -> Option<u32>
     None
 }
 
+/// Whether the goal goes in the step, which is above 0.
+pub(crate) fn check_step(
+    program: &Program,
+    cuts: &[Cut],
+    step: Frac,
+    node: u32,
+) -> Result<(), Unshown>
+    requires { length cuts.now ≡ width program.now }
+    ensures above { OnOk result (IsBelow none (ratio step)) }
+    ensures costs { OnOk result (StepsBelow (cut program.now cuts.now) (ratio step) (length cuts.now)) }
+    ensures err { IfErr result (StepRefuses (cut program.now cuts.now) (ratio step) node) }
+{
+    if step.numer <= 0 {
+        let col = program.vars().len() as u32;
+        return Err(Unshown::Step { node, col });
+    }
+    match first_off(program, cuts, step) {
+        Some(col) => Err(Unshown::Step { node, col }),
+        None => Ok(()),
+    }
+}
+
 /// Whether the multipliers show, on a grid with this step, that no point is better than the value that is aimed at.
 fn check_grid(
     program: &Program,
@@ -127,13 +164,7 @@ fn check_grid(
         return Err(Unshown::Sign { node, col });
     }
     check_forms(program, cuts, slots, mults, Some(aim), node)?;
-    if step.numer <= 0 {
-        let col = program.vars().len() as u32;
-        return Err(Unshown::Step { node, col });
-    }
-    if let Some(col) = first_off(program, cuts, step) {
-        return Err(Unshown::Step { node, col });
-    }
+    check_step(program, cuts, step, node)?;
     check_steps(program, cuts, mults, step, aim, node)
 }
 

@@ -32,6 +32,8 @@ mod point;
 mod ray;
 mod refused;
 mod rounds;
+mod row_leaves;
+mod row_rounds;
 mod scratch;
 mod slots;
 mod sums;

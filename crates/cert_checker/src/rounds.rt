@@ -12,8 +12,8 @@ ghost use Rattle.instance.specs.Program.{program};
 ghost use Rattle.certificate.specs.Meanings.{multipliers};
 ghost use Rattle.certificate.specs.Meanings as Means;
 ghost use Rattle.case_tree.specs.Cuts.{cut};
-ghost use Rattle.cert_checker.specs.Programs.{with_rows, AreUncut, AreWide, MakesRound, MayRound};
-ghost use Rattle.cert_checker.specs.RoundRefusals.{WholeFormsBelow, IsFirstPart, IsFirstUnfitPart, PartRefuses, IsWideRound, RoundRefuses, RoundsRefuse, IsAfterRounds};
+ghost use Rattle.cert_checker.specs.Programs.{with_rows, AreUncut, AreWide, GivesRow, MakesRound, MayRound};
+ghost use Rattle.cert_checker.specs.RoundRefusals.{WholeFormsBelow, IsFirstPart, IsFirstUnfitPart, PartRefuses, IsWideRound, RoundRefuses, AnyRoundRefuses, RoundsRefuse, IsAfterRounds};
 ghost use Rattle.cert_checker.specs.Slots.{slot_at, HoldsSum};
 
 use crate::added::put;
@@ -21,9 +21,10 @@ use crate::at_hand::{Added, Program};
 use crate::forms::add_columns;
 use crate::pairs::first_illegal;
 use crate::refused::Refused;
+use crate::row_rounds::check_row_round;
 use crate::sums::low_sum;
 use case_tree::{Cut, whole};
-use certificate::{Mult, Mults};
+use certificate::{Mult, Round};
 use fraction::{End, Frac, Wide};
 use instance::{Instance, Row, zero};
 
@@ -74,8 +75,8 @@ fn check_parts(
     Ok(())
 }
 
-/// The lower end of a round's row, whose coefficients the slots have afterwards.
-pub(crate) fn check_round(
+/// The lower end of the row of a round that is written whole, whose coefficients the slots have afterwards.
+fn check_whole_round(
     program: &Program,
     cuts: &[Cut],
     slots: &mut [Option<Frac>],
@@ -154,29 +155,49 @@ pub fn round_sum(
     sum_ends(&program, cuts, slots, mults)
 }
 
+/// The lower end of a round's row, whose coefficients the slots have afterwards.
+fn check_round(
+    program: &Program,
+    cuts: &[Cut],
+    slots: &mut [Option<Frac>],
+    cutting: &Round,
+    round: u32,
+) -> Result<i128, Refused>
+    requires count { length cuts.now ≡ width program.now }
+    requires numbers { IsInstance program.now }
+    requires room { length slots.old ≡ length cuts.now }
+    ensures ok { IfOk result (GivesRow (cut program.now cuts.now) (Means.round cutting.now) slots.new) }
+    ensures err { IfErr result (AnyRoundRefuses (cut program.now cuts.now) (Means.round cutting.now) round) }
+{
+    match cutting {
+        Round::Whole(mults) => check_whole_round(program, cuts, slots, mults.as_slice(), round),
+        Round::OfRows(mults) => check_row_round(program, cuts, slots, mults.as_slice(), round),
+    }
+}
+
 /// The lower end of a round's row, over an instance with the rows of the rounds before.
 fn check_next(
     instance: &Instance,
     added: &[Added],
     cuts: &[Cut],
     slots: &mut [Option<Frac>],
-    mults: &[Mult],
+    cutting: &Round,
     round: u32,
 ) -> Result<i128, Refused>
     requires uncut { AreUncut (program instance.now) cuts.now }
     requires room { length slots.old ≡ length cuts.now }
-    ensures ok { IfOk result (MakesRound (with_rows (program instance.now) added.now) (multipliers mults.now) slots.new) }
-    ensures err { IfErr result (RoundRefuses (with_rows (program instance.now) added.now) (multipliers mults.now) round) }
+    ensures ok { IfOk result (GivesRow (with_rows (program instance.now) added.now) (Means.round cutting.now) slots.new) }
+    ensures err { IfErr result (AnyRoundRefuses (with_rows (program instance.now) added.now) (Means.round cutting.now) round) }
 {
     let goals = instance.goals();
     let program = Program::of(instance, added, &goals[0]);
-    check_round(&program, cuts, slots, mults, round)
+    check_round(&program, cuts, slots, cutting, round)
 }
 
-/// Whether the multipliers are rounds, each over the rows of those before it. The first rows are theirs afterwards.
+/// Whether these are rounds, each over the rows of those before it. The first rows are theirs afterwards.
 pub(crate) fn check_rounds(
     instance: &Instance,
-    rounds: &[Mults],
+    rounds: &[Round],
     cuts: &[Cut],
     slots: &mut [Option<Frac>],
     added: &mut [Added],
@@ -191,8 +212,8 @@ pub(crate) fn check_rounds(
     ensures err { IfErr result (RoundsRefuse (program instance.now) (Means.rounds rounds.now) 1) }
 {
     for i in 0..rounds.len() {
-        let mults = rounds[i].as_slice();
-        let low = check_next(instance, &added[..i], cuts, slots, mults, i as u32 + 1)?;
+        let cutting = &rounds[i];
+        let low = check_next(instance, &added[..i], cuts, slots, cutting, i as u32 + 1)?;
         let ends = Row {
             lb: End::At(whole(low)),
             ub: End::Inf,

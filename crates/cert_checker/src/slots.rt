@@ -20,7 +20,7 @@ use fraction::{Entry, Frac, Wide};
 use instance::{add_product, one, zero};
 
 /// The sum with one more product, which is left out where a factor is 0; none where it doesn't fit.
-fn plus(slot: Option<Frac>, a: Frac, x: Frac) -> Option<Frac>
+pub(crate) fn plus(slot: Option<Frac>, a: Frac, x: Frac) -> Option<Frac>
     ensures { IsStep slot (ratio a) (ratio x) result }
 {
     match slot {

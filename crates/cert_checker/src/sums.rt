@@ -5,6 +5,7 @@ ghost use Rattle.fraction.specs.Frac.{ratio};
 ghost use Rattle.evidence.specs.Instance.{IsInstance, width};
 ghost use Rattle.evidence.specs.Cases.{multiplier_at, end_of, or_none, AreLegal, low_sum};
 ghost use Rattle.evidence.specs.Width.{LowFits};
+ghost use Rattle.instance.specs.Program.{limit};
 ghost use Rattle.certificate.specs.Meanings.{multipliers};
 ghost use Rattle.case_tree.specs.declared.cuts.Cut as tree;
 ghost use Rattle.case_tree.specs.Cuts.{cut};
@@ -19,6 +20,16 @@ use certificate::Mult;
 use fraction::{End, Frac, Wide};
 use instance::{add_product, zero};
 
+/// The end, 0 where there is none.
+pub(crate) fn or_zero(end: End) -> Frac
+    ensures { ratio result ≡ or_none (limit end) }
+{
+    match end {
+        End::At(number) => number,
+        _ => zero(),
+    }
+}
+
 /// The end that the multiplier bounds its column by.
 fn end_at(program: &Program, cuts: &[Cut], mults: &[Mult], k: usize) -> Frac
     requires count { length cuts.now ≡ width program.now }
@@ -28,10 +39,7 @@ fn end_at(program: &Program, cuts: &[Cut], mults: &[Mult], k: usize) -> Frac
 {
     let mult = mults[k];
     let ends = ends_of(program, cuts, mult.col as usize);
-    match end_by(ends, mult.value) {
-        End::At(end) => end,
-        _ => zero(),
-    }
+    or_zero(end_by(ends, mult.value))
 }
 
 /// A start, and the multipliers, each times its end.
@@ -57,7 +65,7 @@ pub(crate) fn low_sum(
 }
 
 /// What the sum begins with: the constant of the minimising objective where a value is aimed at, else 0.
-fn start_of(program: &Program, aim: Option<Frac>) -> Frac
+pub(crate) fn start_of(program: &Program, aim: Option<Frac>) -> Frac
     ensures { (cs : List tree.Cut) → ratio result ≡ Leaf.start (cut program.now cs) (Of.aim aim) }
 {
     match aim {
@@ -67,7 +75,7 @@ fn start_of(program: &Program, aim: Option<Frac>) -> Frac
 }
 
 /// Whether the sum is at least the value that is aimed at; without one, whether it is above 0.
-fn reaches(aim: Option<Frac>, sum: Frac) -> bool
+pub(crate) fn reaches(aim: Option<Frac>, sum: Frac) -> bool
     ensures { IsTrue result ↔ Leaf.ReachesBound (Of.aim aim) (ratio sum) }
 {
     match aim {

@@ -16,6 +16,7 @@ use crate::clash::check_clash;
 use crate::grids::check_grid_leaf;
 use crate::leaf::check_leaf;
 use crate::refused::Unshown;
+use crate::row_leaves::{check_bound_rows, check_grid_row_leaf, check_row_leaf};
 use case_tree::{Branch, Cut, Division, back, enter, is_branch, is_zero_branch, uncut};
 use certificate::Node;
 use fraction::Frac;
@@ -69,6 +70,15 @@ fn step(
         }
         Node::Grid { step, mults } => {
             check_grid_leaf(program, cuts, slots, mults.as_slice(), *step, aim, number)?
+        }
+        Node::FarkasRows(mults) => {
+            check_row_leaf(program, cuts, slots, mults.as_slice(), None, number)?
+        }
+        Node::BoundRows(mults) => {
+            check_bound_rows(program, cuts, slots, mults.as_slice(), aim, number)?
+        }
+        Node::GridRows { step, mults } => {
+            check_grid_row_leaf(program, cuts, slots, mults.as_slice(), *step, aim, number)?
         }
     }
     Ok(back(cuts, branches, depth))

@@ -21,6 +21,12 @@ pub enum Node {
     Bound(Mults),
     /// The same, where the goal's values go in such steps and the sum is rounded up to the next of them.
     Grid { step: Frac, mults: Mults },
+    /// As `Farkas`, where the multipliers of variables are left out, which those of the rows decide.
+    FarkasRows(Mults),
+    /// As `Bound`, where they are left out.
+    BoundRows(Mults),
+    /// As `Grid`, where they are left out.
+    GridRows { step: Frac, mults: Mults },
 }
 
 impl Drop for Node {
@@ -33,6 +39,9 @@ impl Drop for Node {
             Node::Farkas(_) => {}
             Node::Bound(_) => {}
             Node::Grid { step: _, mults: _ } => {}
+            Node::FarkasRows(_) => {}
+            Node::BoundRows(_) => {}
+            Node::GridRows { step: _, mults: _ } => {}
         }
     }
 }
@@ -49,6 +58,12 @@ impl TryCopy for Node {
                 step: *step,
                 mults: mults.try_copy(alloc)?,
             }),
+            Node::FarkasRows(mults) => Ok(Node::FarkasRows(mults.try_copy(alloc)?)),
+            Node::BoundRows(mults) => Ok(Node::BoundRows(mults.try_copy(alloc)?)),
+            Node::GridRows { step, mults } => {
+                let mults = mults.try_copy(alloc)?;
+                Ok(Node::GridRows { step: *step, mults })
+            }
         }
     }
 }
@@ -56,8 +71,35 @@ impl TryCopy for Node {
 /// The nodes of a tree of cases in preorder, numbered from 1.
 pub type Nodes = Items<Node>;
 
-/// Rounding cuts in order, each by multipliers of the columns before it.
-pub type Rounds = Items<Mults>;
+/// A rounding cut, by multipliers of the columns before it.
+#[derive(Debug)]
+pub enum Round {
+    /// By these multipliers.
+    Whole(Mults),
+    /// The same, where the multipliers of variables are left out, which those of the rows decide.
+    OfRows(Mults),
+}
+
+impl Drop for Round {
+    fn drop(self) {
+        match self {
+            Round::Whole(_) => {}
+            Round::OfRows(_) => {}
+        }
+    }
+}
+
+impl TryCopy for Round {
+    fn try_copy(&self, alloc: Global) -> Result<Round, AllocError> {
+        match self {
+            Round::Whole(mults) => Ok(Round::Whole(mults.try_copy(alloc)?)),
+            Round::OfRows(mults) => Ok(Round::OfRows(mults.try_copy(alloc)?)),
+        }
+    }
+}
+
+/// Rounding cuts in order, each over the rows of those before it.
+pub type Rounds = Items<Round>;
 
 /// A certificate: rounding cuts, each one more row, and the nodes of a tree of cases over all rows.
 #[derive(Debug)]

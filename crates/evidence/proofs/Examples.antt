@@ -18,7 +18,7 @@ use Rattle.evidence.proofs.Numbers.{one_times}
 use Rattle.evidence.proofs.Fits.{whole-reduced}
 use Rattle.evidence.specs.Instance.{alone, Instance, asking, variable_at, row_at, cost_at, entry_at, coefficient_at, minimising}
 use Rattle.evidence.specs.Point.{value_at, activity, objective, IsBetween, IsZeroOr, IsFeasible, NeverLeaves, NeverLeavesZeroOr, IsRay}
-use Rattle.evidence.specs.Cases.{Multiplier, Tree, Clash, Farkas, Bound, Grid, Split, Zero, Node, SplitAt, BoundBy, AreLegal, form, end_of, preorder, at_most, at_least, IsBound, IsFarkas, IsBranch, Shows, multiplier_at, or_none}
+use Rattle.evidence.specs.Cases.{Multiplier, Tree, Clash, Farkas, Bound, Grid, FarkasRows, BoundRows, GridRows, Split, Zero, Node, SplitAt, BoundBy, AreLegal, form, end_of, preorder, at_most, at_least, IsBound, IsFarkas, IsBranch, Shows, multiplier_at, or_none}
 use Rattle.evidence.specs.Claim.{Accepts}
 use Rattle.evidence.specs.Examples.{times, halves, two, half_a_proof, slope_example, upwards}
 
@@ -95,16 +95,16 @@ halves_feasible = record {
 low_case : Instance
 low_case = at_most halves 0 (pos 2)
 
-abbrev high_case : Instance
+abbrev pub high_case : Instance
 high_case = at_least halves 0 (pos 3)
 
-abbrev bound : List Multiplier
+abbrev pub bound : List Multiplier
 bound = times 0 (negsuc 0) ∷ []
 
-abbrev farkas : List Multiplier
+abbrev pub farkas : List Multiplier
 farkas = times 0 (pos 2) ∷ times 1 (negsuc 0) ∷ []
 
-bound_legal : AreLegal (at_most halves 0 (pos 2)) bound
+pub bound_legal : AreLegal (at_most halves 0 (pos 2)) bound
 bound_legal = record {
   numbers = just (λ m. IsNumber m.by) (times 0 (negsuc 0)) (lit< tt);
   columns = just (λ m. m.column < 2) (times 0 (negsuc 0)) (lit< tt);
@@ -113,7 +113,7 @@ bound_legal = record {
   ends = just (λ m. Rattle.std.specs.Prelude.IsSome (end_of (at_most halves 0 (pos 2)) m)) (times 0 (negsuc 0)) refl;
 }
 
-farkas_legal : AreLegal high_case farkas
+pub farkas_legal : AreLegal high_case farkas
 farkas_legal = record {
   numbers = two_of (λ m. IsNumber m.by) (times 0 (pos 2)) (times 1 (negsuc 0)) (lit< tt) (lit< tt);
   columns = two_of (λ m. m.column < 2) (times 0 (pos 2)) (times 1 (negsuc 0)) (lit< tt) (lit< tt);
@@ -139,14 +139,14 @@ coefficient_of I ms j k = coefficient_at I (multiplier_at ms k).column j
 abbrev end_at : Instance → List Multiplier → ℕ → Ratio
 end_at I ms k = or_none (end_of I (multiplier_at ms k))
 
-bound_fits : LeafFits (at_most halves 0 (pos 2)) none bound
+pub bound_fits : LeafFits (at_most halves 0 (pos 2)) none bound
 bound_fits = record {
   forms = one (λ j. FormFits (at_most halves 0 (pos 2)) bound j)
       (stated_one none (by_of bound) (coefficient_of (at_most halves 0 (pos 2)) bound 0) (wholes none (whole (negsuc 0)) (whole (pos 1)) (pos 0) (negsuc 0) (lit< tt) (lit< tt) refl refl (lit≤ tt) (lit≤ tt) (lit≤ tt)));
   low = stated_one none (by_of bound) (end_at (at_most halves 0 (pos 2)) bound) (wholes none (whole (negsuc 0)) (whole (pos 2)) (pos 0) (negsuc 1) (lit< tt) (lit< tt) refl refl (lit≤ tt) (lit≤ tt) (lit≤ tt));
 }
 
-farkas_fits : LeafFits high_case none farkas
+pub farkas_fits : LeafFits high_case none farkas
 farkas_fits = record {
   forms = one (λ j. FormFits high_case farkas j)
       (stated_two none (by_of farkas) (coefficient_of high_case farkas 0)
@@ -179,6 +179,9 @@ listed_some (Clash c) = omega arith
 listed_some (Farkas ms) = omega arith
 listed_some (Bound ms) = omega arith
 listed_some (Grid g ms) = omega arith
+listed_some (FarkasRows ms) = omega arith
+listed_some (BoundRows ms) = omega arith
+listed_some (GridRows g ms) = omega arith
 listed_some (Split j k a b) = omega arith
 listed_some (Zero j a b) = omega arith
 
@@ -187,6 +190,9 @@ not_two (Clash c) x y e = let l = ap length e in omega arith
 not_two (Farkas ms) x y e = let l = ap length e in omega arith
 not_two (Bound ms) x y e = let l = ap length e in omega arith
 not_two (Grid g ms) x y e = let l = ap length e in omega arith
+not_two (FarkasRows ms) x y e = let l = ap length e in omega arith
+not_two (BoundRows ms) x y e = let l = ap length e in omega arith
+not_two (GridRows g ms) x y e = let l = ap length e in omega arith
 not_two (Split j k a b) x y e = let l = ap length e in let m = length-append (preorder a) (preorder b) in let p = listed_some a in let q = listed_some b in omega arith
 not_two (Zero j a b) x y e = let l = ap length e in let m = length-append (preorder a) (preorder b) in let p = listed_some a in let q = listed_some b in omega arith
 

@@ -3,8 +3,8 @@ use Rattle.std.proofs.Common.{◌≡◌, ℕ, ◌+◌, ◌<◌, ℤ, pos, ◌+�
 use Rattle.rational.specs.Ratio.{Ratio}
 use Rattle.evidence.specs.Sums.{none}
 use Rattle.evidence.specs.Instance.{Instance, width, height, column_at, minimising}
-use Rattle.evidence.specs.Cases.{Multiplier, Tree, Clash, Farkas, Bound, Grid, Split, Zero, Node, ClashAt, FarkasBy, BoundBy, GridBy, SplitAt, ZeroAt, preorder, Shows, IsEmpty, IsFarkas, IsBound, IsGrid, IsBranch, IsZeroBranch, at_most, at_least, at_zero, unless_zero}
-use Rattle.evidence.specs.Width.{LeafFits, StepsFit, TreeFits, ProvesWithin}
+use Rattle.evidence.specs.Cases.{Multiplier, Tree, Clash, Farkas, Bound, Grid, FarkasRows, BoundRows, GridRows, Split, Zero, Node, ClashAt, FarkasBy, BoundBy, GridBy, FarkasByRows, BoundByRows, GridByRows, SplitAt, ZeroAt, preorder, Shows, IsEmpty, AreOfRows, completed, no_costs, goal_costs, IsFarkas, IsBound, IsGrid, IsBranch, IsZeroBranch, at_most, at_least, at_zero, unless_zero}
+use Rattle.evidence.specs.Width.{LeafFits, StepsFit, RowsFit, TreeFits, ProvesWithin}
 use Rattle.evidence.specs.PendingNodes.{ShowsEach, ShowsAll}
 
 -- whatever more is known of the trees
@@ -14,6 +14,9 @@ module _ (known : Instance → Tree → Type 0) (I : Instance) (Is : List Instan
   none_read (Farkas ms, rest, e, s, w, o) = cc
   none_read (Bound ms, rest, e, s, w, o) = cc
   none_read (Grid g ms, rest, e, s, w, o) = cc
+  none_read (FarkasRows ms, rest, e, s, w, o) = cc
+  none_read (BoundRows ms, rest, e, s, w, o) = cc
+  none_read (GridRows g ms, rest, e, s, w, o) = cc
   none_read (Split j k a b, rest, e, s, w, o) = cc
   none_read (Zero j a b, rest, e, s, w, o) = cc
 
@@ -26,6 +29,9 @@ module _ (known : Instance → Tree → Type 0) (I : Instance) (Is : List Instan
     clash_read c (Farkas ms, others, e, s, w, o) = absurd (cc)
     clash_read c (Bound ms, others, e, s, w, o) = absurd (cc)
     clash_read c (Grid h ns, others, e, s, w, o) = absurd (cc)
+    clash_read c (FarkasRows ns, others, e, s, w, o) = absurd (cc)
+    clash_read c (BoundRows ns, others, e, s, w, o) = absurd (cc)
+    clash_read c (GridRows h ns, others, e, s, w, o) = absurd (cc)
     clash_read c (Split j k a b, others, e, s, w, o) = absurd (cc)
     clash_read c (Zero j a b, others, e, s, w, o) = absurd (cc)
 
@@ -37,6 +43,9 @@ module _ (known : Instance → Tree → Type 0) (I : Instance) (Is : List Instan
         (subst (λ m. Shows I (Farkas m) z) p s, subst (λ m. known I (Farkas m)) p w, subst (λ r. ShowsEach known Is r z) q o)
     farkas_read ms (Bound ns, others, e, s, w, o) = absurd (cc)
     farkas_read ms (Grid h ns, others, e, s, w, o) = absurd (cc)
+    farkas_read ms (FarkasRows ns, others, e, s, w, o) = absurd (cc)
+    farkas_read ms (BoundRows ns, others, e, s, w, o) = absurd (cc)
+    farkas_read ms (GridRows h ns, others, e, s, w, o) = absurd (cc)
     farkas_read ms (Split j k a b, others, e, s, w, o) = absurd (cc)
     farkas_read ms (Zero j a b, others, e, s, w, o) = absurd (cc)
 
@@ -48,6 +57,9 @@ module _ (known : Instance → Tree → Type 0) (I : Instance) (Is : List Instan
         let q : others ≡ rest = cc in
         (subst (λ m. Shows I (Bound m) z) p s, subst (λ m. known I (Bound m)) p w, subst (λ r. ShowsEach known Is r z) q o)
     bound_read ms (Grid h ns, others, e, s, w, o) = absurd (cc)
+    bound_read ms (FarkasRows ns, others, e, s, w, o) = absurd (cc)
+    bound_read ms (BoundRows ns, others, e, s, w, o) = absurd (cc)
+    bound_read ms (GridRows h ns, others, e, s, w, o) = absurd (cc)
     bound_read ms (Split j k a b, others, e, s, w, o) = absurd (cc)
     bound_read ms (Zero j a b, others, e, s, w, o) = absurd (cc)
 
@@ -60,8 +72,54 @@ module _ (known : Instance → Tree → Type 0) (I : Instance) (Is : List Instan
         let q : ns ≡ ms = cc in
         let r : others ≡ rest = cc in
         (subst (λ h. Shows I (Grid h ms) z) p (subst (λ m. Shows I (Grid h m) z) q s), subst (λ h. known I (Grid h ms)) p (subst (λ m. known I (Grid h m)) q w), subst (λ l. ShowsEach known Is l z) r o)
+    grid_read g ms (FarkasRows ns, others, e, s, w, o) = absurd (cc)
+    grid_read g ms (BoundRows ns, others, e, s, w, o) = absurd (cc)
+    grid_read g ms (GridRows h ns, others, e, s, w, o) = absurd (cc)
     grid_read g ms (Split j k a b, others, e, s, w, o) = absurd (cc)
     grid_read g ms (Zero j a b, others, e, s, w, o) = absurd (cc)
+
+    pub farkas_rows_read : (ms : List Multiplier) → ShowsEach known (I ∷ Is) (FarkasByRows ms ∷ rest) z → Shows I (FarkasRows ms) z × known I (FarkasRows ms) × ShowsEach known Is rest z
+    farkas_rows_read ms (Clash d, others, e, s, w, o) = absurd (cc)
+    farkas_rows_read ms (Farkas ns, others, e, s, w, o) = absurd (cc)
+    farkas_rows_read ms (Bound ns, others, e, s, w, o) = absurd (cc)
+    farkas_rows_read ms (Grid h ns, others, e, s, w, o) = absurd (cc)
+    farkas_rows_read ms (FarkasRows ns, others, e, s, w, o) =
+        let p : ns ≡ ms = cc in
+        let q : others ≡ rest = cc in
+        (subst (λ m. Shows I (FarkasRows m) z) p s, subst (λ m. known I (FarkasRows m)) p w, subst (λ r. ShowsEach known Is r z) q o)
+    farkas_rows_read ms (BoundRows ns, others, e, s, w, o) = absurd (cc)
+    farkas_rows_read ms (GridRows h ns, others, e, s, w, o) = absurd (cc)
+    farkas_rows_read ms (Split j k a b, others, e, s, w, o) = absurd (cc)
+    farkas_rows_read ms (Zero j a b, others, e, s, w, o) = absurd (cc)
+
+    pub bound_rows_read : (ms : List Multiplier) → ShowsEach known (I ∷ Is) (BoundByRows ms ∷ rest) z → Shows I (BoundRows ms) z × known I (BoundRows ms) × ShowsEach known Is rest z
+    bound_rows_read ms (Clash d, others, e, s, w, o) = absurd (cc)
+    bound_rows_read ms (Farkas ns, others, e, s, w, o) = absurd (cc)
+    bound_rows_read ms (Bound ns, others, e, s, w, o) = absurd (cc)
+    bound_rows_read ms (Grid h ns, others, e, s, w, o) = absurd (cc)
+    bound_rows_read ms (FarkasRows ns, others, e, s, w, o) = absurd (cc)
+    bound_rows_read ms (BoundRows ns, others, e, s, w, o) =
+        let p : ns ≡ ms = cc in
+        let q : others ≡ rest = cc in
+        (subst (λ m. Shows I (BoundRows m) z) p s, subst (λ m. known I (BoundRows m)) p w, subst (λ r. ShowsEach known Is r z) q o)
+    bound_rows_read ms (GridRows h ns, others, e, s, w, o) = absurd (cc)
+    bound_rows_read ms (Split j k a b, others, e, s, w, o) = absurd (cc)
+    bound_rows_read ms (Zero j a b, others, e, s, w, o) = absurd (cc)
+
+    pub grid_rows_read : (g : Ratio) (ms : List Multiplier) → ShowsEach known (I ∷ Is) (GridByRows g ms ∷ rest) z → Shows I (GridRows g ms) z × known I (GridRows g ms) × ShowsEach known Is rest z
+    grid_rows_read g ms (Clash d, others, e, s, w, o) = absurd (cc)
+    grid_rows_read g ms (Farkas ns, others, e, s, w, o) = absurd (cc)
+    grid_rows_read g ms (Bound ns, others, e, s, w, o) = absurd (cc)
+    grid_rows_read g ms (Grid h ns, others, e, s, w, o) = absurd (cc)
+    grid_rows_read g ms (FarkasRows ns, others, e, s, w, o) = absurd (cc)
+    grid_rows_read g ms (BoundRows ns, others, e, s, w, o) = absurd (cc)
+    grid_rows_read g ms (GridRows h ns, others, e, s, w, o) =
+        let p : h ≡ g = cc in
+        let q : ns ≡ ms = cc in
+        let r : others ≡ rest = cc in
+        (subst (λ h. Shows I (GridRows h ms) z) p (subst (λ m. Shows I (GridRows h m) z) q s), subst (λ h. known I (GridRows h ms)) p (subst (λ m. known I (GridRows h m)) q w), subst (λ l. ShowsEach known Is l z) r o)
+    grid_rows_read g ms (Split j k a b, others, e, s, w, o) = absurd (cc)
+    grid_rows_read g ms (Zero j a b, others, e, s, w, o) = absurd (cc)
 
     -- what is known of a tree is known of its two cases
     pub split_read : (j : ℕ) (k : ℤ) → ((a b : Tree) → known I (Split j k a b) → known (at_most I j k) a × known (at_least I j (k +ℤ pos 1)) b)
@@ -70,6 +128,9 @@ module _ (known : Instance → Tree → Type 0) (I : Instance) (Is : List Instan
     split_read j k inner (Farkas ns, others, e, s, w, o) = absurd (cc)
     split_read j k inner (Bound ns, others, e, s, w, o) = absurd (cc)
     split_read j k inner (Grid h ns, others, e, s, w, o) = absurd (cc)
+    split_read j k inner (FarkasRows ns, others, e, s, w, o) = absurd (cc)
+    split_read j k inner (BoundRows ns, others, e, s, w, o) = absurd (cc)
+    split_read j k inner (GridRows h ns, others, e, s, w, o) = absurd (cc)
     split_read j k inner (Zero i a b, others, e, s, w, o) = absurd (cc)
     split_read j k inner (Split i l a b, others, e, s, w, o) =
         let p : i ≡ j = cc in
@@ -90,6 +151,9 @@ module _ (known : Instance → Tree → Type 0) (I : Instance) (Is : List Instan
     zero_read j inner (Farkas ns, others, e, s, w, o) = absurd (cc)
     zero_read j inner (Bound ns, others, e, s, w, o) = absurd (cc)
     zero_read j inner (Grid h ns, others, e, s, w, o) = absurd (cc)
+    zero_read j inner (FarkasRows ns, others, e, s, w, o) = absurd (cc)
+    zero_read j inner (BoundRows ns, others, e, s, w, o) = absurd (cc)
+    zero_read j inner (GridRows h ns, others, e, s, w, o) = absurd (cc)
     zero_read j inner (Split i l a b, others, e, s, w, o) = absurd (cc)
     zero_read j inner (Zero i a b, others, e, s, w, o) =
         let p : i ≡ j = cc in
@@ -130,6 +194,21 @@ grid_step I Is g ms rest z = (λ s. grid_read TreeFits I Is (Some z) rest g ms s
 
 pub no_grid : (I : Instance) (Is : List Instance) (g : Ratio) (ms : List Multiplier) (rest : List Node) → ShowsAll (I ∷ Is) (GridBy g ms ∷ rest) None → ⊥
 no_grid I Is g ms rest s = (grid_read TreeFits I Is None rest g ms s).0
+
+pub farkas_rows_step : (I : Instance) (Is : List Instance) (ms : List Multiplier) (rest : List Node) (z : Option Ratio) → ShowsAll (I ∷ Is) (FarkasByRows ms ∷ rest) z ↔ ((AreOfRows I ms × IsFarkas I (completed I no_costs ms)) × RowsFit I none no_costs ms × ShowsAll Is rest z)
+farkas_rows_step I Is ms rest z = (λ s. farkas_rows_read TreeFits I Is z rest ms s, λ (s, w, o). (FarkasRows ms, rest, refl, s, w, o))
+
+pub bound_rows_step : (I : Instance) (Is : List Instance) (ms : List Multiplier) (rest : List Node) (z : Ratio) → ShowsAll (I ∷ Is) (BoundByRows ms ∷ rest) (Some z) ↔ ((AreOfRows I ms × IsBound I (completed I (goal_costs I) ms) z) × RowsFit I (minimising I I.goal.constant) (goal_costs I) ms × ShowsAll Is rest (Some z))
+bound_rows_step I Is ms rest z = (λ s. bound_rows_read TreeFits I Is (Some z) rest ms s, λ (s, w, o). (BoundRows ms, rest, refl, s, w, o))
+
+pub grid_rows_step : (I : Instance) (Is : List Instance) (g : Ratio) (ms : List Multiplier) (rest : List Node) (z : Ratio) → ShowsAll (I ∷ Is) (GridByRows g ms ∷ rest) (Some z) ↔ ((AreOfRows I ms × IsGrid I g (completed I (goal_costs I) ms) z) × (RowsFit I none (goal_costs I) ms × StepsFit I g (completed I (goal_costs I) ms)) × ShowsAll Is rest (Some z))
+grid_rows_step I Is g ms rest z = (λ s. grid_rows_read TreeFits I Is (Some z) rest g ms s, λ (s, w, o). (GridRows g ms, rest, refl, s, w, o))
+
+pub no_bound_rows : (I : Instance) (Is : List Instance) (ms : List Multiplier) (rest : List Node) → ShowsAll (I ∷ Is) (BoundByRows ms ∷ rest) None → ⊥
+no_bound_rows I Is ms rest s = (bound_rows_read TreeFits I Is None rest ms s).0
+
+pub no_grid_rows : (I : Instance) (Is : List Instance) (g : Ratio) (ms : List Multiplier) (rest : List Node) → ShowsAll (I ∷ Is) (GridByRows g ms ∷ rest) None → ⊥
+no_grid_rows I Is g ms rest s = (grid_rows_read TreeFits I Is None rest g ms s).0
 
 pub no_bound : (I : Instance) (Is : List Instance) (ms : List Multiplier) (rest : List Node) → ShowsAll (I ∷ Is) (BoundBy ms ∷ rest) None → ⊥
 no_bound I Is ms rest s = (bound_read TreeFits I Is None rest ms s).0

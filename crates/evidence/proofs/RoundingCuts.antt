@@ -6,7 +6,7 @@ use Rattle.evidence.specs.OneDenominator.{number_at}
 use Rattle.evidence.specs.Instance.{Range, Instance, IsInstance, width, variable_at}
 use Rattle.evidence.specs.Point.{value_at, IsFeasible}
 use Rattle.evidence.specs.Cases.{Multiplier, Node, form, low_sum}
-use Rattle.evidence.specs.Rounds.{IsRoundingCut, derive, ShowsAfter}
+use Rattle.evidence.specs.Rounds.{IsRoundingCut, Round, IsRound, derive, ShowsAfter}
 use Rattle.evidence.proofs.Numbers.{◌≈◌, ◌≲◌, ≈-refl, ≲-is, ≲-from, ≲-trans, product-≈, product-number, none-sum}
 use Rattle.evidence.proofs.Totals.{total-number, total-≈}
 use Rattle.evidence.proofs.Columns.{by_bool, none-number, value-number}
@@ -15,6 +15,7 @@ use Rattle.evidence.proofs.Branches.{Meets, shown, whole_at_least}
 pub use Rattle.evidence.proofs.WholeSums.{whole-number}
 use Rattle.evidence.proofs.WholeSums.{near_whole, total-whole, product-whole, no_product-whole, at_ceiling}
 use Rattle.evidence.proofs.AddedRows.{feasible_added, instance_added}
+use Rattle.evidence.proofs.RowRounds.{round_cut}
 
 module _ (I : Instance) (good : IsInstance I) (ms : List Multiplier) (cs : List ℤ) (k : ℤ) (round : IsRoundingCut I ms cs k) where
   abbrev coefficient : ℕ → Ratio
@@ -60,7 +61,15 @@ meets_derived : (I : Instance) (cs : List ℤ) (k : ℤ) (x : List Ratio) (z : O
 meets_derived I cs k x None m = m
 meets_derived I cs k x (Some z) m = m
 
-pub shown_after : (rounds : List (List Multiplier)) (I : Instance) (nodes : List Node) (z : Option Ratio) → IfSome z IsNumber → IsInstance I → ShowsAfter I rounds nodes z → (x : List Ratio) → IsFeasible I x → Meets I x z
+-- the same of any round
+module _ (I : Instance) (good : IsInstance I) (r : Round) (cs : List ℤ) (k : ℤ) (is : IsRound I r cs k) where
+  pub instance_rounded : IsInstance (derive I cs k)
+  instance_rounded = let c = round_cut I good r cs k is in instance_derived I good c.0 cs k c.1
+
+  pub feasible_rounded : (x : List Ratio) → IsFeasible I x → IsFeasible (derive I cs k) x
+  feasible_rounded x f = let c = round_cut I good r cs k is in feasible_derived I good c.0 cs k c.1 x f
+
+pub shown_after : (rounds : List Round) (I : Instance) (nodes : List Node) (z : Option Ratio) → IfSome z IsNumber → IsInstance I → ShowsAfter I rounds nodes z → (x : List Ratio) → IsFeasible I x → Meets I x z
 shown_after [] I nodes z p good s x f = shown s.tree I z p good s.shows x f
-shown_after (ms ∷ rounds) I nodes z p good (cs, k, round, fits, rest) x f =
-    meets_derived I cs k x z (shown_after rounds (derive I cs k) nodes z p (instance_derived I good ms cs k round) rest x (feasible_derived I good ms cs k round x f))
+shown_after (r ∷ rounds) I nodes z p good (cs, k, is, fits, rest) x f =
+    meets_derived I cs k x z (shown_after rounds (derive I cs k) nodes z p (instance_rounded I good r cs k is) rest x (feasible_rounded I good r cs k is x f))

@@ -1,4 +1,4 @@
--- A round has one row, and a level one end: so they are read one after the other.
+-- A rounding cut has one row, and a level one end: so levels are read one after the other.
 use Rattle.std.proofs.Common.{◌≡◌, ℕ, ◌<◌, ℤ, pos, negsuc, ◌+ℤ◌, ◌≤ℤ◌, ◌↔◌, Option, None, Some, IfSome, List, ◌∷◌, length, arith, sym, ◌∙◌, subst}
 use Rattle.std.proofs.lemmas.Int.{ints, by_lt_z}
 use Rattle.std.proofs.lemmas.List.{ext_get_or}
@@ -9,9 +9,8 @@ use Rattle.rational.proofs.ReducedForms.{same_reduced}
 use Rattle.evidence.specs.Sums.{none}
 use Rattle.evidence.specs.OneDenominator.{number_at}
 use Rattle.evidence.specs.Instance.{Range, HasNumbers, Instance, IsInstance, Goal, width, coefficient_at, column_at, minimising}
-use Rattle.evidence.specs.Cases.{Multiplier, Node, multiplier_at, form, low_sum, AreLegal, end_by, end_of, or_none}
-use Rattle.evidence.specs.Width.{LeafFits}
-use Rattle.evidence.specs.Rounds.{Certificate, IsCeiling, IsRoundingCut, derive, ShowsAfter, CertificateShows}
+use Rattle.evidence.specs.Cases.{Multiplier, multiplier_at, form, low_sum, AreLegal, end_by, end_of, or_none}
+use Rattle.evidence.specs.Rounds.{Certificate, IsCeiling, IsRoundingCut, CertificateShows}
 use Rattle.evidence.specs.Levels.{IsReachedEnd, next_level, AreBest, AreEndless}
 use Rattle.evidence.proofs.Numbers.{product-number, sum-number}
 use Rattle.evidence.proofs.Totals.{total-number}
@@ -69,12 +68,6 @@ one_end I good v d e p a b =
     let ps : IsNumber s = sum-number (minimising I v) (negative (minimising I I.goal.constant)) (minimising-number I v p) (minimising-number I I.goal.constant good.constant) in
     let back : IsSame s e = sym b.same in
     same_reduced d e a.reduced b.reduced (IsSame-trans d s e ps a.same back)
-
-pub round_step : (I : Instance) → IsInstance I → (ms : List Multiplier) (cs : List ℤ) (k : ℤ) (rounds : List (List Multiplier)) (nodes : List Node) (z : Option Ratio) → IsRoundingCut I ms cs k → ShowsAfter I (ms ∷ rounds) nodes z ↔ (LeafFits I none ms × ShowsAfter (derive I cs k) rounds nodes z)
-round_step I good ms cs k rounds nodes z r = (
-  λ (ds, l, s, fits, rest). let e = one_row I good ms ds cs l k s r in (fits, subst (λ l. ShowsAfter (derive I cs l) rounds nodes z) e.1 (subst (λ ds. ShowsAfter (derive I ds l) rounds nodes z) e.0 rest)),
-  λ (fits, rest). (cs, k, r, fits, rest),
-)
 
 pub level_step : (I : Instance) → IsInstance I → (g : Goal) (gs : List Goal) (v e : Ratio) (vs : List Ratio) (c : Certificate) (cs : List Certificate) → IsNumber v → IsReachedEnd I v e → AreBest I (g ∷ gs) (v ∷ vs) (c ∷ cs) ↔ (CertificateShows I c (Some (minimising I v)) × AreBest (next_level I e g) gs vs cs)
 level_step I good g gs v e vs c cs p h = (

@@ -1,7 +1,7 @@
 -- Trees of cases over whole variables (Land and Doig, 1960) and over variables that are 0 or within further ends (Beale, 1979), whose leaves have multipliers by which no point is feasible (Farkas, 1902), or none is better than a bound (weak duality; Chvátal, Linear Programming, 1983, chapter 5).
-use Rattle.std.specs.Prelude.{◌≡◌, ℕ, ◌+◌, ◌<◌, ℤ, pos, negsuc, ◌+ℤ◌, cond, IsTrue, Option, None, Some, IsSome, List, [], ◌∷◌, ◌++◌, length, get_or, neg_ℤ, ◌≤ℤ◌, ◌<ℤ◌, slice_set}
+use Rattle.std.specs.Prelude.{◌≡◌, Bool, true, false, nat_lt, ℕ, zero, suc, ◌+◌, ◌<◌, ◌≤◌, ℤ, pos, negsuc, ◌+ℤ◌, cond, IsTrue, Option, None, Some, IsSome, List, [], ◌∷◌, ◌++◌, length, get_or, neg_ℤ, ◌≤ℤ◌, ◌<ℤ◌, slice_set}
 use Rattle.std.specs.List.{All}
-use Rattle.rational.specs.Ratio.{Ratio, whole, sum, product, quotient, IsSame, IsBelow, IsNumber, IsAtMost}
+use Rattle.rational.specs.Ratio.{Ratio, whole, sum, product, negative, quotient, IsSame, IsBelow, IsNumber, IsAtMost}
 use Rattle.rational.specs.Width.{most}
 use Rattle.evidence.specs.Sums.{none, is_below, total, IsCeiling, IsMultiple}
 use Rattle.evidence.specs.Instance.{Range, free, Instance, width, height, variable_at, coefficient_at, column_at, cost_at, minimising}
@@ -17,6 +17,9 @@ pub data Tree : Type 0 where
   Farkas : List Multiplier → Tree
   Bound : List Multiplier → Tree
   Grid : Ratio → List Multiplier → Tree
+  FarkasRows : List Multiplier → Tree
+  BoundRows : List Multiplier → Tree
+  GridRows : Ratio → List Multiplier → Tree
   Split : ℕ → ℤ → Tree → Tree → Tree
   Zero : ℕ → Tree → Tree → Tree
 
@@ -85,6 +88,46 @@ pub record IsGrid (I : Instance) (g : Ratio) (ms : List Multiplier) (z : Ratio) 
   pub rounded : IsCeiling (quotient (low_sum I none ms) g) steps
   pub reaches : IsAtMost z (sum (minimising I I.goal.constant) (product (whole steps) g))
 
+-- what is left of t at variable j: the multiplier of j by which the form there is t
+abbrev pub left_at : Instance → (ℕ → Ratio) → List Multiplier → ℕ → Ratio
+left_at I t ms j = sum (t j) (negative (form I ms j))
+
+abbrev pub is_zero : ℤ → Bool
+is_zero (pos zero) = true
+is_zero (pos (suc n)) = false
+is_zero (negsuc n) = false
+
+-- one more multiplier before the others, if it isn't 0
+abbrev pub put_before : Multiplier → List Multiplier → List Multiplier
+put_before m ms = cond (is_zero m.by.num) ms (m ∷ ms)
+
+-- what is left at each variable below n, before the rest
+abbrev pub filled : Instance → (ℕ → Ratio) → List Multiplier → ℕ → List Multiplier → List Multiplier
+filled I t ms zero rest = rest
+filled I t ms (suc n) rest = filled I t ms n (put_before (record { column = n; by = left_at I t ms n }) rest)
+
+-- multipliers of rows, and those of variables by which the form is t
+abbrev pub completed : Instance → (ℕ → Ratio) → List Multiplier → List Multiplier
+completed I t ms = filled I t ms (width I) ms
+
+-- the forms of Farkas, and those of a bound
+abbrev pub no_costs : ℕ → Ratio
+no_costs j = none
+
+abbrev pub goal_costs : Instance → ℕ → Ratio
+goal_costs I j = minimising I (cost_at I j)
+
+abbrev pub AreOfRows : Instance → List Multiplier → Type 0
+AreOfRows I ms = All (λ m. width I ≤ m.column) ms
+
+-- what is left of multipliers once those of variables are left out, which stand first
+abbrev pub rows_from : ℕ → List Multiplier → List Multiplier
+rows_from n [] = []
+rows_from n (m ∷ ms) = cond (nat_lt m.column n) (rows_from n ms) (m ∷ ms)
+
+abbrev pub rows_of : Instance → List Multiplier → List Multiplier
+rows_of I ms = rows_from (width I) ms
+
 -- the upper end is the lesser of itself and k
 abbrev pub lesser_end : Option Ratio → Ratio → Option Ratio
 lesser_end None k = Some k
@@ -152,6 +195,11 @@ Shows I (Bound ms) None = ⊥
 Shows I (Bound ms) (Some z) = IsBound I ms z
 Shows I (Grid g ms) None = ⊥
 Shows I (Grid g ms) (Some z) = IsGrid I g ms z
+Shows I (FarkasRows ms) z = AreOfRows I ms × IsFarkas I (completed I no_costs ms)
+Shows I (BoundRows ms) None = ⊥
+Shows I (BoundRows ms) (Some z) = AreOfRows I ms × IsBound I (completed I (goal_costs I) ms) z
+Shows I (GridRows g ms) None = ⊥
+Shows I (GridRows g ms) (Some z) = AreOfRows I ms × IsGrid I g (completed I (goal_costs I) ms) z
 Shows I (Split j k a b) z = IsBranch I j k × Shows (at_most I j k) a z × Shows (at_least I j (k +ℤ pos 1)) b z
 Shows I (Zero j a b) z = IsZeroBranch I j × Shows (at_zero I j) a z × Shows (unless_zero I j) b z
 
@@ -161,6 +209,9 @@ pub data Node : Type 0 where
   FarkasBy : List Multiplier → Node
   BoundBy : List Multiplier → Node
   GridBy : Ratio → List Multiplier → Node
+  FarkasByRows : List Multiplier → Node
+  BoundByRows : List Multiplier → Node
+  GridByRows : Ratio → List Multiplier → Node
   SplitAt : ℕ → ℤ → Node
   ZeroAt : ℕ → Node
 
@@ -170,5 +221,8 @@ preorder (Clash c) = ClashAt c ∷ []
 preorder (Farkas ms) = FarkasBy ms ∷ []
 preorder (Bound ms) = BoundBy ms ∷ []
 preorder (Grid g ms) = GridBy g ms ∷ []
+preorder (FarkasRows ms) = FarkasByRows ms ∷ []
+preorder (BoundRows ms) = BoundByRows ms ∷ []
+preorder (GridRows g ms) = GridByRows g ms ∷ []
 preorder (Split j k a b) = SplitAt j k ∷ (preorder a ++ preorder b)
 preorder (Zero j a b) = ZeroAt j ∷ (preorder a ++ preorder b)

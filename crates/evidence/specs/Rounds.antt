@@ -6,7 +6,8 @@ pub use Rattle.evidence.specs.Sums.{IsCeiling}
 use Rattle.evidence.specs.Instance.{Instance, width, variable_at}
 use Rattle.evidence.specs.OneDenominator.{number_at}
 use Rattle.evidence.specs.Cases.{Multiplier, Node, AreLegal, form, low_sum}
-use Rattle.evidence.specs.Width.{LeafFits, ProvesWithin}
+use Rattle.evidence.specs.Width.{LeafFits, RowsFit, ProvesWithin}
+use Rattle.evidence.specs.RowRounds.{IsRowsRound, numbers_of}
 use Rattle.evidence.specs.AddedRows.{with_row}
 
 -- whole coefficients cs, and a whole lower end k
@@ -21,15 +22,30 @@ pub record IsRoundingCut (I : Instance) (ms : List Multiplier) (cs : List ℤ) (
   pub others : (j : ℕ) → j < width I → (IsTrue (variable_at I j).whole → ⊥) → number_at cs j ≡ pos 0
   pub rounded : IsCeiling (low_sum I none ms) k
 
+-- a round by multipliers of columns, or by those of rows alone, which those of variables complete
+pub data Round : Type 0 where
+  RoundBy : List Multiplier → Round
+  RoundByRows : List Multiplier → Round
+
+-- the round gives this row
+abbrev pub IsRound : Instance → Round → List ℤ → ℤ → Type 0
+IsRound I (RoundBy ms) cs k = IsRoundingCut I ms cs k
+IsRound I (RoundByRows ms) cs k = IsRowsRound I ms cs k
+
+-- the sums by which it is checked
+abbrev pub RoundFits : Instance → Round → List ℤ → Type 0
+RoundFits I (RoundBy ms) cs = LeafFits I none ms
+RoundFits I (RoundByRows ms) cs = RowsFit I none (numbers_of cs) ms
+
 -- a list of rounds, each over the rows of those before it, and the nodes of a tree over all rows
 pub record Certificate : Type 0 where
-  pub rounds : List (List Multiplier)
+  pub rounds : List Round
   pub nodes : List Node
 
 -- the tree shows it of the instance with the rounds' rows, by sums that fit
-abbrev pub ShowsAfter : Instance → List (List Multiplier) → List Node → Option Ratio → Type 0
+abbrev pub ShowsAfter : Instance → List Round → List Node → Option Ratio → Type 0
 ShowsAfter I [] nodes z = ProvesWithin I nodes z
-ShowsAfter I (ms ∷ rounds) nodes z = (cs : List ℤ) × (k : ℤ) × IsRoundingCut I ms cs k × LeafFits I none ms × ShowsAfter (derive I cs k) rounds nodes z
+ShowsAfter I (r ∷ rounds) nodes z = (cs : List ℤ) × (k : ℤ) × IsRound I r cs k × RoundFits I r cs × ShowsAfter (derive I cs k) rounds nodes z
 
 abbrev pub CertificateShows : Instance → Certificate → Option Ratio → Type 0
 CertificateShows I c z = ShowsAfter I c.rounds c.nodes z

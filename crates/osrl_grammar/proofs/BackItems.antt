@@ -1,6 +1,7 @@
 -- Written items are read as what they say.
-use Rattle.osrl_grammar.proofs.Names.{◌≡◌, ◌∙◌, ℕ, ◌^◌, ◌<◌, true, Option, List, [], ◌∷◌, ◌++◌, map, refl, ap, sym, subst, arith, append-nil, codes, decimal, flat_map, signed_decimal, All, AllZip, All-head, All-tail, ratio, Frac, ratio_text, Mult, Node, Step, IsFree, pieces, Pair, step_text, node_word, IsMultOf, IsMult, IsOne, IsPlace, IsFraction, SaysNode, tree_head, SaysTree, BeginsWithWord, IsTreeItem, IsRoundOf, IsRound, IsCause, round_text, level_text, mult_text, node_text, cause_text, fraction_texts, HaveColumns, NodeComesBack, CauseComesBack}
+use Rattle.osrl_grammar.proofs.Names.{◌≡◌, ◌∙◌, ℕ, ◌^◌, ◌<◌, true, Option, List, [], ◌∷◌, ◌++◌, map, refl, ap, sym, subst, arith, append-nil, codes, decimal, flat_map, signed_decimal, All, AllZip, All-head, All-tail, ratio, Frac, ratio_text, Mult, Node, Step, IsFree, pieces, Pair, step_text, node_word, IsMultOf, IsMult, IsOne, IsPlace, IsFraction, SaysNode, tree_head, SaysTree, BeginsWithWord, IsTreeItem, Round, round_word, round_head, SaysRound, IsRound, IsCause, round_text, level_text, mult_text, node_text, cause_text, fraction_texts, HaveColumns, NodeComesBack, RoundComesBack, CauseComesBack}
 use Rattle.certificate.specs.declared.nodes.Node.TheVariants as nodes
+use Rattle.certificate.specs.declared.nodes.Round.TheVariants as rounds
 use Rattle.osrl_grammar.specs.declared.parts.TreeItem.TheVariants as trees
 use Rattle.certificate.specs.declared.causes.Cause as why
 use Rattle.certificate.specs.declared.causes.Cause.TheVariants as causes
@@ -38,6 +39,11 @@ node_back (nodes.Bound ms) back = subst (λ (l : List (List ℕ)). BeginsWithWor
 node_back (nodes.Grid g ms) back =
     let cut = mults_pieces (ratio_text (ratio g)) ms (ratio_spaceless (ratio g)) in
     (refl, subst (SaysNode (nodes.Grid g ms)) (sym cut) (fraction_back g, mults_back ms back))
+node_back (nodes.FarkasRows ms) back = subst (λ (l : List (List ℕ)). BeginsWithWord node_word tree_head SaysTree l (trees.Node (nodes.FarkasRows ms))) (sym (mults_pieces (codes "farkasRows") ms (seen_free 32 (codes "farkasRows") refl))) (refl, mults_back ms back)
+node_back (nodes.BoundRows ms) back = subst (λ (l : List (List ℕ)). BeginsWithWord node_word tree_head SaysTree l (trees.Node (nodes.BoundRows ms))) (sym (mults_pieces (codes "boundRows") ms (seen_free 32 (codes "boundRows") refl))) (refl, mults_back ms back)
+node_back (nodes.GridRows g ms) back =
+    let cut = mults_pieces (ratio_text (ratio g)) ms (ratio_spaceless (ratio g)) in
+    (refl, subst (SaysNode (nodes.GridRows g ms)) (sym cut) (fraction_back g, mults_back ms back))
 
 step_spaceless : (s : Step) → IsFree 32 (step_text s)
 step_spaceless s = seen_free 32 (step_text s) (elim s as (λ (r : Step). is_without 32 (step_text r) ≡ true) [ steps.Values ↦ refl | steps.Ratio ↦ refl | steps.Pivot ↦ refl | steps.Point ↦ refl | steps.Ray ↦ refl | steps.Round ↦ refl | steps.Check ↦ refl ])
@@ -62,9 +68,10 @@ fractions_back (x ∷ xs) = (fraction_back x, fractions_back xs)
 pub level_back : (k : ℕ) → k < 2 ^ 32 → IsTreeItem (level_text k) (trees.Level k)
 level_back k back = (refl, subst (λ (l : List (List ℕ)). IsOne l k) (sym (pieces_free (decimal k) (decimal_spaceless k))) (index_back k back))
 
-round_back : (ms : List Mult) → HaveColumns ms → IsRound (round_text ms) ms
-round_back ms back = subst (λ (l : List (List ℕ)). IsRoundOf l ms) (sym (mults_pieces (codes "round") ms (seen_free 32 (codes "round") refl))) (refl, mults_back ms back)
+round_back : (r : Round) → RoundComesBack r → IsRound (round_text r) r
+round_back (rounds.Whole ms) back = subst (λ (l : List (List ℕ)). BeginsWithWord round_word round_head SaysRound l (rounds.Whole ms)) (sym (mults_pieces (codes "round") ms (seen_free 32 (codes "round") refl))) (refl, mults_back ms back)
+round_back (rounds.OfRows ms) back = subst (λ (l : List (List ℕ)). BeginsWithWord round_word round_head SaysRound l (rounds.OfRows ms)) (sym (mults_pieces (codes "roundRows") ms (seen_free 32 (codes "roundRows") refl))) (refl, mults_back ms back)
 
-pub rounds_back : (rs : List (List Mult)) → All HaveColumns rs → AllZip IsRound (map round_text rs) rs
+pub rounds_back : (rs : List Round) → All RoundComesBack rs → AllZip IsRound (map round_text rs) rs
 rounds_back [] back = tt
-rounds_back (r ∷ rs) back = (round_back r (All-head HaveColumns r rs back), rounds_back rs (All-tail HaveColumns r rs back))
+rounds_back (r ∷ rs) back = (round_back r (All-head RoundComesBack r rs back), rounds_back rs (All-tail RoundComesBack r rs back))

@@ -1,5 +1,5 @@
 -- The nodes of a written solution are nodes of XML.
-use Rattle.osrl_grammar.proofs.Names.{◌≡◌, ℕ, suc, ◌+◌, ◌-◌, nat_lt, Bool, true, false, cond, List, [], ◌∷◌, ◌++◌, map, length, refl, subst, codes, decimal, lit≤, All, All-nil, All-cons, All-head, All-tail, All-append, IsXmlText, Each, Attribute, Nodes, none, element, chars, Printable, list_printable, ratio, Frac, Mult, Cert, Node, Split, Zero, Clash, Farkas, Bound, Grid, ProvedBound, Option, None, Some, Claim, Optimal, Infeasible, Unbounded, BestSoFar, Unsure, Part, Claiming, cut_text, part_name, claiming_text, text_nodes, leaf, group, typed, indexed, Labels, NameLists, AreXmlLabels, AreXmlNames, name_at, name_attribute, variable_values, row_values, values_part, values_part_unless_none, point_values, goal_values, tree_values, dual_values, node_text, round_text, level_texts, cause_text, item_nodes, certificate_part, fraction_texts, point_parts, ray_part, rounds_part, tree_parts, trees_parts, bound_parts, cause_part, solution, claim_nodes, printable_text, decimal_printable, none_flat}
+use Rattle.osrl_grammar.proofs.Names.{◌≡◌, ℕ, suc, ◌+◌, ◌-◌, nat_lt, Bool, true, false, cond, List, [], ◌∷◌, ◌++◌, map, length, refl, subst, codes, decimal, lit≤, All, All-nil, All-cons, All-head, All-tail, All-append, IsXmlText, Each, Attribute, Nodes, none, element, chars, Printable, list_printable, ratio, Frac, Mult, Cert, Node, Split, Zero, Clash, Farkas, Bound, Grid, FarkasRows, BoundRows, GridRows, ProvedBound, Option, None, Some, Claim, Optimal, Infeasible, Unbounded, BestSoFar, Unsure, Part, Claiming, cut_text, part_name, claiming_text, text_nodes, leaf, group, typed, indexed, Labels, NameLists, AreXmlLabels, AreXmlNames, name_at, name_attribute, variable_values, row_values, values_part, values_part_unless_none, point_values, goal_values, tree_values, dual_values, node_text, round_text, level_texts, cause_text, item_nodes, certificate_part, fraction_texts, point_parts, ray_part, rounds_part, tree_parts, trees_parts, bound_parts, cause_part, solution, claim_nodes, printable_text, decimal_printable, none_flat, Round}
 use Rattle.std.proofs.Common.{lit<}
 use Rattle.tree_grammar.specs.Characters.{local_part}
 use Rattle.certificate.specs.declared.causes.Cause.{Cause}
@@ -68,7 +68,7 @@ some_flat none more inside rest = rest
 some_flat (element n attributes children behind) more inside rest = values_flat (codes "constraints") (codes "dualValues") (element n attributes children behind) more refl refl refl refl inside rest
 some_flat (chars text behind) more inside rest = values_flat (codes "constraints") (codes "dualValues") (chars text behind) more refl refl refl refl inside rest
 
-tree_duals_flat : (ls : Labels) → AreXmlLabels ls → (n : ℕ) (rs : List (List Mult)) (ns : List Node) (more : Nodes) → Flat 3 more → Flat 3 (tree_values ls n rs ns more)
+tree_duals_flat : (ls : Labels) → AreXmlLabels ls → (n : ℕ) (rs : List Round) (ns : List Node) (more : Nodes) → Flat 3 more → Flat 3 (tree_values ls n rs ns more)
 tree_duals_flat ls xml n (r ∷ rs) ns more rest = rest
 tree_duals_flat ls xml n [] [] more rest = rest
 tree_duals_flat ls xml n [] (Split j k ∷ ns) more rest = rest
@@ -76,8 +76,12 @@ tree_duals_flat ls xml n [] (Zero j ∷ ns) more rest = rest
 tree_duals_flat ls xml n [] (Clash c ∷ ns) more rest = rest
 tree_duals_flat ls xml n [] (Farkas ms ∷ ns) more rest = rest
 tree_duals_flat ls xml n [] (Grid g ms ∷ ns) more rest = rest
+tree_duals_flat ls xml n [] (FarkasRows ms ∷ ns) more rest = rest
+tree_duals_flat ls xml n [] (GridRows g ms ∷ ns) more rest = rest
 tree_duals_flat ls xml n [] (Bound ms ∷ []) more rest = some_flat (row_values ls n ms) more (rows_flat ls xml n ms) rest
 tree_duals_flat ls xml n [] (Bound ms ∷ m ∷ ns) more rest = rest
+tree_duals_flat ls xml n [] (BoundRows ms ∷ []) more rest = some_flat (row_values ls n ms) more (rows_flat ls xml n ms) rest
+tree_duals_flat ls xml n [] (BoundRows ms ∷ m ∷ ns) more rest = rest
 
 duals_flat : (ls : Labels) → AreXmlLabels ls → (n : ℕ) (vs : List Frac) (cs : List Cert) (more : Nodes) → Flat 3 more → Flat 3 (dual_values ls n vs cs more)
 duals_flat ls xml n [] cs more rest = rest
@@ -118,7 +122,7 @@ points_flat x vs more rest = part_flat parts.Point (fraction_texts x) (certifica
 ray_flat : (r : List Frac) (more : Nodes) → Flat 2 more → Flat 2 (ray_part r more)
 ray_flat r more rest = part_flat parts.Ray (fraction_texts r) more (fractions_xml r) rest
 
-rounds_flat : (rs : List (List Mult)) (more : Nodes) → Flat 2 more → Flat 2 (rounds_part rs more)
+rounds_flat : (rs : List Round) (more : Nodes) → Flat 2 more → Flat 2 (rounds_part rs more)
 rounds_flat [] more rest = rest
 rounds_flat (r ∷ rs) more rest = part_flat parts.Rounds (map round_text (r ∷ rs)) more (rounds_xml (r ∷ rs)) rest
 

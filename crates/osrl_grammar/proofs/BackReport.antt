@@ -1,5 +1,5 @@
 -- The document that a report is written as reports it.
-use Rattle.osrl_grammar.proofs.Names.{◌≡◌, ◌∙◌, ℕ, ◌+◌, Bool, true, false, ◌||◌, cond, Option, None, Some, List, [], ◌∷◌, ◌++◌, map, refl, ap, sym, subst, append-nil, append_assoc, codes, bytes_eq, is_some, length, AllZip, false≢true, Nodes, none, element, chars, Close, Start, Finish, trimmed, unless_empty, leaf, group, typed, TakesMark, Frac, Node, Mult, Cert, ProvedBound, Claim, Optimal, Infeasible, Unbounded, BestSoFar, Unsure, JobStatus, Report, Held, To, Part, Claiming, part_name, claiming_text, status_text, IsFraction, IsRound, IsCause, IsOutOfOrder, BadItem, next_level, cert, inl, inr, ◌⊎◌, ◌≤◌, ◌<◌, ◌^◌, ap₂, arith, lit≤, Ok, All, HaveColumns, MayHaveTrees, TreesComeBack, State, nothing_held, start, has, items, status_of, report_with, nonempty, report_of, MayHoldItems, with_part, AddsItem, osrl, IsReport, IsReportText, row_values, values_part_unless_none, variable_values, values_part, point_values, goal_values, tree_values, dual_values, node_text, round_text, level_texts, cause_text, item_nodes, certificate_part, fraction_texts, point_parts, ray_part, rounds_part, tree_parts, trees_parts, bound_parts, cause_part, solution, claim_nodes, leaf_of, optimization, general_type, general_nodes, status_nodes, Labels, NameLists, AreXmlNames, no_names, named_element, named_text, report_text, told_text, document_limit, IsBareOrNone, BoundComesBack, CauseComesBack, ClaimComesBack, ComesBack, keeps}
+use Rattle.osrl_grammar.proofs.Names.{◌≡◌, ◌∙◌, ℕ, ◌+◌, Bool, true, false, ◌||◌, cond, Option, None, Some, List, [], ◌∷◌, ◌++◌, map, refl, ap, sym, subst, append-nil, append_assoc, codes, bytes_eq, is_some, length, AllZip, false≢true, Nodes, none, element, chars, Close, Start, Finish, trimmed, unless_empty, leaf, group, typed, TakesMark, Frac, Node, Cert, ProvedBound, Claim, Optimal, Infeasible, Unbounded, BestSoFar, Unsure, JobStatus, Report, Held, To, Part, Claiming, part_name, claiming_text, status_text, IsFraction, IsRound, IsCause, IsOutOfOrder, BadItem, next_level, cert, inl, inr, ◌⊎◌, ◌≤◌, ◌<◌, ◌^◌, ap₂, arith, lit≤, Ok, All, RoundComesBack, MayHaveTrees, TreesComeBack, State, nothing_held, start, has, items, status_of, report_with, nonempty, report_of, MayHoldItems, with_part, AddsItem, osrl, IsReport, IsReportText, row_values, values_part_unless_none, variable_values, values_part, point_values, goal_values, tree_values, dual_values, node_text, round_text, level_texts, cause_text, item_nodes, certificate_part, fraction_texts, point_parts, ray_part, rounds_part, tree_parts, trees_parts, bound_parts, cause_part, solution, claim_nodes, leaf_of, optimization, general_type, general_nodes, status_nodes, Labels, NameLists, AreXmlNames, no_names, named_element, named_text, report_text, told_text, document_limit, IsBareOrNone, BoundComesBack, CauseComesBack, ClaimComesBack, ComesBack, keeps, Round}
 use Rattle.document_tags.specs.Writing.{only}
 use Rattle.certificate.specs.declared.nodes.Node.TheVariants as nodes
 use Rattle.certificate.specs.declared.causes.Cause as why
@@ -77,7 +77,7 @@ module _ {X : Type 0} (p : Part) (put : List X → Held) (Is : List ℕ → X �
 abbrev held_point : List Frac → List Frac → Held
 held_point x vs = record nothing_held { has_point = true; has_value = true; point = x; values = vs }
 
-abbrev are_some : List (List Mult) → Bool
+abbrev are_some : List Round → Bool
 are_some [] = false
 are_some (r ∷ rs) = true
 
@@ -119,10 +119,10 @@ module _ (s : State) (type : Option (List ℕ)) where
   ray_goes : (x vs r : List Frac) (more : Nodes) (z : State) → Goes more (solving s places.Results type (with_ray r (held_point x vs))) z → Goes (ray_part r more) (solving s places.Results type (held_point x vs)) z
   ray_goes x vs r more z behind = fractions_go parts.Ray (λ l. with_ray l (held_point x vs)) (λ text h bad. bad) (λ t text. never_noted (has_one_level true true t)) (λ before t y is. (y, is, refl)) r (held_point x vs) more z refl refl behind
 
-  rounds_go : (rs : List (List Mult)) (h : Held) (more : Nodes) (z : State) → All HaveColumns rs → h.has_rounds ≡ false → h.rounds ≡ [] → Goes more (solving s places.Results type (record h { has_rounds = are_some rs; rounds = rs })) z → Goes (rounds_part rs more) (solving s places.Results type h) z
-  rounds_go [] h more z back first empty behind = subst (λ (g : Held). Goes more (solving s places.Results type g) z) (ap₂ (λ (b : Bool) (rs : List (List Mult)). let g : Held = record h { has_rounds = b; rounds = rs } in g) (sym first) (sym empty)) behind
+  rounds_go : (rs : List Round) (h : Held) (more : Nodes) (z : State) → All RoundComesBack rs → h.has_rounds ≡ false → h.rounds ≡ [] → Goes more (solving s places.Results type (record h { has_rounds = are_some rs; rounds = rs })) z → Goes (rounds_part rs more) (solving s places.Results type h) z
+  rounds_go [] h more z back first empty behind = subst (λ (g : Held). Goes more (solving s places.Results type g) z) (ap₂ (λ (b : Bool) (rs : List Round). let g : Held = record h { has_rounds = b; rounds = rs } in g) (sym first) (sym empty)) behind
   rounds_go (r ∷ rs) h more z back first empty behind =
-      part_goes parts.Rounds (λ l. record h { has_rounds = true; rounds = l }) IsRound (λ text g bad. bad) (λ t text. never_noted (has_one_level true true t)) (λ before t y is. (y, is, refl)) (map round_text (r ∷ rs)) (r ∷ rs) (rounds_back (r ∷ rs) back) s type h more z first (ap (λ (l : List (List Mult)). let g : Held = record h { has_rounds = true; rounds = l } in g) empty) behind
+      part_goes parts.Rounds (λ l. record h { has_rounds = true; rounds = l }) IsRound (λ text g bad. bad) (λ t text. never_noted (has_one_level true true t)) (λ before t y is. (y, is, refl)) (map round_text (r ∷ rs)) (r ∷ rs) (rounds_back (r ∷ rs) back) s type h more z first (ap (λ (l : List Round). let g : Held = record h { has_rounds = true; rounds = l } in g) empty) behind
 
   tree_goes : (h : Held) (c : Cert) (cs : List Cert) → h.has_rounds ≡ false → h.rounds ≡ [] → h.has_tree ≡ false → h.levels ≡ [] → h.tree ≡ [] → (has_one_level true true type ≡ false) ⊎ (cs ≡ []) → 2 + length cs ≤ 2 ^ 32 → TreesComeBack c cs → Goes (tree_parts c cs) (solving s places.Results type h) (solving s places.Results type (with_tree c cs h))
   tree_goes h c cs first empty begun before latest quiet few back =
@@ -165,7 +165,7 @@ module _ (s : State) (type : Option (List ℕ)) where
   rows_pass (element n as' children rest) = λ more z behind. goes_past (codes "constraints") [] (group (codes "dualValues") (element n as' children rest) none) more (solving s places.Solution type nothing_held) z refl behind
   rows_pass (chars text rest) = λ more z behind. goes_past (codes "constraints") [] (group (codes "dualValues") (chars text rest) none) more (solving s places.Solution type nothing_held) z refl behind
 
-  tree_passes : (ls : Labels) (n : ℕ) (rs : List (List Mult)) (ns : List Node) → Passes (tree_values ls n rs ns)
+  tree_passes : (ls : Labels) (n : ℕ) (rs : List Round) (ns : List Node) → Passes (tree_values ls n rs ns)
   tree_passes ls n (r ∷ rs) ns = λ more z behind. behind
   tree_passes ls n [] [] = λ more z behind. behind
   tree_passes ls n [] (nodes.Split j k ∷ ns) = λ more z behind. behind
@@ -173,8 +173,12 @@ module _ (s : State) (type : Option (List ℕ)) where
   tree_passes ls n [] (nodes.Clash c ∷ ns) = λ more z behind. behind
   tree_passes ls n [] (nodes.Farkas ms ∷ ns) = λ more z behind. behind
   tree_passes ls n [] (nodes.Grid g ms ∷ ns) = λ more z behind. behind
+  tree_passes ls n [] (nodes.FarkasRows ms ∷ ns) = λ more z behind. behind
+  tree_passes ls n [] (nodes.GridRows g ms ∷ ns) = λ more z behind. behind
   tree_passes ls n [] (nodes.Bound ms ∷ []) = rows_pass (row_values ls n ms)
   tree_passes ls n [] (nodes.Bound ms ∷ m ∷ ns) = λ more z behind. behind
+  tree_passes ls n [] (nodes.BoundRows ms ∷ []) = rows_pass (row_values ls n ms)
+  tree_passes ls n [] (nodes.BoundRows ms ∷ m ∷ ns) = λ more z behind. behind
 
   duals_pass : (ls : Labels) (n : ℕ) (vs : List Frac) (cs : List Cert) → Passes (dual_values ls n vs cs)
   duals_pass ls n [] cs = λ more z behind. behind

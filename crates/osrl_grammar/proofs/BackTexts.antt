@@ -1,5 +1,6 @@
 -- The texts of numbers, items and statuses are characters of XML.
-use Rattle.osrl_grammar.proofs.Names.{ℕ, ◌+◌, ◌/◌, ◌%◌, ◌^◌, ◌==◌, Bool, true, false, cond, List, [], ◌∷◌, ◌++◌, map, drop, reverse, refl, sym, subst, lit≤, codes, decimal, flat_map, signed_decimal, All, reverse-append, All-nil, All-cons, All-append, IsXmlText, Each, Printable, list_printable, Ratio, ratio, Frac, optional, point_text, ratio_text, Mult, Cert, round_text, level_text, level_texts, Node, Split, Zero, Clash, Farkas, Bound, Grid, Step, without_zeros, decimals, cut_size, has_sign, cut_text, step_text, mult_text, node_text, cause_text, fraction_texts, decimal_each, signed_each, decimal_printable, printable_text}
+use Rattle.osrl_grammar.proofs.Names.{ℕ, ◌+◌, ◌/◌, ◌%◌, ◌^◌, ◌==◌, Bool, true, false, cond, List, [], ◌∷◌, ◌++◌, map, drop, reverse, refl, sym, subst, lit≤, codes, decimal, flat_map, signed_decimal, All, reverse-append, All-nil, All-cons, All-append, IsXmlText, Each, Printable, list_printable, Ratio, ratio, Frac, optional, point_text, ratio_text, Mult, Cert, round_text, level_text, level_texts, Node, Split, Zero, Clash, Farkas, Bound, Grid, FarkasRows, BoundRows, GridRows, Step, without_zeros, decimals, cut_size, has_sign, cut_text, step_text, mult_text, node_text, cause_text, fraction_texts, decimal_each, signed_each, decimal_printable, printable_text, Round}
+use Rattle.certificate.specs.declared.nodes.Round.TheVariants.{Whole, OfRows}
 use Rattle.std.proofs.Common.{lit<}
 use Rattle.tree_grammar.proofs.XmlTexts.{each_append}
 use Rattle.decimal_text.specs.Exact.{denominator_text}
@@ -70,6 +71,9 @@ node_printable (Clash c) = each_append Printable (codes "clash ") (decimal c) (l
 node_printable (Farkas ms) = each_append Printable (codes "farkas") (flat_map mult_text ms) (list_printable (codes "farkas") refl) (mults_printable ms)
 node_printable (Bound ms) = each_append Printable (codes "bound") (flat_map mult_text ms) (list_printable (codes "bound") refl) (mults_printable ms)
 node_printable (Grid g ms) = each_append Printable (codes "grid ") (ratio_text (ratio g) ++ flat_map mult_text ms) (list_printable (codes "grid ") refl) (each_append Printable (ratio_text (ratio g)) (flat_map mult_text ms) (ratio_printable (ratio g)) (mults_printable ms))
+node_printable (FarkasRows ms) = each_append Printable (codes "farkasRows") (flat_map mult_text ms) (list_printable (codes "farkasRows") refl) (mults_printable ms)
+node_printable (BoundRows ms) = each_append Printable (codes "boundRows") (flat_map mult_text ms) (list_printable (codes "boundRows") refl) (mults_printable ms)
+node_printable (GridRows g ms) = each_append Printable (codes "gridRows ") (ratio_text (ratio g) ++ flat_map mult_text ms) (list_printable (codes "gridRows ") refl) (each_append Printable (ratio_text (ratio g)) (flat_map mult_text ms) (ratio_printable (ratio g)) (mults_printable ms))
 
 step_printable : (s : Step) → Each Printable (step_text s)
 step_printable steps.Values = list_printable (codes "values") refl
@@ -94,9 +98,13 @@ pub nodes_xml : (ns : List Node) → All IsXmlText (map node_text ns)
 nodes_xml [] = All-nil IsXmlText
 nodes_xml (n ∷ ns) = All-cons IsXmlText (node_text n) (map node_text ns) (printable_text (node_text n) (node_printable n)) (nodes_xml ns)
 
-pub rounds_xml : (rs : List (List Mult)) → All IsXmlText (map round_text rs)
+round_printable : (r : Round) → Each Printable (round_text r)
+round_printable (Whole ms) = each_append Printable (codes "round") (flat_map mult_text ms) (list_printable (codes "round") refl) (mults_printable ms)
+round_printable (OfRows ms) = each_append Printable (codes "roundRows") (flat_map mult_text ms) (list_printable (codes "roundRows") refl) (mults_printable ms)
+
+pub rounds_xml : (rs : List Round) → All IsXmlText (map round_text rs)
 rounds_xml [] = All-nil IsXmlText
-rounds_xml (r ∷ rs) = All-cons IsXmlText (round_text r) (map round_text rs) (printable_text (round_text r) (each_append Printable (codes "round") (flat_map mult_text r) (list_printable (codes "round") refl) (mults_printable r))) (rounds_xml rs)
+rounds_xml (r ∷ rs) = All-cons IsXmlText (round_text r) (map round_text rs) (printable_text (round_text r) (round_printable r)) (rounds_xml rs)
 
 -- of the levels from the k-th on
 pub levels_xml : (k : ℕ) (cs : List Cert) → All IsXmlText (level_texts k cs)

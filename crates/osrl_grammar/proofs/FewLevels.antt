@@ -1,5 +1,5 @@
 -- A written report has fewer levels than its text has bytes.
-use Rattle.osrl_grammar.proofs.Names.{ℕ, ◌+◌, ◌^◌, ◌≤◌, Option, None, Some, List, [], ◌∷◌, ◌++◌, map, length, arith, Nodes, none, element, chars, elements_in, codes, group, Frac, Mult, Cert, Node, Split, Zero, Clash, Farkas, Bound, Grid, Claim, Optimal, Infeasible, Unbounded, BestSoFar, Unsure, Report, item_nodes, level_texts, node_text, point_parts, rounds_part, tree_parts, trees_parts, tree_values, dual_values, values_part_unless_none, row_values, certificate_part, claim_nodes, no_names, optimization, ComesBack}
+use Rattle.osrl_grammar.proofs.Names.{ℕ, ◌+◌, ◌^◌, ◌≤◌, Option, None, Some, List, [], ◌∷◌, ◌++◌, map, length, arith, Nodes, none, element, chars, elements_in, codes, group, Frac, Cert, Node, Split, Zero, Clash, Farkas, Bound, Grid, FarkasRows, BoundRows, GridRows, Claim, Optimal, Infeasible, Unbounded, BestSoFar, Unsure, Report, item_nodes, level_texts, node_text, point_parts, rounds_part, tree_parts, trees_parts, tree_values, dual_values, values_part_unless_none, row_values, certificate_part, claim_nodes, no_names, optimization, ComesBack, Round}
 use Rattle.std.proofs.lemmas.List.{length-append}
 use Rattle.certificate.specs.Nodes.{certs_of}
 use Rattle.document_tags.proofs.Sizes.{fewer_elements}
@@ -17,7 +17,7 @@ levels_in k [] = omega arith
 levels_in k (c ∷ cs) = let rest = levels_in (k + 1) cs in let both = length-append (map node_text c.nodes) (level_texts (k + 1) cs) in omega (arith, rest, both)
 
 -- what stands behind is not less with rounds, and with dual values, before it
-behind_rounds : (rs : List (List Mult)) (more : Nodes) → elements_in more ≤ elements_in (rounds_part rs more)
+behind_rounds : (rs : List Round) (more : Nodes) → elements_in more ≤ elements_in (rounds_part rs more)
 behind_rounds [] more = omega arith
 behind_rounds (r ∷ rs) more = omega arith
 
@@ -26,7 +26,7 @@ behind_rows none more = omega arith
 behind_rows (element n as' cs behind) more = omega arith
 behind_rows (chars t behind) more = omega arith
 
-behind_tree : (n : ℕ) (rs : List (List Mult)) (ns : List Node) (more : Nodes) → elements_in more ≤ elements_in (tree_values [] n rs ns more)
+behind_tree : (n : ℕ) (rs : List Round) (ns : List Node) (more : Nodes) → elements_in more ≤ elements_in (tree_values [] n rs ns more)
 behind_tree n (r ∷ rs) ns more = omega arith
 behind_tree n [] [] more = omega arith
 behind_tree n [] (Split j k ∷ ns) more = omega arith
@@ -34,8 +34,12 @@ behind_tree n [] (Zero j ∷ ns) more = omega arith
 behind_tree n [] (Clash c ∷ ns) more = omega arith
 behind_tree n [] (Farkas ms ∷ ns) more = omega arith
 behind_tree n [] (Grid g ms ∷ ns) more = omega arith
+behind_tree n [] (FarkasRows ms ∷ ns) more = omega arith
+behind_tree n [] (GridRows g ms ∷ ns) more = omega arith
 behind_tree n [] (Bound ms ∷ []) more = behind_rows (row_values [] n ms) more
 behind_tree n [] (Bound ms ∷ m ∷ ns) more = omega arith
+behind_tree n [] (BoundRows ms ∷ []) more = behind_rows (row_values [] n ms) more
+behind_tree n [] (BoundRows ms ∷ m ∷ ns) more = omega arith
 
 behind_duals : (n : ℕ) (vs : List Frac) (cs : List Cert) (more : Nodes) → elements_in more ≤ elements_in (dual_values [] n vs cs more)
 behind_duals n [] cs more = omega arith

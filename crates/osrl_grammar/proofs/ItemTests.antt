@@ -1,12 +1,13 @@
 -- What is read of an item, and when it is one.
-use Rattle.osrl_grammar.proofs.Names.{◌≡◌, ◌∙◌, inr, ℕ, ◌+◌, Bool, false, length, pos, Option, None, Some, Result, Ok, Err, List, [], ◌∷◌, ◌++◌, refl, ap, sym, subst, AllZip, option_map, whole, ratio, Frac, Mult, Node, Step, Held, Part, Point, Value, Ray, Misread, NoShape, NoNumber, TooGreat, Index, Turn, Whole, Exact, Field, pieces, Pair, parted, worded, field, step_text, all_steps, node_word, all_node_words, cause_word, all_cause_words, pair_fields, mult_fields, mults_fields, no_field, one_field, place_fields, node_behind, cause_behind, item_fields, ReadsTexts, IsFraction, IsMult, IsMultOf, IsOne, IsPlace, node_head, SaysNode, cause_head, SaysCause, IsRoundOf, TreeItem, tree_head, SaysTree, IsOutOfOrder, next_level, round_word, round_fields, IsItemRead, AddsItem, IfOk-weaker}
+use Rattle.osrl_grammar.proofs.Names.{◌≡◌, ◌∙◌, inr, ℕ, ◌+◌, Bool, false, length, pos, Option, None, Some, Result, Ok, Err, List, [], ◌∷◌, ◌++◌, refl, ap, sym, subst, AllZip, option_map, whole, ratio, Frac, Mult, Node, Step, Held, Part, Point, Value, Ray, Misread, NoShape, NoNumber, TooGreat, Index, Turn, Whole, Exact, Field, pieces, Pair, parted, worded, field, step_text, all_steps, node_word, all_node_words, cause_word, all_cause_words, pair_fields, mult_fields, mults_fields, no_field, one_field, place_fields, node_behind, cause_behind, item_fields, ReadsTexts, IsFraction, IsMult, IsMultOf, IsOne, IsPlace, node_head, SaysNode, cause_head, SaysCause, Round, round_head, SaysRound, TreeItem, tree_head, SaysTree, IsOutOfOrder, next_level, round_word, all_round_words, round_behind, IsItemRead, AddsItem, IfOk-weaker}
 use Rattle.certificate.specs.declared.nodes.Node.TheVariants as nodes
+use Rattle.certificate.specs.declared.nodes.Round.TheVariants as rounds
 use Rattle.osrl_grammar.specs.declared.parts.TreeItem.TheVariants as trees
 use Rattle.certificate.specs.declared.causes.Place.{Place}
 use Rattle.certificate.specs.declared.causes.Cause as why
 use Rattle.certificate.specs.declared.causes.Cause.TheVariants as causes
 use Rattle.osrl_writing.specs.declared.parts.Part.TheVariants.{Cause, Bound, Rounds, Tree}
-use Rattle.osrl_grammar.proofs.WordValues.{each_step, each_node_word, each_cause_word}
+use Rattle.osrl_grammar.proofs.WordValues.{each_step, each_node_word, each_round_word, each_cause_word}
 use Rattle.osrl_grammar.specs.Stepping.{ReadsNumber, as_held, ReadsItem}
 use Rattle.osrl_grammar.proofs.Fields.{Pass, number_pass, both_pass, reads_made, still_unread}
 use Rattle.osrl_grammar.proofs.Heads.{begun_pass}
@@ -51,18 +52,18 @@ node_pass (nodes.Farkas ms) ps h = mults_pass ps ms h
 node_pass (nodes.Bound ms) ps h = mults_pass ps ms h
 node_pass (nodes.Grid g ms) [] h = absurd h
 node_pass (nodes.Grid g ms) (s ∷ ps) h = both_pass (Some (field Exact s ∷ [])) (mults_fields ps) (number_pass Exact s (ratio g) h.0) (mults_pass ps ms h.1)
+node_pass (nodes.FarkasRows ms) ps h = mults_pass ps ms h
+node_pass (nodes.BoundRows ms) ps h = mults_pass ps ms h
+node_pass (nodes.GridRows g ms) [] h = absurd h
+node_pass (nodes.GridRows g ms) (s ∷ ps) h = both_pass (Some (field Exact s ∷ [])) (mults_fields ps) (number_pass Exact s (ratio g) h.0) (mults_pass ps ms h.1)
 
 tree_pass : (i : TreeItem) (ps : List (List ℕ)) → SaysTree i ps → Pass (node_behind (tree_head i) ps)
 tree_pass (trees.Node n) ps h = node_pass n ps h
 tree_pass (trees.Level l) ps h = one_pass ps l h
 
--- a round begins with its word
-round_shaped : (p : List ℕ) (ps : List (List ℕ)) → p ≡ round_word → round_fields (p ∷ ps) ≡ mults_fields ps
-round_shaped p ps is = ap (λ (w : List ℕ). round_fields (w ∷ ps)) is
-
-round_pass : (ps : List (List ℕ)) (ms : List Mult) → IsRoundOf ps ms → Pass (round_fields ps)
-round_pass [] ms h = absurd h
-round_pass (p ∷ ps) ms h = subst Pass (sym (round_shaped p ps h.0)) (mults_pass ps ms h.1)
+round_pass : (r : Round) (ps : List (List ℕ)) → SaysRound r ps → Pass (round_behind (round_head r) ps)
+round_pass (rounds.Whole ms) ps h = mults_pass ps ms h
+round_pass (rounds.OfRows ms) ps h = mults_pass ps ms h
 
 none_pass : (ps : List (List ℕ)) → ps ≡ [] → Pass (no_field ps)
 none_pass ps none = subst (λ (l : List (List ℕ)). Pass (no_field l)) (sym none) (tt, tt)
@@ -81,7 +82,7 @@ added_readable Point said h k a = number_pass Exact said (ratio a.0) a.1
 added_readable Value said h k a = number_pass Exact said (ratio a.0) a.1
 added_readable Ray said h k a = number_pass Exact said (ratio a.0) a.1
 added_readable Bound said h k a = number_pass Exact said (ratio a.0) a.1
-added_readable Rounds said h k a = round_pass (pieces said) a.0 a.1
+added_readable Rounds said h k a = begun_pass round_word all_round_words round_behind round_head SaysRound each_round_word round_pass (pieces said) a.0 a.1
 added_readable Tree said h k a = begun_pass node_word all_node_words node_behind tree_head SaysTree each_node_word tree_pass (pieces said) a.0 a.1
 added_readable Cause said h k a = begun_pass cause_word all_cause_words cause_behind cause_head SaysCause each_cause_word cause_pass (pieces said) a.0 a.1
 

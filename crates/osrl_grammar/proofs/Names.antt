@@ -17,9 +17,10 @@ pub use Rattle.certificate.specs.declared.claims.ProvedBound.{ProvedBound}
 pub use Rattle.certificate.specs.declared.claims.Claim.{Claim}
 pub use Rattle.certificate.specs.declared.claims.Claim.TheVariants.{BestSoFar, Infeasible, Optimal, Unbounded, Unsure}
 pub use Rattle.certificate.specs.declared.lists.Mult.{Mult}
+pub use Rattle.certificate.specs.declared.nodes.Round.{Round}
 pub use Rattle.certificate.specs.declared.nodes.Cert.{Cert}
 pub use Rattle.certificate.specs.declared.nodes.Node.{Node}
-pub use Rattle.certificate.specs.declared.nodes.Node.TheVariants.{Bound, Clash, Farkas, Grid, Split, Zero}
+pub use Rattle.certificate.specs.declared.nodes.Node.TheVariants.{Bound, BoundRows, Clash, Farkas, FarkasRows, Grid, GridRows, Split, Zero}
 pub use Rattle.decimal_text.proofs.OneRatio.{ratio_once}
 pub use Rattle.decimal_text.specs.Exact.{RatioText, ratio_text}
 pub use Rattle.decimal_text.specs.Plain.{point_text}
@@ -34,12 +35,11 @@ pub use Rattle.document_tags.specs.Writing.{group, leaf, text_nodes, typed}
 pub use Rattle.tree_grammar.proofs.XmlTexts.{Printable, list_printable}
 pub use Rattle.fraction.specs.Frac.{ratio}
 pub use Rattle.fraction.specs.declared.frac.Frac.{Frac}
-pub use Rattle.osrl_grammar.specs.Back.{BoundComesBack, CauseComesBack, ClaimComesBack, ComesBack, HasTrees, HaveColumns, IsBareOrNone, LevelComesBack, MayHaveTrees, NodeComesBack, TreesComeBack}
+pub use Rattle.osrl_grammar.specs.Back.{BoundComesBack, CauseComesBack, ClaimComesBack, ComesBack, HasTrees, HaveColumns, IsBareOrNone, LevelComesBack, MayHaveTrees, NodeComesBack, RoundComesBack, TreesComeBack}
 pub use Rattle.osrl_writing.specs.Cuts.{cut_size, cut_text, decimals, has_sign, without_zeros}
 pub use Rattle.osrl_grammar.specs.Failing.{Fails, MayHoldItems}
 pub use Rattle.osrl_grammar.specs.Grounds.{TextsAreOfCharacters}
-pub use Rattle.osrl_grammar.specs.Items.{ReadsTexts, all_cause_words, all_node_words, all_steps, cause_behind, cause_word, field, grid_fields, item_fields, mult_fields, mults_fields, no_field, node_behind, node_word, one_field, pair_fields, place_fields, round_fields, step_text, two_fields, with_fields}
-pub use Rattle.osrl_writing.specs.Words.{round_word}
+pub use Rattle.osrl_grammar.specs.Items.{ReadsTexts, all_cause_words, all_node_words, all_steps, cause_behind, cause_word, field, grid_fields, item_fields, mult_fields, mults_fields, no_field, node_behind, node_word, one_field, pair_fields, place_fields, all_round_words, round_behind, round_word, step_text, two_fields, with_fields}
 pub use Rattle.osrl_grammar.specs.Adding.{AddsItem, AfterItem, IsItemRead, noted, with_read, with_tree_item}
 pub use Rattle.osrl_grammar.specs.Leaving.{Ends, Leaves, begun, first, keeps, with_part}
 pub use Rattle.osrl_grammar.specs.Marked.{IsReport, marks, osrl}
@@ -51,7 +51,7 @@ pub use Rattle.osrl_grammar.specs.Saying.{bad_item, cert, certs, claim_as, has, 
 pub use Rattle.osrl_grammar.specs.Standing.{State, emptied, nothing_held, start}
 pub use Rattle.osrl_grammar.specs.Stepping.{EndsAt}
 pub use Rattle.osrl_grammar.specs.Table.{around, item_refusal, kind, leads, refusal_of, tests, told}
-pub use Rattle.osrl_grammar.specs.Values.{BeginsWithWord, IsCause, IsFraction, IsMult, IsMultOf, IsOne, IsOutOfOrder, IsPlace, IsRound, IsRoundOf, IsTreeItem, SaysCause, SaysNode, SaysTree, cause_head, node_head, tree_head}
+pub use Rattle.osrl_grammar.specs.Values.{BeginsWithWord, IsCause, IsFraction, IsMult, IsMultOf, IsOne, IsOutOfOrder, IsPlace, IsRound, IsTreeItem, SaysCause, SaysNode, SaysRound, SaysTree, cause_head, node_head, round_head, tree_head}
 pub use Rattle.osrl_grammar.specs.Words.{worded}
 pub use Rattle.osrl_writing.specs.Words.{claiming_text, part_name, status_text}
 pub use Rattle.osrl_writing.specs.Labels.{AreXmlLabels, AreXmlNames, Labels, name_at, no_names}

@@ -1,5 +1,5 @@
 -- A mark that is taken leaves one state.
-use Rattle.osrl_grammar.proofs.Names.{◌≡◌, ◌∙◌, inl, inr, ℕ, Option, None, Some, Result, Ok, Err, List, [], ◌∷◌, ◌++◌, refl, ap, sym, AllPass, Frac, Mult, TreeItem, BadItem, Misread, NoShape, NoNumber, TooGreat, Field, IsBad, IsTooGreat, ReadsTexts, item_fields, IsItemRead, AfterItem, noted, with_read, with_tree_item, Report, Held, To, Over, OtherRoot, Part, State, start, begins, ends, kind, AddsItem, Ends, Leaves, osrl, Kind}
+use Rattle.osrl_grammar.proofs.Names.{◌≡◌, ◌∙◌, inl, inr, ℕ, Option, None, Some, Result, Ok, Err, List, [], ◌∷◌, ◌++◌, refl, ap, sym, AllPass, Frac, TreeItem, BadItem, Misread, NoShape, NoNumber, TooGreat, Field, IsBad, IsTooGreat, ReadsTexts, item_fields, IsItemRead, AfterItem, noted, with_read, with_tree_item, Report, Held, To, Over, OtherRoot, Part, State, start, begins, ends, kind, AddsItem, Ends, Leaves, osrl, Kind, Round}
 use Rattle.tag_tests.specs.Fields.{OneFirst}
 use Rattle.tag_tests.specs.Forms.{LeavesOne}
 use Rattle.certificate.specs.declared.causes.Cause as why
@@ -20,7 +20,7 @@ added_once parts.Point said h a b k l = k.2 ∙ ap (λ (x : Frac). let g : Held 
 added_once parts.Value said h a b k l = k.2 ∙ ap (λ (x : Frac). let g : Held = record h { values = h.values ++ x ∷ [] } in g) (fraction_once said k.0 l.0 k.1 l.1) ∙ sym l.2
 added_once parts.Ray said h a b k l = k.2 ∙ ap (λ (x : Frac). let g : Held = record h { ray = h.ray ++ x ∷ [] } in g) (fraction_once said k.0 l.0 k.1 l.1) ∙ sym l.2
 added_once parts.Bound said h a b k l = k.2 ∙ ap (λ (x : Frac). let g : Held = record h { bounds = h.bounds ++ x ∷ [] } in g) (fraction_once said k.0 l.0 k.1 l.1) ∙ sym l.2
-added_once parts.Rounds said h a b k l = k.2 ∙ ap (λ (x : List Mult). let g : Held = record h { rounds = h.rounds ++ x ∷ [] } in g) (round_said_once said k.0 l.0 k.1 l.1) ∙ sym l.2
+added_once parts.Rounds said h a b k l = k.2 ∙ ap (λ (x : Round). let g : Held = record h { rounds = h.rounds ++ x ∷ [] } in g) (round_said_once said k.0 l.0 k.1 l.1) ∙ sym l.2
 added_once parts.Tree said h a b k l = k.2 ∙ ap (λ (x : TreeItem). with_tree_item x h) (tree_said_once said k.0 l.0 k.1 l.1) ∙ sym l.2
 added_once parts.Cause said h a b k l = k.2 ∙ ap (λ (x : why.Cause). let g : Held = record h { causes = h.causes ++ x ∷ [] } in g) (cause_said_once said k.0 l.0 k.1 l.1) ∙ sym l.2
 

@@ -1,14 +1,15 @@
 -- An item's text says one number, one node or one cause.
-use Rattle.osrl_grammar.proofs.Names.{◌≡◌, ◌∙◌, ap, ap₂, sym, refl, ℕ, ℤ, pos, Option, None, Some, List, [], ◌∷◌, AllZip, Ratio, whole, ratio, Frac, ratio_once, Mult, Node, Step, Index, Turn, Whole, IsNumberText, pieces, Pair, parted, node_word, all_node_words, node_behind, cause_word, all_cause_words, cause_behind, IsFraction, IsMultOf, IsMult, IsOne, IsPlace, node_head, SaysNode, TreeItem, tree_head, SaysTree, IsTreeItem, IsRoundOf, IsRound, cause_head, SaysCause, IsCause}
+use Rattle.osrl_grammar.proofs.Names.{◌≡◌, ◌∙◌, ap, ap₂, sym, refl, ℕ, ℤ, pos, Option, None, Some, List, [], ◌∷◌, AllZip, Ratio, whole, ratio, Frac, ratio_once, Mult, Node, Step, Index, Turn, Whole, IsNumberText, pieces, Pair, parted, node_word, all_node_words, node_behind, cause_word, all_cause_words, cause_behind, IsFraction, IsMultOf, IsMult, IsOne, IsPlace, node_head, SaysNode, TreeItem, tree_head, SaysTree, IsTreeItem, Round, round_word, all_round_words, round_behind, round_head, SaysRound, IsRound, cause_head, SaysCause, IsCause}
 use Rattle.fraction.proofs.Equality.{one_fraction}
 use Rattle.certificate.specs.declared.nodes.Node.TheVariants as nodes
+use Rattle.certificate.specs.declared.nodes.Round.TheVariants as rounds
 use Rattle.certificate.specs.declared.causes.Place.{Place}
 use Rattle.osrl_grammar.specs.declared.parts.NodeWord.TheVariants as heads
 use Rattle.osrl_grammar.specs.declared.parts.TreeItem.TheVariants as trees
 use Rattle.certificate.specs.declared.causes.Cause as why
 use Rattle.certificate.specs.declared.causes.Cause.TheVariants as causes
 use Rattle.osrl_grammar.specs.Numbers.{NumberKind}
-use Rattle.osrl_grammar.proofs.WordValues.{one_step, each_node_word, each_cause_word}
+use Rattle.osrl_grammar.proofs.WordValues.{one_step, each_node_word, each_round_word, each_cause_word}
 use Rattle.osrl_grammar.proofs.Heads.{begun_once}
 
 pub fraction_once : (text : List ℕ) (x y : Frac) → IsFraction text x → IsFraction text y → x ≡ y
@@ -52,6 +53,9 @@ no_level (nodes.Clash c) e = cc
 no_level (nodes.Farkas ms) e = cc
 no_level (nodes.Bound ms) e = cc
 no_level (nodes.Grid g ms) e = cc
+no_level (nodes.FarkasRows ms) e = cc
+no_level (nodes.BoundRows ms) e = cc
+no_level (nodes.GridRows g ms) e = cc
 
 node_once : (a b : Node) (ps : List (List ℕ)) → node_head a ≡ node_head b → SaysNode a ps → SaysNode b ps → a ≡ b
 node_once (nodes.Split j k) (nodes.Split i l) [] e h g = absurd h
@@ -64,6 +68,10 @@ node_once (nodes.Farkas ms) (nodes.Farkas ns) ps e h g = ap (λ (x : List Mult).
 node_once (nodes.Bound ms) (nodes.Bound ns) ps e h g = ap (λ (x : List Mult). nodes.Bound x) (mults_once ps ms ns h g)
 node_once (nodes.Grid x ms) (nodes.Grid y ns) [] e h g = absurd h
 node_once (nodes.Grid x ms) (nodes.Grid y ns) (s ∷ ps) e h g = ap₂ (λ (z : Frac) (ls : List Mult). nodes.Grid z ls) (fraction_once s x y h.0 g.0) (mults_once ps ms ns h.1 g.1)
+node_once (nodes.FarkasRows ms) (nodes.FarkasRows ns) ps e h g = ap (λ (x : List Mult). nodes.FarkasRows x) (mults_once ps ms ns h g)
+node_once (nodes.BoundRows ms) (nodes.BoundRows ns) ps e h g = ap (λ (x : List Mult). nodes.BoundRows x) (mults_once ps ms ns h g)
+node_once (nodes.GridRows x ms) (nodes.GridRows y ns) [] e h g = absurd h
+node_once (nodes.GridRows x ms) (nodes.GridRows y ns) (s ∷ ps) e h g = ap₂ (λ (z : Frac) (ls : List Mult). nodes.GridRows z ls) (fraction_once s x y h.0 g.0) (mults_once ps ms ns h.1 g.1)
 node_once a b ps e h g = absurd (cc)
 
 tree_once : (a b : TreeItem) (ps : List (List ℕ)) → tree_head a ≡ tree_head b → SaysTree a ps → SaysTree b ps → a ≡ b
@@ -75,12 +83,13 @@ tree_once (trees.Level l) (trees.Node m) ps e h g = absurd (no_level m (sym e))
 pub tree_said_once : (text : List ℕ) (a b : TreeItem) → IsTreeItem text a → IsTreeItem text b → a ≡ b
 tree_said_once text a b h g = begun_once node_word all_node_words node_behind tree_head SaysTree each_node_word tree_once (pieces text) a b h g
 
-round_once : (ps : List (List ℕ)) (ms ns : List Mult) → IsRoundOf ps ms → IsRoundOf ps ns → ms ≡ ns
-round_once [] ms ns h g = absurd h
-round_once (p ∷ ps) ms ns h g = mults_once ps ms ns h.1 g.1
+round_once : (a b : Round) (ps : List (List ℕ)) → round_head a ≡ round_head b → SaysRound a ps → SaysRound b ps → a ≡ b
+round_once (rounds.Whole ms) (rounds.Whole ns) ps e h g = ap (λ (x : List Mult). rounds.Whole x) (mults_once ps ms ns h g)
+round_once (rounds.OfRows ms) (rounds.OfRows ns) ps e h g = ap (λ (x : List Mult). rounds.OfRows x) (mults_once ps ms ns h g)
+round_once a b ps e h g = absurd (cc)
 
-pub round_said_once : (text : List ℕ) (ms ns : List Mult) → IsRound text ms → IsRound text ns → ms ≡ ns
-round_said_once text ms ns h g = round_once (pieces text) ms ns h g
+pub round_said_once : (text : List ℕ) (a b : Round) → IsRound text a → IsRound text b → a ≡ b
+round_said_once text a b h g = begun_once round_word all_round_words round_behind round_head SaysRound each_round_word round_once (pieces text) a b h g
 
 same_place : (p q : Place) → p.node ≡ q.node → p.turn ≡ q.turn → p.step ≡ q.step → p ≡ q
 same_place p q node turn step =

@@ -1,5 +1,5 @@
 -- The claim of a report that was read has fewer nodes than its document has bytes, each certificate fewer rounds, and each split is at a number that a fraction has.
-use Rattle.osrl_grammar.proofs.Names.{◌≡◌, ℕ, zero, suc, ◌<◌, ◌≤◌, ℤ, pos, negsuc, None, Some, List, [], length, subst, arith, neg_ℤ, unsigned_abs, All, All-nil, All-append, All-head, All-tail, flat_map, ◌∷◌, most, elements_in, nodes_of, Cert, Node, Split, Zero, Clash, Farkas, Bound, Grid, Claim, Optimal, Infeasible, Unbounded, BestSoFar, Unsure, Report, TextsAreOfCharacters, IsReportText, NodeComesBack, LevelComesBack, MayHaveTrees, ClaimComesBack}
+use Rattle.osrl_grammar.proofs.Names.{◌≡◌, ℕ, zero, suc, ◌<◌, ◌≤◌, ℤ, pos, negsuc, None, Some, List, [], length, subst, arith, neg_ℤ, unsigned_abs, All, All-nil, All-append, All-head, All-tail, flat_map, ◌∷◌, most, elements_in, nodes_of, Cert, Node, Split, Zero, Clash, Farkas, Bound, Grid, FarkasRows, BoundRows, GridRows, Claim, Optimal, Infeasible, Unbounded, BestSoFar, Unsure, Report, TextsAreOfCharacters, IsReportText, NodeComesBack, LevelComesBack, MayHaveTrees, ClaimComesBack}
 use Rattle.std.specs.Prelude.{◌≤ℤ◌}
 use Rattle.std.proofs.lemmas.Int.{ints}
 use Rattle.std.proofs.lemmas.List.Elements.{All-weaker}
@@ -21,6 +21,9 @@ node_range (Clash c) back = tt
 node_range (Farkas ms) back = tt
 node_range (Bound ms) back = tt
 node_range (Grid g ms) back = tt
+node_range (FarkasRows ms) back = tt
+node_range (BoundRows ms) back = tt
+node_range (GridRows g ms) back = tt
 
 nodes_range : (ns : List Node) → All NodeComesBack ns → All IsInRange ns
 nodes_range ns back = All-weaker NodeComesBack IsInRange node_range ns back

@@ -1,5 +1,5 @@
 -- What the marks of a document leave comes back from what is written of it: its texts are of characters of XML, its nodes and causes hold numbers of their types, and there are at most as many nodes as elements.
-use Rattle.osrl_grammar.proofs.Names.{◌≡◌, ◌∙◌, ℕ, zero, suc, ◌+◌, ◌-◌, ◌^◌, ◌<◌, ◌≤◌, inl, inr, Bool, true, false, cond, Option, None, Some, List, [], ◌∷◌, ◌++◌, map, length, refl, ap, sym, subst, arith, option_map, flat_map, append-nil, false≢true, true≢false, ◌&&◌, worded, claiming_text, Result, Ok, Err, Misread, NoShape, Field, bytes_eq, codes, All, AllZip, All-nil, All-cons, All-head, All-tail, All-append, IsXmlText, Attribute, Event, Close, Element, Nodes, none, element, chars, nodes_events, Char, spread, elements_in, trimmed, AllPass, AreTaken, Frac, nodes_of, Mult, Cert, Node, Split, Zero, Clash, Farkas, Bound, Grid, ProvedBound, Claim, Infeasible, JobStatus, Report, Held, Led, Part, Claiming, pieces, Pair, parted, node_word, cause_word, IsMultOf, IsMult, IsOne, SaysNode, TreeItem, tree_head, SaysTree, cause_head, SaysCause, BeginsWithWord, IsTreeItem, IsRoundOf, IsRound, IsCause, item_fields, ReadsTexts, IsItemRead, AfterItem, BadItem, noted, with_read, with_tree_item, bad_item, cert, certs, State, start, emptied, nothing_held, claim_as, report_with, report_of, nonempty, status_of, begins, ends, around, tests, leads, Fails, with_part, begun, first, AddsItem, Ends, Leaves, osrl, IsReport, TextsAreOfCharacters, HaveColumns, NodeComesBack, CauseComesBack, LevelComesBack, HasTrees, MayHaveTrees, TreesComeBack, BoundComesBack, ClaimComesBack, IsBareOrNone, end_kind, led_from, keeps}
+use Rattle.osrl_grammar.proofs.Names.{◌≡◌, ◌∙◌, ℕ, zero, suc, ◌+◌, ◌-◌, ◌^◌, ◌<◌, ◌≤◌, inl, inr, Bool, true, false, cond, Option, None, Some, List, [], ◌∷◌, ◌++◌, map, length, refl, ap, sym, subst, arith, option_map, flat_map, append-nil, false≢true, true≢false, ◌&&◌, worded, claiming_text, Result, Ok, Err, Misread, NoShape, Field, bytes_eq, codes, All, AllZip, All-nil, All-cons, All-head, All-tail, All-append, IsXmlText, Attribute, Event, Close, Element, Nodes, none, element, chars, nodes_events, Char, spread, elements_in, trimmed, AllPass, AreTaken, Frac, nodes_of, Mult, Cert, Node, Split, Zero, Clash, Farkas, Bound, Grid, FarkasRows, BoundRows, GridRows, ProvedBound, Claim, Infeasible, JobStatus, Report, Held, Led, Part, Claiming, pieces, Pair, parted, node_word, cause_word, IsMultOf, IsMult, IsOne, SaysNode, TreeItem, tree_head, SaysTree, cause_head, SaysCause, BeginsWithWord, IsTreeItem, IsRound, IsCause, item_fields, ReadsTexts, IsItemRead, AfterItem, BadItem, noted, with_read, with_tree_item, bad_item, cert, certs, State, start, emptied, nothing_held, claim_as, report_with, report_of, nonempty, status_of, begins, ends, around, tests, leads, Fails, with_part, begun, first, AddsItem, Ends, Leaves, osrl, IsReport, TextsAreOfCharacters, HaveColumns, NodeComesBack, CauseComesBack, LevelComesBack, HasTrees, MayHaveTrees, TreesComeBack, BoundComesBack, ClaimComesBack, IsBareOrNone, end_kind, led_from, keeps, Round, RoundComesBack, SaysRound, round_head, round_word}
 use Rattle.std.specs.Prelude.{option_and_then, IsSome}
 use Rattle.std.proofs.lemmas.List.{length-append}
 use Rattle.std.proofs.lemmas.List.Elements.{All-weaker}
@@ -8,6 +8,7 @@ use Rattle.std.proofs.lemmas.Slice.Eq.{bytes_eq-Decides}
 use Rattle.certificate.specs.Nodes.{cert_of, certs_of}
 use Rattle.doc_tree.proofs.Utf8.{no_text}
 use Rattle.document_tags.specs.Characters.{NodesOfCharacters, IsOfCharacters}
+use Rattle.certificate.specs.declared.nodes.Round.TheVariants as rounds
 use Rattle.certificate.specs.declared.causes.Cause as why
 use Rattle.certificate.specs.declared.causes.Cause.TheVariants as causes
 use Rattle.tag_tests.specs.declared.places.Led.TheVariants as led
@@ -34,7 +35,7 @@ pub record HeldFits (n : ℕ) (h : Held) : Type 0 where
   rounds : length h.rounds ≤ n
   levels : All LevelComesBack h.levels
   tree : All NodeComesBack h.tree
-  columns : All HaveColumns h.rounds
+  columns : All RoundComesBack h.rounds
   causes : All CauseComesBack h.causes
 
 mults_back : (ps : List (List ℕ)) (ms : List Mult) → AllZip IsMult ps ms → HaveColumns ms
@@ -63,6 +64,10 @@ said_back (Farkas ms) ps h = mults_back ps ms h
 said_back (Bound ms) ps h = mults_back ps ms h
 said_back (Grid g ms) [] h = absurd h
 said_back (Grid g ms) (s ∷ ps) h = mults_back ps ms h.1
+said_back (FarkasRows ms) ps h = mults_back ps ms h
+said_back (BoundRows ms) ps h = mults_back ps ms h
+said_back (GridRows g ms) [] h = absurd h
+said_back (GridRows g ms) (s ∷ ps) h = mults_back ps ms h.1
 
 why_back : (c : why.Cause) (ps : List (List ℕ)) → SaysCause c ps → CauseComesBack c
 why_back (causes.NodeLimit n) ps h = one_back ps n h
@@ -83,12 +88,16 @@ node_back text n h = begun_says (pieces text) n h
     begun_says [] n h = absurd h
     begun_says (p ∷ ps) n h = said_back n ps h.1
 
-round_back : (text : List ℕ) (ms : List Mult) → IsRound text ms → HaveColumns ms
-round_back text ms h = begun_says (pieces text) h
+turn_back : (r : Round) (ps : List (List ℕ)) → SaysRound r ps → RoundComesBack r
+turn_back (rounds.Whole ms) ps h = mults_back ps ms h
+turn_back (rounds.OfRows ms) ps h = mults_back ps ms h
+
+round_back : (text : List ℕ) (r : Round) → IsRound text r → RoundComesBack r
+round_back text r h = begun_says (pieces text) r h
   where
-    begun_says : (ps : List (List ℕ)) → IsRoundOf ps ms → HaveColumns ms
-    begun_says [] h = absurd h
-    begun_says (p ∷ ps) h = mults_back ps ms h.1
+    begun_says : (ps : List (List ℕ)) (r : Round) → BeginsWithWord round_word round_head SaysRound ps r → RoundComesBack r
+    begun_says [] r h = absurd h
+    begun_says (p ∷ ps) r h = turn_back r ps h.1
 
 cause_back : (text : List ℕ) (c : why.Cause) → IsCause text c → CauseComesBack c
 cause_back text c h = begun_says (pieces text) c h
@@ -129,7 +138,7 @@ added_fits : (p : Part) (said : List ℕ) (n : ℕ) (h k : Held) → AddsItem p 
 added_fits parts.Tree said n h k a f = subst (HeldFits (suc n)) (sym a.2) (item_added said n h a.0 a.1 f)
 added_fits parts.Rounds said n h k a f =
     let few = f.few in let rounds = f.rounds in let long = length-append h.rounds (a.0 ∷ []) in
-    subst (HeldFits (suc n)) (sym a.2) (record { few = omega (arith, few); rounds = omega (arith, rounds, long); levels = f.levels; tree = f.tree; columns = one_more HaveColumns h.rounds a.0 f.columns (round_back said a.0 a.1); causes = f.causes })
+    subst (HeldFits (suc n)) (sym a.2) (record { few = omega (arith, few); rounds = omega (arith, rounds, long); levels = f.levels; tree = f.tree; columns = one_more RoundComesBack h.rounds a.0 f.columns (round_back said a.0 a.1); causes = f.causes })
 added_fits parts.Cause said n h k a f =
     let few = f.few in let rounds = f.rounds in
     subst (HeldFits (suc n)) (sym a.2) (record { few = omega (arith, few); rounds = omega (arith, rounds); levels = f.levels; tree = f.tree; columns = f.columns; causes = one_more CauseComesBack h.causes a.0 f.causes (cause_back said a.0 a.1) })
@@ -172,7 +181,7 @@ only_back [] c is all = absurd (cc)
 only_back (x ∷ y ∷ cs) c is all = absurd (cc)
 
 -- the trees of all levels: their nodes, their rounds, and that they come back
-nodes_kept : (rs : List (List Mult)) (cs : List Cert) → level_nodes (with_rounds rs cs) ≡ level_nodes cs
+nodes_kept : (rs : List Round) (cs : List Cert) → level_nodes (with_rounds rs cs) ≡ level_nodes cs
 nodes_kept rs [] = refl
 nodes_kept rs (c ∷ cs) = refl
 
@@ -182,11 +191,11 @@ bare_few n (c ∷ cs) all =
     let none = ap length (All-head LevelComesBack c cs all).0 in
     All-cons (HasFew n) c cs (omega (arith, none)) (bare_few n cs (All-tail LevelComesBack c cs all))
 
-with_few : (n : ℕ) (rs : List (List Mult)) (cs : List Cert) → length rs ≤ n → All LevelComesBack cs → All (HasFew n) (with_rounds rs cs)
+with_few : (n : ℕ) (rs : List Round) (cs : List Cert) → length rs ≤ n → All LevelComesBack cs → All (HasFew n) (with_rounds rs cs)
 with_few n rs [] few all = All-nil (HasFew n)
 with_few n rs (c ∷ cs) few all = All-cons (HasFew n) (cert rs c.nodes) cs few (bare_few n cs (All-tail LevelComesBack c cs all))
 
-levels_back : (rs : List (List Mult)) (ls : List Cert) (ns : List Node) → All HaveColumns rs → All LevelComesBack ls → All NodeComesBack ns → 0 < length ls + length ns → HasTrees (certs rs ls ns)
+levels_back : (rs : List Round) (ls : List Cert) (ns : List Node) → All RoundComesBack rs → All LevelComesBack ls → All NodeComesBack ns → 0 < length ls + length ns → HasTrees (certs rs ls ns)
 levels_back rs [] ns columns levels tree some = record { some = omega (arith, some); rounds = columns; first = tree; levels = All-nil LevelComesBack }
 levels_back rs (l ∷ ls) ns columns levels tree some =
     let long = length-append ls (cert [] ns ∷ []) in
@@ -315,7 +324,7 @@ report_more n m r less f = let few = f.claim.0 in record { job = f.job; message 
 
 -- where no item is held
 none_held : (n : ℕ) (h : Held) → HeldFits n (emptied h)
-none_held n h = record { few = omega arith; rounds = omega arith; levels = All-nil LevelComesBack; tree = All-nil NodeComesBack; columns = All-nil HaveColumns; causes = All-nil CauseComesBack }
+none_held n h = record { few = omega arith; rounds = omega arith; levels = All-nil LevelComesBack; tree = All-nil NodeComesBack; columns = All-nil RoundComesBack; causes = All-nil CauseComesBack }
 
 pub start_sound : Sound 0 start
 start_sound = (no_text, tt, tt, none_held 0 nothing_held, record { job = tt; message = tt; claim = none_fits 0 }, (λ may none. refl))

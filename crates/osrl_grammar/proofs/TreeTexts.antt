@@ -1,5 +1,5 @@
 -- The items of written trees, each read behind those before it.
-use Rattle.osrl_grammar.proofs.Names.{◌≡◌, ◌∙◌, ℕ, ◌+◌, ◌^◌, ◌<◌, ◌≤◌, ◌&&◌, ◌⊎◌, inl, inr, pos, Bool, true, false, Option, Ok, List, [], ◌∷◌, ◌++◌, map, length, refl, ap, sym, subst, arith, append_assoc, append-nil, bytes_eq, codes, decimal, false≢true, All, All-head, All-tail, Mult, Cert, Node, Held, Part, ratio_once, whole, pieces, node_word, item_fields, node_head, SaysTree, tree_head, BeginsWithWord, IsOutOfOrder, IsItemRead, AddsItem, cert, certs, next_level, node_text, level_text, level_texts, NodeComesBack, LevelComesBack}
+use Rattle.osrl_grammar.proofs.Names.{◌≡◌, ◌∙◌, ℕ, ◌+◌, ◌^◌, ◌<◌, ◌≤◌, ◌&&◌, ◌⊎◌, inl, inr, pos, Bool, true, false, Option, Ok, List, [], ◌∷◌, ◌++◌, map, length, refl, ap, sym, subst, arith, append_assoc, append-nil, bytes_eq, codes, decimal, false≢true, All, All-head, All-tail, Cert, Node, Held, Part, ratio_once, whole, pieces, node_word, item_fields, node_head, SaysTree, tree_head, BeginsWithWord, IsOutOfOrder, IsItemRead, AddsItem, cert, certs, next_level, node_text, level_text, level_texts, NodeComesBack, LevelComesBack, Round}
 use Rattle.std.proofs.lemmas.List.{length-append}
 use Rattle.std.proofs.lemmas.Slice.Eq.{bytes_eq-Decides}
 use Rattle.certificate.specs.declared.nodes.Node.TheVariants as nodes
@@ -42,6 +42,9 @@ node_other (nodes.Clash c) = refl
 node_other (nodes.Farkas ms) = refl
 node_other (nodes.Bound ms) = refl
 node_other (nodes.Grid g ms) = refl
+node_other (nodes.FarkasRows ms) = refl
+node_other (nodes.BoundRows ms) = refl
+node_other (nodes.GridRows g ms) = refl
 
 node_apart : (l : ℕ) (ps : List (List ℕ)) (n : Node) → BeginsWithWord node_word tree_head SaysTree ps (trees.Node n) → (begins_level ps ≡ false) × (IsLevelBut l ps → ⊥)
 node_apart l [] n h = absurd h
@@ -106,7 +109,7 @@ trees_add type h c (d ∷ cs) (inr none) few first back = absurd (cc)
 
 -- and they are those that were written
 cert_is : (c : Cert) → c.rounds ≡ [] → cert [] c.nodes ≡ c
-cert_is c none = ap (λ (rs : List (List Mult)). cert rs c.nodes) (sym none)
+cert_is c none = ap (λ (rs : List Round). cert rs c.nodes) (sym none)
 
 levels_are : (ls : List Cert) (ns : List Node) (cs : List Cert) → All LevelComesBack cs → before_last ls ns cs ++ cert [] (last_nodes ns cs) ∷ [] ≡ ls ++ cert [] ns ∷ cs
 levels_are ls ns [] back = refl

@@ -1,11 +1,13 @@
 -- Values found by their words among all.
-use Rattle.osrl_grammar.proofs.Names.{◌≡◌, ◌∙◌, ap, ℕ, Bool, true, false, cond, bytes_eq, Option, None, Some, List, [], ◌∷◌, refl, sym, subst, MatchOption, All, All-head, All-tail, Step, JobStatus, worded, status_text, step_text, all_steps, node_word, all_node_words, cause_word, all_cause_words}
+use Rattle.osrl_grammar.proofs.Names.{◌≡◌, ◌∙◌, ap, ℕ, Bool, true, false, cond, bytes_eq, Option, None, Some, List, [], ◌∷◌, refl, sym, subst, MatchOption, All, All-head, All-tail, Step, JobStatus, worded, status_text, step_text, all_steps, node_word, all_node_words, round_word, all_round_words, cause_word, all_cause_words}
 use Rattle.std.proofs.lemmas.Slice.Eq.{bytes_eq-Decides}
 use Rattle.certificate.specs.declared.causes.Step.TheVariants as steps
 use Rattle.osrl_writing.specs.declared.report.JobStatus.TheVariants as statuses
 use Rattle.osrl_grammar.specs.Words.{all_statuses}
 use Rattle.osrl_grammar.specs.declared.parts.NodeWord.{NodeWord}
 use Rattle.osrl_grammar.specs.declared.parts.NodeWord.TheVariants as nodes
+use Rattle.osrl_grammar.specs.declared.parts.RoundWord.{RoundWord}
+use Rattle.osrl_grammar.specs.declared.parts.RoundWord.TheVariants as rounds
 use Rattle.osrl_grammar.specs.declared.parts.CauseWord.{CauseWord}
 use Rattle.osrl_grammar.specs.declared.parts.CauseWord.TheVariants as causes
 
@@ -41,6 +43,10 @@ each_step w = refl
 pub each_node_word : (w : NodeWord) → worded node_word all_node_words (node_word w) ≡ Some w
 each_node_word nodes.Split = refl
 each_node_word w = refl
+
+pub each_round_word : (w : RoundWord) → worded round_word all_round_words (round_word w) ≡ Some w
+each_round_word rounds.Whole = refl
+each_round_word rounds.OfRows = refl
 
 pub each_cause_word : (w : CauseWord) → worded cause_word all_cause_words (cause_word w) ≡ Some w
 each_cause_word causes.Killed = refl

@@ -1,7 +1,7 @@
 -- What an item of a certificate's part adds to what its part holds, and what is kept in mind of it.
 use Rattle.std.specs.Prelude.{◌≡◌, ◌⊎◌, ℕ, Bool, true, ◌&&◌, Option, None, Some, Result, Ok, Err, List, [], ◌∷◌, ◌++◌}
 use Rattle.fraction.specs.declared.frac.Frac.{Frac}
-use Rattle.certificate.specs.declared.lists.Mult.{Mult}
+use Rattle.certificate.specs.declared.nodes.Round.{Round}
 use Rattle.certificate.specs.declared.causes.Cause as why
 use Rattle.osrl_grammar.specs.declared.held.Held.{Held}
 use Rattle.osrl_writing.specs.declared.parts.Part.{Part}
@@ -28,7 +28,7 @@ AddsItem Value said h k = (x : Frac) × IsFraction said x × (k ≡ record h { v
 AddsItem Ray said h k = (x : Frac) × IsFraction said x × (k ≡ record h { ray = h.ray ++ x ∷ [] })
 AddsItem Cause said h k = (c : why.Cause) × IsCause said c × (k ≡ record h { causes = h.causes ++ c ∷ [] })
 AddsItem Bound said h k = (x : Frac) × IsFraction said x × (k ≡ record h { bounds = h.bounds ++ x ∷ [] })
-AddsItem Rounds said h k = (r : List Mult) × IsRound said r × (k ≡ record h { rounds = h.rounds ++ r ∷ [] })
+AddsItem Rounds said h k = (r : Round) × IsRound said r × (k ≡ record h { rounds = h.rounds ++ r ∷ [] })
 AddsItem Tree said h k = (i : TreeItem) × IsTreeItem said i × (k ≡ with_tree_item i h)
 
 -- WHAT IS READ OF AN ITEM: what the parts hold then, or what is wrong with it; a level out of order isn't of its shape

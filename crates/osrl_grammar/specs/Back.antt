@@ -7,7 +7,9 @@ use Rattle.decimal_text.specs.Space.{trimmed}
 use Rattle.rational.specs.Width.{most}
 use Rattle.certificate.specs.declared.lists.Mult.{Mult}
 use Rattle.certificate.specs.declared.nodes.Node.{Node}
-use Rattle.certificate.specs.declared.nodes.Node.TheVariants.{Split, Zero, Clash, Farkas, Bound, Grid}
+use Rattle.certificate.specs.declared.nodes.Node.TheVariants.{Split, Zero, Clash, Farkas, Bound, Grid, FarkasRows, BoundRows, GridRows}
+use Rattle.certificate.specs.declared.nodes.Round.{Round}
+use Rattle.certificate.specs.declared.nodes.Round.TheVariants.{Whole, OfRows}
 use Rattle.certificate.specs.declared.nodes.Cert.{Cert}
 use Rattle.certificate.specs.declared.causes.Cause.{Cause}
 use Rattle.certificate.specs.declared.causes.Cause.TheVariants as causes
@@ -40,6 +42,14 @@ NodeComesBack (Clash c) = c < 2 ^ 32
 NodeComesBack (Farkas ms) = HaveColumns ms
 NodeComesBack (Bound ms) = HaveColumns ms
 NodeComesBack (Grid g ms) = HaveColumns ms
+NodeComesBack (FarkasRows ms) = HaveColumns ms
+NodeComesBack (BoundRows ms) = HaveColumns ms
+NodeComesBack (GridRows g ms) = HaveColumns ms
+
+-- so are those of a round
+abbrev pub RoundComesBack : Round → Type 0
+RoundComesBack (Whole ms) = HaveColumns ms
+RoundComesBack (OfRows ms) = HaveColumns ms
 
 -- the numbers are of their types, as those of every cause are
 abbrev pub CauseComesBack : Cause → Type 0
@@ -57,7 +67,7 @@ LevelComesBack c = (c.rounds ≡ []) × All NodeComesBack c.nodes
 -- the first tree has a node, or there are levels behind it
 pub record TreesComeBack (c : Cert) (cs : List Cert) : Type 0 where
   pub some : 0 < length c.nodes + length cs
-  pub rounds : All HaveColumns c.rounds
+  pub rounds : All RoundComesBack c.rounds
   pub first : All NodeComesBack c.nodes
   pub levels : All LevelComesBack cs
 

@@ -1,5 +1,5 @@
 -- The items of a certificate's parts: the texts in them that stand for numbers, where they have their shapes. The form is the project's own.
-use Rattle.std.specs.Prelude.{◌≡◌, ℕ, Bool, false, Option, None, Some, option_map, cond, bytes_eq, Result, Ok, Err, List, [], ◌∷◌, ◌++◌, codes}
+use Rattle.std.specs.Prelude.{◌≡◌, ℕ, Bool, false, Option, None, Some, option_map, bytes_eq, Result, Ok, Err, List, [], ◌∷◌, ◌++◌, codes}
 use Rattle.certificate.specs.declared.causes.Step.{Step}
 use Rattle.certificate.specs.declared.causes.Step.TheVariants as steps
 pub use Rattle.certificate.specs.Words.{step_text}
@@ -9,18 +9,19 @@ use Rattle.osrl_writing.specs.declared.parts.Part.{Part}
 use Rattle.osrl_writing.specs.declared.parts.Part.TheVariants.{Rounds, Tree, Cause}
 use Rattle.osrl_grammar.specs.declared.parts.NodeWord.{NodeWord}
 use Rattle.osrl_grammar.specs.declared.parts.NodeWord.TheVariants as nodes
+use Rattle.osrl_grammar.specs.declared.parts.RoundWord.{RoundWord}
+use Rattle.osrl_grammar.specs.declared.parts.RoundWord.TheVariants as rounds
 use Rattle.osrl_grammar.specs.declared.parts.CauseWord.{CauseWord}
 use Rattle.osrl_grammar.specs.declared.parts.CauseWord.TheVariants as causes
 use Rattle.osrl_grammar.specs.declared.parts.Misread.{Misread}
 use Rattle.osrl_grammar.specs.declared.parts.Misread.TheVariants.{NoShape, NoNumber, TooGreat}
 use Rattle.tag_tests.specs.declared.numbers.Unread.{Unread}
 use Rattle.tag_tests.specs.declared.numbers.Unread.TheVariants.{NotNumber, Wide}
-use Rattle.osrl_writing.specs.Words.{round_word}
 use Rattle.osrl_grammar.specs.Words.{worded}
 use Rattle.osrl_grammar.specs.Numbers.{NumberKind, Index, Turn, Whole, Exact, Field, IsBad, IsTooGreat}
 use Rattle.osrl_grammar.specs.Pieces.{pieces, Pair, parted}
 
--- the words of nodes and of what begins a level, and of causes; steps and rounds have theirs
+-- the words of nodes and of what begins a level, of rounds, and of causes; steps have theirs
 abbrev pub node_word : NodeWord → List ℕ
 node_word nodes.Split = codes "split"
 node_word nodes.Zero = codes "zero"
@@ -28,10 +29,20 @@ node_word nodes.Clash = codes "clash"
 node_word nodes.Farkas = codes "farkas"
 node_word nodes.Bound = codes "bound"
 node_word nodes.Grid = codes "grid"
+node_word nodes.FarkasRows = codes "farkasRows"
+node_word nodes.BoundRows = codes "boundRows"
+node_word nodes.GridRows = codes "gridRows"
 node_word nodes.Level = codes "level"
 
 abbrev pub all_node_words : List NodeWord
-all_node_words = nodes.Split ∷ nodes.Zero ∷ nodes.Clash ∷ nodes.Farkas ∷ nodes.Bound ∷ nodes.Grid ∷ nodes.Level ∷ []
+all_node_words = nodes.Split ∷ nodes.Zero ∷ nodes.Clash ∷ nodes.Farkas ∷ nodes.Bound ∷ nodes.Grid ∷ nodes.FarkasRows ∷ nodes.BoundRows ∷ nodes.GridRows ∷ nodes.Level ∷ []
+
+abbrev pub round_word : RoundWord → List ℕ
+round_word rounds.Whole = codes "round"
+round_word rounds.OfRows = codes "roundRows"
+
+abbrev pub all_round_words : List RoundWord
+all_round_words = rounds.Whole ∷ rounds.OfRows ∷ []
 
 abbrev pub cause_word : CauseWord → List ℕ
 cause_word causes.Killed = codes "killed"
@@ -95,7 +106,14 @@ node_behind nodes.Clash ps = one_field Index ps
 node_behind nodes.Farkas ps = mults_fields ps
 node_behind nodes.Bound ps = mults_fields ps
 node_behind nodes.Grid ps = grid_fields ps
+node_behind nodes.FarkasRows ps = mults_fields ps
+node_behind nodes.BoundRows ps = mults_fields ps
+node_behind nodes.GridRows ps = grid_fields ps
 node_behind nodes.Level ps = one_field Index ps
+
+abbrev pub round_behind : RoundWord → List (List ℕ) → Option (List Field)
+round_behind rounds.Whole ps = mults_fields ps
+round_behind rounds.OfRows ps = mults_fields ps
 
 abbrev pub cause_behind : CauseWord → List (List ℕ) → Option (List Field)
 cause_behind causes.Killed ps = no_field ps
@@ -114,14 +132,9 @@ abbrev pub worded_fields : {W : Type 0} → (W → List ℕ) → List W → (W �
 worded_fields {W} word all behind [] = None
 worded_fields {W} word all behind (p ∷ ps) = behind_word behind (worded word all p) ps
 
--- of the pieces of a round
-abbrev pub round_fields : List (List ℕ) → Option (List Field)
-round_fields [] = None
-round_fields (p ∷ ps) = cond (bytes_eq p round_word) (mults_fields ps) None
-
 -- of an item of a part
 abbrev pub item_fields : Part → List ℕ → Option (List Field)
-item_fields Rounds text = round_fields (pieces text)
+item_fields Rounds text = worded_fields round_word all_round_words round_behind (pieces text)
 item_fields Tree text = worded_fields node_word all_node_words node_behind (pieces text)
 item_fields Cause text = worded_fields cause_word all_cause_words cause_behind (pieces text)
 item_fields p text = Some (field Exact text ∷ [])

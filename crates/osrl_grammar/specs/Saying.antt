@@ -3,7 +3,7 @@ use Rattle.std.specs.Prelude.{ℕ, ◌+◌, Bool, true, false, Option, None, Som
 use Rattle.tree_grammar.specs.Elements.{Attribute}
 use Rattle.document_tags.specs.Elements.{value_of, unless_empty}
 use Rattle.fraction.specs.declared.frac.Frac.{Frac}
-use Rattle.certificate.specs.declared.lists.Mult.{Mult}
+use Rattle.certificate.specs.declared.nodes.Round.{Round}
 use Rattle.certificate.specs.declared.nodes.Node.{Node}
 use Rattle.certificate.specs.declared.nodes.Cert.{Cert}
 use Rattle.certificate.specs.declared.causes.Cause.{Cause}
@@ -86,14 +86,14 @@ when {X} true x = Some x
 when {X} false x = None
 
 -- A TREE FOR EACH LEVEL: those of the levels before the latest, and its nodes; the first has the rounds
-abbrev pub cert : List (List Mult) → List Node → Cert
+abbrev pub cert : List Round → List Node → Cert
 cert rs ns = record { rounds = rs; nodes = ns }
 
-abbrev pub with_rounds : List (List Mult) → List Cert → List Cert
+abbrev pub with_rounds : List Round → List Cert → List Cert
 with_rounds rs [] = []
 with_rounds rs (c ∷ cs) = cert rs c.nodes ∷ cs
 
-abbrev pub certs : List (List Mult) → List Cert → List Node → List Cert
+abbrev pub certs : List Round → List Cert → List Node → List Cert
 certs rs before ns = with_rounds rs (before ++ cert [] ns ∷ [])
 
 -- none where there is no tree

@@ -2,8 +2,6 @@
 use Rattle.std.specs.Prelude.{◌≡◌, ℕ, true, false, Some, Result, Ok, Err, IfOk, List, [], ◌∷◌, ◌++◌}
 use Rattle.std.specs.List.{AllZip}
 use Rattle.certificate.specs.declared.lists.Mult.{Mult}
-use Rattle.certificate.specs.declared.nodes.Node.{Node}
-use Rattle.certificate.specs.declared.nodes.Node.TheVariants.{Grid}
 use Rattle.tag_tests.specs.declared.numbers.Unread.{Unread}
 use Rattle.tag_tests.specs.Fields.{FieldsRead}
 use Rattle.tag_tests.specs.Tests.{AllPass, FirstFails}
@@ -38,10 +36,10 @@ AreCounted s = (s.twice ≡ false) × IsCounted s.held Value × IsCounted s.held
 abbrev pub ReadMults : {X : Type 0} → List (List ℕ) → List Field → List Mult → Result X Unread → Type 0
 ReadMults {X} done fs ms r = FieldsRead IsBad IsTooGreat fs r (λ x. AllZip IsMult done ms)
 
--- the leaf on the goal's grid of multipliers and a step, or what is wrong with them
-abbrev pub gridded : Result (List Mult) Misread → Result Frac Unread → Result Node Misread
+-- a step and multipliers, or what is wrong with them
+abbrev pub gridded : Result (List Mult) Misread → Result Frac Unread → Result (Frac × List Mult) Misread
 gridded (Err m) step = Err (wrong_with m step)
-gridded (Ok ms) (Ok g) = Ok (Grid g ms)
+gridded (Ok ms) (Ok g) = Ok (g, ms)
 gridded (Ok ms) (Err u) = Err (misread_of u)
 
 -- a number was read of this text and added to these, or this is wrong with it; the other error is want of memory

@@ -7,11 +7,15 @@ use Rattle.fraction.specs.declared.frac.Frac.{Frac}
 use Rattle.certificate.specs.declared.lists.Mult.{Mult}
 use Rattle.certificate.specs.declared.nodes.Node.{Node}
 use Rattle.certificate.specs.declared.nodes.Node.TheVariants as nodes
+use Rattle.certificate.specs.declared.nodes.Round.{Round}
+use Rattle.certificate.specs.declared.nodes.Round.TheVariants as rounds
 use Rattle.certificate.specs.declared.causes.Place.{Place}
 use Rattle.certificate.specs.declared.causes.Cause as why
 use Rattle.certificate.specs.declared.causes.Cause.TheVariants as causes
 use Rattle.osrl_grammar.specs.declared.parts.NodeWord.{NodeWord}
 use Rattle.osrl_grammar.specs.declared.parts.NodeWord.TheVariants as heads
+use Rattle.osrl_grammar.specs.declared.parts.RoundWord.{RoundWord}
+use Rattle.osrl_grammar.specs.declared.parts.RoundWord.TheVariants as turns
 use Rattle.osrl_grammar.specs.declared.parts.CauseWord.{CauseWord}
 use Rattle.osrl_grammar.specs.declared.parts.CauseWord.TheVariants as reasons
 use Rattle.osrl_grammar.specs.declared.parts.TreeItem.{TreeItem}
@@ -20,8 +24,7 @@ use Rattle.osrl_grammar.specs.Numbers.{Index, Turn, Whole, Exact, WritesNumber, 
 use Rattle.osrl_grammar.specs.Pieces.{pieces, Pair, parted}
 use Rattle.osrl_writing.specs.declared.parts.Part.{Part}
 use Rattle.osrl_writing.specs.declared.parts.Part.TheVariants.{Tree}
-use Rattle.osrl_grammar.specs.Items.{node_word, cause_word, step_text}
-use Rattle.osrl_writing.specs.Words.{round_word}
+use Rattle.osrl_grammar.specs.Items.{node_word, round_word, cause_word, step_text}
 
 abbrev pub IsFraction : List ℕ → Frac → Type 0
 IsFraction text x = IsNumberText Exact text (ratio x)
@@ -49,6 +52,11 @@ abbrev pub IsPlace : List (List ℕ) → Place → Type 0
 IsPlace (n ∷ t ∷ s ∷ []) p = IsIndex n p.node × IsTurn t p.turn × (s ≡ step_text p.step)
 IsPlace ps p = ⊥
 
+-- a step, and then multipliers
+abbrev pub SaysSteps : List (List ℕ) → Frac × List Mult → Type 0
+SaysSteps [] leaf = ⊥
+SaysSteps (s ∷ ps) leaf = IsFraction s leaf.0 × AllZip IsMult ps leaf.1
+
 -- the word of a node, and the pieces behind it
 abbrev pub node_head : Node → NodeWord
 node_head (nodes.Split j k) = heads.Split
@@ -57,6 +65,9 @@ node_head (nodes.Clash c) = heads.Clash
 node_head (nodes.Farkas ms) = heads.Farkas
 node_head (nodes.Bound ms) = heads.Bound
 node_head (nodes.Grid g ms) = heads.Grid
+node_head (nodes.FarkasRows ms) = heads.FarkasRows
+node_head (nodes.BoundRows ms) = heads.BoundRows
+node_head (nodes.GridRows g ms) = heads.GridRows
 
 abbrev pub SaysNode : Node → List (List ℕ) → Type 0
 SaysNode (nodes.Split j k) (c ∷ b ∷ []) = IsIndex c j × IsNumberText Whole b (whole k)
@@ -65,8 +76,10 @@ SaysNode (nodes.Zero j) ps = IsOne ps j
 SaysNode (nodes.Clash c) ps = IsOne ps c
 SaysNode (nodes.Farkas ms) ps = AllZip IsMult ps ms
 SaysNode (nodes.Bound ms) ps = AllZip IsMult ps ms
-SaysNode (nodes.Grid g ms) (s ∷ ps) = IsFraction s g × AllZip IsMult ps ms
-SaysNode (nodes.Grid g ms) [] = ⊥
+SaysNode (nodes.Grid g ms) ps = SaysSteps ps (g, ms)
+SaysNode (nodes.FarkasRows ms) ps = AllZip IsMult ps ms
+SaysNode (nodes.BoundRows ms) ps = AllZip IsMult ps ms
+SaysNode (nodes.GridRows g ms) ps = SaysSteps ps (g, ms)
 
 -- the word of an item of a tree, and the pieces behind it: a node, or the number of the level that begins
 abbrev pub tree_head : TreeItem → NodeWord
@@ -76,6 +89,15 @@ tree_head (trees.Level l) = heads.Level
 abbrev pub SaysTree : TreeItem → List (List ℕ) → Type 0
 SaysTree (trees.Node n) ps = SaysNode n ps
 SaysTree (trees.Level l) ps = IsOne ps l
+
+-- the word of a round, and the pieces behind it
+abbrev pub round_head : Round → RoundWord
+round_head (rounds.Whole ms) = turns.Whole
+round_head (rounds.OfRows ms) = turns.OfRows
+
+abbrev pub SaysRound : Round → List (List ℕ) → Type 0
+SaysRound (rounds.Whole ms) ps = AllZip IsMult ps ms
+SaysRound (rounds.OfRows ms) ps = AllZip IsMult ps ms
 
 -- the word of why a search stopped, and the pieces behind it
 abbrev pub cause_head : why.Cause → CauseWord
@@ -104,13 +126,8 @@ BeginsWithWord {W} {X} word head Says (p ∷ ps) x = (p ≡ word (head x)) × Sa
 abbrev pub IsTreeItem : List ℕ → TreeItem → Type 0
 IsTreeItem text i = BeginsWithWord node_word tree_head SaysTree (pieces text) i
 
--- behind the word of rounds
-abbrev pub IsRoundOf : List (List ℕ) → List Mult → Type 0
-IsRoundOf [] ms = ⊥
-IsRoundOf (p ∷ ps) ms = (p ≡ round_word) × AllZip IsMult ps ms
-
-abbrev pub IsRound : List ℕ → List Mult → Type 0
-IsRound text ms = IsRoundOf (pieces text) ms
+abbrev pub IsRound : List ℕ → Round → Type 0
+IsRound text r = BeginsWithWord round_word round_head SaysRound (pieces text) r
 
 abbrev pub IsCause : List ℕ → why.Cause → Type 0
 IsCause text c = BeginsWithWord cause_word cause_head SaysCause (pieces text) c

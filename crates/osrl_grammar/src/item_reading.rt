@@ -6,19 +6,20 @@ ghost use Rattle.tag_tests.specs.Fields.{FieldsRead};
 ghost use Rattle.osrl_writing.specs.declared.parts.Part.TheVariants as parts;
 ghost use Rattle.osrl_grammar.specs.declared.parts.NodeWord as kinds;
 ghost use Rattle.osrl_grammar.specs.declared.parts.NodeWord.TheVariants as heads;
+ghost use Rattle.osrl_grammar.specs.declared.parts.RoundWord.TheVariants as turns;
 ghost use Rattle.osrl_grammar.specs.Words.{worded};
 ghost use Rattle.osrl_grammar.specs.Numbers.{Index, Field, IsBad, IsTooGreat};
 ghost use Rattle.osrl_grammar.specs.Pieces.{more, pieces};
 ghost use Rattle.osrl_grammar.specs.Items as items;
-ghost use Rattle.osrl_grammar.specs.Items.{ReadsTexts, pair_fields, mults_fields};
-ghost use Rattle.osrl_grammar.specs.Values.{IsMult, IsMultOf, IsOne, IsPlace, IsSaidBehind, node_head, SaysNode, tree_head, SaysTree, IsTreeItem, IsRound, IsLevelBut, cause_head, SaysCause, IsCause};
+ghost use Rattle.osrl_grammar.specs.Items.{ReadsTexts, pair_fields, mults_fields, grid_fields};
+ghost use Rattle.osrl_grammar.specs.Values.{IsMult, IsMultOf, IsOne, SaysSteps, IsPlace, IsSaidBehind, node_head, SaysNode, tree_head, SaysTree, IsTreeItem, round_head, SaysRound, IsRound, IsLevelBut, cause_head, SaysCause, IsCause};
 ghost use Rattle.osrl_grammar.specs.Stepping.{ReadMults, gridded};
 
 use crate::numbers::{read_exact, read_index, read_turn, read_whole};
-use crate::parts::{CauseWord, Misread, NodeWord, TreeItem};
+use crate::parts::{CauseWord, Misread, NodeWord, RoundWord, TreeItem};
 use crate::pieces::{first_piece, one_piece, parted, three_pieces, two_pieces};
 use crate::words::with_word;
-use certificate::{Cause, Mult, Mults, Node, Place, Step};
+use certificate::{Cause, Mult, Mults, Node, Place, Round, Step};
 use fraction::Frac;
 use os_io::Memory;
 use osrl_writing::Part;
@@ -149,6 +150,26 @@ fn bound(mults: Result<Mults, Misread>) -> Result<Node, Misread>
     }
 }
 
+/// The same of rows alone.
+fn farkas_rows(mults: Result<Mults, Misread>) -> Result<Node, Misread>
+    ensures { (ps : List (List ℕ)) → ReadsTexts (mults_fields ps) mults (AllZip IsMult ps) → ReadsTexts (mults_fields ps) result (IsSaidBehind node_head SaysNode heads.FarkasRows ps) }
+{
+    match mults {
+        Ok(mults) => Ok(Node::FarkasRows(mults)),
+        Err(misread) => Err(misread),
+    }
+}
+
+/// Multipliers of rows alone, by which no point is better.
+fn bound_rows(mults: Result<Mults, Misread>) -> Result<Node, Misread>
+    ensures { (ps : List (List ℕ)) → ReadsTexts (mults_fields ps) mults (AllZip IsMult ps) → ReadsTexts (mults_fields ps) result (IsSaidBehind node_head SaysNode heads.BoundRows ps) }
+{
+    match mults {
+        Ok(mults) => Ok(Node::BoundRows(mults)),
+        Err(misread) => Err(misread),
+    }
+}
+
 /// What is wrong with a step and multipliers, of which the latter are misread.
 fn wrong_with(step: Result<Frac, Unread>, mults: Misread) -> Misread
     ensures { result ≡ items.wrong_with mults step }
@@ -162,29 +183,52 @@ fn wrong_with(step: Result<Frac, Unread>, mults: Misread) -> Misread
     }
 }
 
-/// Multipliers by which no point is better, on a grid with this step.
-fn grid(step: Result<Frac, Unread>, mults: Result<Mults, Misread>) -> Result<Node, Misread>
+/// A step and multipliers, or what is wrong with them.
+fn gridded(
+    step: Result<Frac, Unread>,
+    mults: Result<Mults, Misread>,
+) -> Result<(Frac, Mults), Misread>
     ensures { result ≡ gridded mults step }
 {
     match mults {
         Ok(mults) => match step {
-            Ok(step) => Ok(Node::Grid { step, mults }),
+            Ok(step) => Ok((step, mults)),
             Err(unread) => Err(misread(unread)),
         },
         Err(wrong) => Err(wrong_with(step, wrong)),
     }
 }
 
-/// A leaf on the goal's grid behind its word.
-fn read_grid(alloc: Global, rest: Option<&[u8]>) -> Result<Result<Node, Misread>, Memory>
-    ensures { IfOk result (λ r. ReadsTexts (items.node_behind heads.Grid (more rest.entry)) r (IsSaidBehind node_head SaysNode heads.Grid (more rest.entry))) }
+/// A step, and then multipliers, one a piece.
+fn read_steps(alloc: Global, rest: Option<&[u8]>) -> Result<Result<(Frac, Mults), Misread>, Memory>
+    ensures { IfOk result (λ r. ReadsTexts (grid_fields (more rest.entry)) r (SaysSteps (more rest.entry))) }
 {
     let Some(text) = rest else {
         return Ok(Err(Misread::NoShape));
     };
     let (step, behind) = first_piece(text);
     let mults = read_mults(alloc, behind)?;
-    Ok(grid(read_exact(step), mults))
+    Ok(gridded(read_exact(step), mults))
+}
+
+/// Multipliers by which no point is better, on a grid with this step.
+fn grid(leaf: Result<(Frac, Mults), Misread>) -> Result<Node, Misread>
+    ensures { (ps : List (List ℕ)) → ReadsTexts (grid_fields ps) leaf (SaysSteps ps) → ReadsTexts (grid_fields ps) result (IsSaidBehind node_head SaysNode heads.Grid ps) }
+{
+    match leaf {
+        Ok((step, mults)) => Ok(Node::Grid { step, mults }),
+        Err(misread) => Err(misread),
+    }
+}
+
+/// The same of rows alone.
+fn grid_rows(leaf: Result<(Frac, Mults), Misread>) -> Result<Node, Misread>
+    ensures { (ps : List (List ℕ)) → ReadsTexts (grid_fields ps) leaf (SaysSteps ps) → ReadsTexts (grid_fields ps) result (IsSaidBehind node_head SaysNode heads.GridRows ps) }
+{
+    match leaf {
+        Ok((step, mults)) => Ok(Node::GridRows { step, mults }),
+        Err(misread) => Err(misread),
+    }
 }
 
 /// The number of a level behind its word.
@@ -221,19 +265,25 @@ fn tree_item_of(
         NodeWord::Clash => Ok(as_item(read_clash(rest))),
         NodeWord::Farkas => Ok(as_item(farkas(read_mults(alloc, rest)?))),
         NodeWord::Bound => Ok(as_item(bound(read_mults(alloc, rest)?))),
-        NodeWord::Grid => Ok(as_item(read_grid(alloc, rest)?)),
+        NodeWord::Grid => Ok(as_item(grid(read_steps(alloc, rest)?))),
+        NodeWord::FarkasRows => Ok(as_item(farkas_rows(read_mults(alloc, rest)?))),
+        NodeWord::BoundRows => Ok(as_item(bound_rows(read_mults(alloc, rest)?))),
+        NodeWord::GridRows => Ok(as_item(grid_rows(read_steps(alloc, rest)?))),
         NodeWord::Level => Ok(read_level(rest)),
     }
 }
 
 /// The words of nodes, and of what begins a level.
-const NODE_WORDS: [NodeWord; 7] = [
+const NODE_WORDS: [NodeWord; 10] = [
     NodeWord::Split,
     NodeWord::Zero,
     NodeWord::Clash,
     NodeWord::Farkas,
     NodeWord::Bound,
     NodeWord::Grid,
+    NodeWord::FarkasRows,
+    NodeWord::BoundRows,
+    NodeWord::GridRows,
     NodeWord::Level,
 ];
 
@@ -314,15 +364,59 @@ pub(crate) fn is_level_but(text: &[u8], level: u32) -> bool
     }
 }
 
-/// The multipliers that an item says of a round.
-pub(crate) fn read_round(alloc: Global, text: &[u8]) -> Result<Result<Mults, Misread>, Memory>
+/// Multipliers as a round.
+fn whole_round(mults: Result<Mults, Misread>) -> Result<Round, Misread>
+    ensures { (ps : List (List ℕ)) → ReadsTexts (mults_fields ps) mults (AllZip IsMult ps) → ReadsTexts (mults_fields ps) result (IsSaidBehind round_head SaysRound turns.Whole ps) }
+{
+    match mults {
+        Ok(mults) => Ok(Round::Whole(mults)),
+        Err(misread) => Err(misread),
+    }
+}
+
+/// Multipliers of rows as a round.
+fn row_round(mults: Result<Mults, Misread>) -> Result<Round, Misread>
+    ensures { (ps : List (List ℕ)) → ReadsTexts (mults_fields ps) mults (AllZip IsMult ps) → ReadsTexts (mults_fields ps) result (IsSaidBehind round_head SaysRound turns.OfRows ps) }
+{
+    match mults {
+        Ok(mults) => Ok(Round::OfRows(mults)),
+        Err(misread) => Err(misread),
+    }
+}
+
+/// A round behind its word.
+fn round_of(
+    alloc: Global,
+    word: RoundWord,
+    rest: Option<&[u8]>,
+) -> Result<Result<Round, Misread>, Memory>
+    ensures { IfOk result (λ r. ReadsTexts (items.round_behind word (more rest.entry)) r (IsSaidBehind round_head SaysRound word (more rest.entry))) }
+{
+    let mults = read_mults(alloc, rest)?;
+    match word {
+        RoundWord::Whole => Ok(whole_round(mults)),
+        RoundWord::OfRows => Ok(row_round(mults)),
+    }
+}
+
+/// The words of rounds.
+const ROUND_WORDS: [RoundWord; 2] = [RoundWord::Whole, RoundWord::OfRows];
+
+/// The kind of round of this word, if there is one.
+fn round_word(word: &[u8]) -> Option<RoundWord>
+    ensures { result ≡ worded items.round_word items.all_round_words word.now }
+{
+    with_word(word, &ROUND_WORDS)
+}
+
+/// The round that an item says.
+pub(crate) fn read_round(alloc: Global, text: &[u8]) -> Result<Result<Round, Misread>, Memory>
     ensures { IfOk result (λ r. ReadsTexts (items.item_fields parts.Rounds text.now) r (IsRound text.now)) }
 {
     let (word, rest) = first_piece(text);
-    if word == b"round".as_slice() {
-        read_mults(alloc, rest)
-    } else {
-        Ok(Err(Misread::NoShape))
+    match round_word(word) {
+        Some(word) => round_of(alloc, word, rest),
+        None => Ok(Err(Misread::NoShape)),
     }
 }
 

@@ -12,6 +12,9 @@ pub(crate) enum NodeWord {
     Farkas,
     Bound,
     Grid,
+    FarkasRows,
+    BoundRows,
+    GridRows,
     Level,
 }
 
@@ -20,6 +23,13 @@ pub(crate) enum NodeWord {
 pub(crate) enum TreeItem {
     Node(Node),
     Level(u32),
+}
+
+/// The kinds of rounds. Each has a word.
+#[derive(Clone, Copy, PartialEq, Eq)]
+pub(crate) enum RoundWord {
+    Whole,
+    OfRows,
 }
 
 /// The kinds of causes. Each has a word.
@@ -62,7 +72,23 @@ impl Worded for NodeWord {
             NodeWord::Farkas => b"farkas",
             NodeWord::Bound => b"bound",
             NodeWord::Grid => b"grid",
+            NodeWord::FarkasRows => b"farkasRows",
+            NodeWord::BoundRows => b"boundRows",
+            NodeWord::GridRows => b"gridRows",
             NodeWord::Level => b"level",
+        }
+    }
+}
+
+impl Worded for RoundWord {
+    ghost use Rattle.osrl_grammar.specs.Items.{round_word};
+
+    ghost text = { round_word };
+
+    fn word(self) -> &'static [u8] {
+        match self {
+            RoundWord::Whole => b"round",
+            RoundWord::OfRows => b"roundRows",
         }
     }
 }

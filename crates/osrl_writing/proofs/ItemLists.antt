@@ -1,6 +1,7 @@
 -- Lists that are told item by item.
-use Rattle.osrl_writing.proofs.Names.{◌≡◌, ℕ, ◌-◌, ◌<◌, ◌≤◌, Bool, cond, get_or, ◌≢◌, List, [], ◌∷◌, length, refl, ap, sym, lt-ltb, le-ltb, arith, decimal, codes, Nodes, none, element, chars, Event, nodes_events, ◌++◌, leaf, Frac, Mult, Cert, Node, Split, Zero, Clash, Farkas, Bound, Grid, indexed, Labels, name_at, row_values, values_part, values_part_unless_none, tree_values, dual_values, item_nodes, certificate_part, level_text, level_texts, node_text, round_text, rounds_part, ◌+◌, ◌∙◌, map, drop, ap₂}
+use Rattle.osrl_writing.proofs.Names.{◌≡◌, ℕ, ◌-◌, ◌<◌, ◌≤◌, Bool, cond, get_or, ◌≢◌, List, [], ◌∷◌, length, refl, ap, sym, lt-ltb, le-ltb, arith, decimal, codes, Nodes, none, element, chars, Event, nodes_events, ◌++◌, leaf, Frac, Mult, Cert, Node, Split, Zero, Clash, Farkas, Bound, Grid, FarkasRows, BoundRows, GridRows, indexed, Labels, name_at, row_values, values_part, values_part_unless_none, tree_values, dual_values, item_nodes, certificate_part, level_text, level_texts, node_text, round_text, rounds_part, ◌+◌, ◌∙◌, map, drop, ap₂}
 use Rattle.std.proofs.lemmas.List.{at_drop_more}
+use Rattle.certificate.specs.declared.nodes.Round.{Round}
 use Rattle.osrl_writing.specs.declared.parts.Part.TheVariants.{Rounds}
 use Rattle.osrl_writing.specs.Writing.{rows_part}
 
@@ -26,7 +27,7 @@ pub rows_shown : (ls : Labels) (n : ℕ) (ms : List Mult) → (row_values ls n m
 rows_shown ls n ms some k = ap (λ (nodes : Nodes). nodes_events nodes k) (unless_none (codes "constraints") (codes "dualValues") (row_values ls n ms) none some)
 
 -- a tree of several nodes, or none, has no dual values, nor has one with rounds
-pub several : (ls : Labels) (n : ℕ) (rounds : List (List Mult)) (tree : List Node) → length tree ≢ 1 → (k : List Event) → k ≡ nodes_events (tree_values ls n rounds tree none) k
+pub several : (ls : Labels) (n : ℕ) (rounds : List Round) (tree : List Node) → length tree ≢ 1 → (k : List Event) → k ≡ nodes_events (tree_values ls n rounds tree none) k
 several ls n (r ∷ rs) tree h k = refl
 several ls n [] [] h k = refl
 several ls n [] (Split j b ∷ more) h k = refl
@@ -34,8 +35,12 @@ several ls n [] (Zero j ∷ more) h k = refl
 several ls n [] (Clash c ∷ more) h k = refl
 several ls n [] (Farkas ms ∷ more) h k = refl
 several ls n [] (Grid g ms ∷ more) h k = refl
+several ls n [] (FarkasRows ms ∷ more) h k = refl
+several ls n [] (GridRows g ms ∷ more) h k = refl
 several ls n [] (Bound ms ∷ []) h k = absurd (h refl)
 several ls n [] (Bound ms ∷ m ∷ more) h k = refl
+several ls n [] (BoundRows ms ∷ []) h k = absurd (h refl)
+several ls n [] (BoundRows ms ∷ m ∷ more) h k = refl
 
 -- several values, or trees, have none
 pub many : (ls : Labels) (n : ℕ) (values : List Frac) (trees : List Cert) → (length values ≡ 1 → length trees ≡ 1 → ⊥) → (k : List Event) → k ≡ nodes_events (dual_values ls n values trees none) k
@@ -56,7 +61,7 @@ rows_then_by name list (element n attributes children behind) more k = refl
 rows_then_by name list (chars text behind) more k = refl
 
 -- the dual values, and then more
-tree_then : (ls : Labels) (n : ℕ) (rounds : List (List Mult)) (tree : List Node) (more : Nodes) (k : List Event) → nodes_events (tree_values ls n rounds tree none) (nodes_events more k) ≡ nodes_events (tree_values ls n rounds tree more) k
+tree_then : (ls : Labels) (n : ℕ) (rounds : List Round) (tree : List Node) (more : Nodes) (k : List Event) → nodes_events (tree_values ls n rounds tree none) (nodes_events more k) ≡ nodes_events (tree_values ls n rounds tree more) k
 tree_then ls n (r ∷ rs) tree more k = refl
 tree_then ls n [] [] more k = refl
 tree_then ls n [] (Split j b ∷ ns) more k = refl
@@ -64,6 +69,10 @@ tree_then ls n [] (Zero j ∷ ns) more k = refl
 tree_then ls n [] (Clash c ∷ ns) more k = refl
 tree_then ls n [] (Farkas ms ∷ ns) more k = refl
 tree_then ls n [] (Grid g ms ∷ ns) more k = refl
+tree_then ls n [] (FarkasRows ms ∷ ns) more k = refl
+tree_then ls n [] (GridRows g ms ∷ ns) more k = refl
+tree_then ls n [] (BoundRows ms ∷ []) more k = rows_then_by (codes "constraints") (codes "dualValues") (row_values ls n ms) more k
+tree_then ls n [] (BoundRows ms ∷ m ∷ ns) more k = refl
 tree_then ls n [] (Bound ms ∷ []) more k = rows_then_by (codes "constraints") (codes "dualValues") (row_values ls n ms) more k
 tree_then ls n [] (Bound ms ∷ m ∷ ns) more k = refl
 
@@ -75,12 +84,12 @@ duals_then ls n (v ∷ []) (c ∷ []) more k = tree_then ls n c.rounds c.nodes m
 duals_then ls n (v ∷ []) (c ∷ d ∷ cs) more k = refl
 
 -- rounds, where there are any, and then more
-pub rounds_then : (rs : List (List Mult)) (more : Nodes) (k : List Event) → nodes_events (rounds_part rs none) (nodes_events more k) ≡ nodes_events (rounds_part rs more) k
+pub rounds_then : (rs : List Round) (more : Nodes) (k : List Event) → nodes_events (rounds_part rs none) (nodes_events more k) ≡ nodes_events (rounds_part rs more) k
 rounds_then [] more k = refl
 rounds_then (r ∷ rs) more k = refl
 
 -- they stand where there is one
-pub rounds_shown : (rs : List (List Mult)) → (rs ≡ [] → ⊥) → (k : List Event) → nodes_events (certificate_part Rounds (map round_text rs) none) k ≡ nodes_events (rounds_part rs none) k
+pub rounds_shown : (rs : List Round) → (rs ≡ [] → ⊥) → (k : List Event) → nodes_events (certificate_part Rounds (map round_text rs) none) k ≡ nodes_events (rounds_part rs none) k
 rounds_shown [] some k = absurd (some refl)
 rounds_shown (r ∷ rs) some k = refl
 

@@ -9,7 +9,7 @@ pub use Rattle.std.specs.Str.Parse.{AllDigits, digits_value, digits_value_after}
 pub use Rattle.certificate.specs.declared.lists.Mult.{Mult}
 pub use Rattle.certificate.specs.declared.nodes.Cert.{Cert}
 pub use Rattle.certificate.specs.declared.nodes.Node.{Node}
-pub use Rattle.certificate.specs.declared.nodes.Node.TheVariants.{Bound, Clash, Farkas, Grid, Split, Zero}
+pub use Rattle.certificate.specs.declared.nodes.Node.TheVariants.{Bound, BoundRows, Clash, Farkas, FarkasRows, Grid, GridRows, Split, Zero}
 pub use Rattle.decimal_text.specs.Plain.{point_text}
 pub use Rattle.decimal_text.specs.Sign.{optional}
 pub use Rattle.document_tags.proofs.Tellings.{ends_told, ok_told_as, told_then}

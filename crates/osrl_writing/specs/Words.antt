@@ -33,7 +33,3 @@ part_name Cause = codes "os_cert.cause"
 part_name Bound = codes "os_cert.bound"
 part_name Rounds = codes "os_cert.rounds"
 part_name Tree = codes "os_cert.tree"
-
--- the word of rounds
-abbrev pub round_word : List ℕ
-round_word = codes "round"

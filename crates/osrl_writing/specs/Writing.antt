@@ -10,7 +10,9 @@ use Rattle.fraction.specs.declared.frac.Frac.{Frac}
 use Rattle.decimal_text.specs.Exact.{ratio_text}
 use Rattle.certificate.specs.declared.lists.Mult.{Mult}
 use Rattle.certificate.specs.declared.nodes.Node.{Node}
-use Rattle.certificate.specs.declared.nodes.Node.TheVariants.{Split, Zero, Clash, Farkas, Bound, Grid}
+use Rattle.certificate.specs.declared.nodes.Node.TheVariants.{Split, Zero, Clash, Farkas, Bound, Grid, FarkasRows, BoundRows, GridRows}
+use Rattle.certificate.specs.declared.nodes.Round.{Round}
+use Rattle.certificate.specs.declared.nodes.Round.TheVariants.{Whole, OfRows}
 use Rattle.certificate.specs.declared.nodes.Cert.{Cert}
 use Rattle.certificate.specs.declared.causes.Cause.{Cause}
 use Rattle.certificate.specs.declared.causes.Cause.TheVariants as causes
@@ -27,7 +29,7 @@ use Rattle.osrl_writing.specs.declared.parts.Part.TheVariants as parts
 use Rattle.osrl_writing.specs.declared.parts.Claiming.{Claiming}
 use Rattle.osrl_writing.specs.declared.parts.Claiming.TheVariants as claiming
 use Rattle.certificate.specs.Words.{step_text}
-use Rattle.osrl_writing.specs.Words.{status_text, claiming_text, part_name, round_word}
+use Rattle.osrl_writing.specs.Words.{status_text, claiming_text, part_name}
 
 -- the attribute that tells a name, if there is one
 abbrev pub name_attribute : Option (List ℕ) → List Attribute
@@ -72,8 +74,9 @@ abbrev pub rows_part : Labels → ℕ → List Mult → Nodes → Nodes
 rows_part ls n ms more = values_part_unless_none (codes "constraints") (codes "dualValues") (row_values ls n ms) more
 
 -- those of a tree, where it is one leaf that bounds the objective, and there is no round, and then more
-abbrev pub tree_values : Labels → ℕ → List (List Mult) → List Node → Nodes → Nodes
+abbrev pub tree_values : Labels → ℕ → List Round → List Node → Nodes → Nodes
 tree_values ls n [] (Bound ms ∷ []) more = rows_part ls n ms more
+tree_values ls n [] (BoundRows ms ∷ []) more = rows_part ls n ms more
 tree_values ls n rs ns more = more
 
 -- the dual values, which stand where there is one objective and one tree, and then more
@@ -92,9 +95,13 @@ node_text (Clash c) = codes "clash " ++ decimal c
 node_text (Farkas ms) = codes "farkas" ++ flat_map mult_text ms
 node_text (Bound ms) = codes "bound" ++ flat_map mult_text ms
 node_text (Grid g ms) = codes "grid " ++ (ratio_text (ratio g) ++ flat_map mult_text ms)
+node_text (FarkasRows ms) = codes "farkasRows" ++ flat_map mult_text ms
+node_text (BoundRows ms) = codes "boundRows" ++ flat_map mult_text ms
+node_text (GridRows g ms) = codes "gridRows " ++ (ratio_text (ratio g) ++ flat_map mult_text ms)
 
-abbrev pub round_text : List Mult → List ℕ
-round_text ms = round_word ++ flat_map mult_text ms
+abbrev pub round_text : Round → List ℕ
+round_text (Whole ms) = codes "round" ++ flat_map mult_text ms
+round_text (OfRows ms) = codes "roundRows" ++ flat_map mult_text ms
 
 -- what begins the k-th level
 abbrev pub level_text : ℕ → List ℕ
@@ -133,7 +140,7 @@ abbrev pub ray_part : List Frac → Nodes → Nodes
 ray_part r more = certificate_part parts.Ray (fraction_texts r) more
 
 -- rounds, where there are any, and then more
-abbrev pub rounds_part : List (List Mult) → Nodes → Nodes
+abbrev pub rounds_part : List Round → Nodes → Nodes
 rounds_part [] more = more
 rounds_part (r ∷ rs) more = certificate_part parts.Rounds (map round_text (r ∷ rs)) more
 

@@ -9,7 +9,7 @@ ghost use Rattle.document_tags.specs.Telling.{Told, opening};
 
 use crate::item_texts::{cause_text, level_text, node_text, round_text};
 use crate::parts::{Part, part_name};
-use certificate::{Cause, Cert, Mults, Node, ProvedBound};
+use certificate::{Cause, Cert, Node, ProvedBound, Round};
 use decimal_text::write_ratio;
 use document_tags::{close, leaf, open_with};
 use element_tree::TreeBuilder;
@@ -75,19 +75,19 @@ pub(crate) fn tell_numbers(
 }
 
 /// Tells items that hold rounds.
-fn tell_round_items(alloc: Global, b: &mut TreeBuilder, rounds: &[Mults]) -> Result<(), Memory>
+fn tell_round_items(alloc: Global, b: &mut TreeBuilder, rounds: &[Round]) -> Result<(), Memory>
     requires { b.old.attributes ≡ [] }
     ensures { OnOk result (Told b.old b.new (nodes_events (writing.item_nodes (map writing.round_text rounds.now)))) }
 {
     for round in rounds {
-        let text = round_text(alloc, round.as_slice())?;
+        let text = round_text(alloc, round)?;
         leaf(b, b"item", text.as_slice())?;
     }
     Ok(())
 }
 
 /// Tells the rounds of a certificate, if it has some.
-fn tell_rounds(alloc: Global, b: &mut TreeBuilder, rounds: &[Mults]) -> Result<(), Memory>
+fn tell_rounds(alloc: Global, b: &mut TreeBuilder, rounds: &[Round]) -> Result<(), Memory>
     requires { b.old.attributes ≡ [] }
     ensures { OnOk result (Told b.old b.new (λ k. nodes_events (writing.rounds_part rounds.now none) k)) }
 {

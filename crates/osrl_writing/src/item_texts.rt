@@ -1,13 +1,13 @@
 //! The texts of a certificate's items.
 
-ghost use Rattle.std.specs.Prelude.{◌≡◌, ◌++◌, OnOk, IfOk, codes, flat_map, decimal};
+ghost use Rattle.std.specs.Prelude.{◌≡◌, ◌++◌, OnOk, IfOk, flat_map, decimal};
 ghost use Rattle.decimal_text.specs.Exact.{ratio_text};
 ghost use Rattle.fraction.specs.Frac.{ratio};
 ghost use Rattle.certificate.specs.declared.causes.Cause.TheVariants as causes;
 ghost use Rattle.osrl_writing.specs.Writing as writing;
 
 use crate::words::Worded;
-use certificate::{Cause, Mult, Node, Place};
+use certificate::{Cause, Mult, Node, Place, Round};
 use decimal_text::write_ratio;
 use fraction::Frac;
 use itoa::Buffer;
@@ -43,21 +43,24 @@ fn mults_text(alloc: Global, word: &[u8], mults: &[Mult]) -> Result<Text, Memory
     Ok(text)
 }
 
-/// The text of a leaf on the goal's grid.
-fn grid_text(alloc: Global, step: Frac, mults: &[Mult]) -> Result<Text, Memory>
-    ensures { IfOk result (λ t. t ≡ codes "grid " ++ (ratio_text (ratio step) ++ flat_map writing.mult_text mults.now)) }
+/// The text of a leaf on the goal's grid, whose word has a space behind it.
+fn grid_text(alloc: Global, word: &[u8], step: Frac, mults: &[Mult]) -> Result<Text, Memory>
+    ensures { IfOk result (λ t. t ≡ word.now ++ (ratio_text (ratio step) ++ flat_map writing.mult_text mults.now)) }
 {
-    let mut text = Text::from_slice(alloc, b"grid ")?;
+    let mut text = Text::from_slice(alloc, word)?;
     write_ratio(step, &mut text)?;
     push_mults(&mut text, mults)?;
     Ok(text)
 }
 
 /// The text of a round.
-pub(crate) fn round_text(alloc: Global, mults: &[Mult]) -> Result<Text, Memory>
-    ensures { IfOk result (λ t. t ≡ writing.round_text mults.now) }
+pub(crate) fn round_text(alloc: Global, round: &Round) -> Result<Text, Memory>
+    ensures { IfOk result (λ t. t ≡ writing.round_text round.now) }
 {
-    mults_text(alloc, b"round", mults)
+    match round {
+        Round::Whole(mults) => mults_text(alloc, b"round", mults.as_slice()),
+        Round::OfRows(mults) => mults_text(alloc, b"roundRows", mults.as_slice()),
+    }
 }
 
 /// The text of what begins a level.
@@ -85,7 +88,12 @@ pub(crate) fn node_text(alloc: Global, node: &Node) -> Result<Text, Memory>
         Node::Clash { col } => counted_text(alloc, b"clash ", *col),
         Node::Farkas(mults) => mults_text(alloc, b"farkas", mults.as_slice()),
         Node::Bound(mults) => mults_text(alloc, b"bound", mults.as_slice()),
-        Node::Grid { step, mults } => grid_text(alloc, *step, mults.as_slice()),
+        Node::Grid { step, mults } => grid_text(alloc, b"grid ", *step, mults.as_slice()),
+        Node::FarkasRows(mults) => mults_text(alloc, b"farkasRows", mults.as_slice()),
+        Node::BoundRows(mults) => mults_text(alloc, b"boundRows", mults.as_slice()),
+        Node::GridRows { step, mults } => {
+            grid_text(alloc, b"gridRows ", *step, mults.as_slice())
+        }
     }
 }
 

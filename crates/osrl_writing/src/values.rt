@@ -211,11 +211,14 @@ fn tell_node_values(
 {
     match node {
         Node::Bound(mults) => tell_rows_part(alloc, b, names, width, mults.as_slice()),
+        Node::BoundRows(mults) => tell_rows_part(alloc, b, names, width, mults.as_slice()),
         Node::Split { .. }
         | Node::Zero { .. }
         | Node::Clash { .. }
         | Node::Farkas(_)
-        | Node::Grid { .. } => Ok(()),
+        | Node::Grid { .. }
+        | Node::FarkasRows(_)
+        | Node::GridRows { .. } => Ok(()),
     }
 }
 

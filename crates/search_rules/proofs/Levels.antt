@@ -8,26 +8,25 @@ use Rattle.rational.proofs.ReducedForms.{same_reduced}
 use Rattle.evidence.specs.Sums.{none, total}
 use Rattle.evidence.specs.Instance.{Variable, Goal, Instance, Problem, IsInstance, IsProblem, IsGoalOfNumbers, goals, asking, no_goal, width, minimising}
 use Rattle.evidence.specs.Point.{value_at, objective, IsFeasible, IsRay}
-use Rattle.evidence.specs.Cases.{Multiplier, Node}
-use Rattle.evidence.specs.Rounds.{Certificate, IsRoundingCut, derive}
+use Rattle.evidence.specs.Cases.{Node}
+use Rattle.evidence.specs.Rounds.{Certificate, Round, IsRound, RoundFits, derive}
 use Rattle.evidence.specs.Levels.{IsReachedEnd, next_level}
-use Rattle.evidence.specs.Width.{LeafFits}
 use Rattle.evidence.proofs.Numbers.{◌≈◌, ◌⊙◌}
 use Rattle.evidence.proofs.LevelSteps.{next-instance, up, down, kept, objective-number}
 use Rattle.search_rules.specs.Search.{Found, Level, reached, IsValue, AreValuesAt}
 use Rattle.search_rules.specs.Outcomes.{Proves, ProvesAfter, CertificateProves, AreLevelsProved, ProvesEndless}
 
 -- D is I with a row for each of these cuts
-abbrev pub IsAfter : Instance → List (List Multiplier) → Instance → Type 0
+abbrev pub IsAfter : Instance → List Round → Instance → Type 0
 IsAfter I [] D = I ≡ D
-IsAfter I (ms ∷ rounds) D = (cs : List ℤ) × (k : ℤ) × IsRoundingCut I ms cs k × LeafFits I none ms × IsAfter (derive I cs k) rounds D
+IsAfter I (r ∷ rounds) D = (cs : List ℤ) × (k : ℤ) × IsRound I r cs k × RoundFits I r cs × IsAfter (derive I cs k) rounds D
 
-pub after_on : (rounds : List (List Multiplier)) (I D : Instance) (ms : List Multiplier) (cs : List ℤ) (k : ℤ) → IsAfter I rounds D → IsRoundingCut D ms cs k → LeafFits D none ms → IsAfter I (rounds ++ ms ∷ []) (derive D cs k)
-after_on [] I D ms cs k e cut fits = (cs, k, subst (λ J. IsRoundingCut J ms cs k) (sym e) cut, subst (λ J. LeafFits J none ms) (sym e) fits, ap (λ J. derive J cs k) e)
-after_on (r ∷ rounds) I D ms cs k (ds, l, c, f, a) cut fits = (ds, l, c, f, after_on rounds (derive I ds l) D ms cs k a cut fits)
+pub after_on : (rounds : List Round) (I D : Instance) (r : Round) (cs : List ℤ) (k : ℤ) → IsAfter I rounds D → IsRound D r cs k → RoundFits D r cs → IsAfter I (rounds ++ r ∷ []) (derive D cs k)
+after_on [] I D r cs k e cut fits = (cs, k, subst (λ J. IsRound J r cs k) (sym e) cut, subst (λ J. RoundFits J r cs) (sym e) fits, ap (λ J. derive J cs k) e)
+after_on (q ∷ rounds) I D r cs k (ds, l, c, f, a) cut fits = (ds, l, c, f, after_on rounds (derive I ds l) D r cs k a cut fits)
 
 -- what is proved of it is proved after the cuts
-pub proves_after : (rounds : List (List Multiplier)) (I D : Instance) (nodes : List Node) (z : Option Ratio) → IsAfter I rounds D → Proves D nodes z → ProvesAfter I rounds nodes z
+pub proves_after : (rounds : List Round) (I D : Instance) (nodes : List Node) (z : Option Ratio) → IsAfter I rounds D → Proves D nodes z → ProvesAfter I rounds nodes z
 proves_after [] I D nodes z e p = subst (λ J. Proves J nodes z) (sym e) p
 proves_after (r ∷ rounds) I D nodes z (cs, k, c, f, a) p = (cs, k, c, f, proves_after rounds (derive I cs k) D nodes z a p)
 

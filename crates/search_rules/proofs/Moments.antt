@@ -8,7 +8,8 @@ use Rattle.rational.proofs.Scaling.{IsSame-trans}
 use Rattle.evidence.specs.Instance.{Variable, Goal, Instance, Problem, IsInstance, IsProblem, no_variable, width, cost_at, variable_at, minimising}
 use Rattle.evidence.specs.Point.{value_at, objective, IsFeasible}
 use Rattle.evidence.specs.Cases.{Multiplier, Node, ClashAt, FarkasBy, BoundBy, SplitAt, ZeroAt, IsBound, IsZeroBranch}
-use Rattle.evidence.specs.Rounds.{Certificate, derive}
+use Rattle.evidence.specs.Rounds as With
+use Rattle.evidence.specs.Rounds.{Certificate, RoundBy, derive}
 use Rattle.evidence.specs.Levels.{IsReachedEnd}
 use Rattle.evidence.specs.Width.{PointFits}
 use Rattle.evidence.proofs.Totals.{total-number}
@@ -54,7 +55,7 @@ pub record Holds (P : Problem) (m : SearchMoment) : Type 0 where
   pub root : m.nodes ≡ [] → m.waiting ≡ undivided cut ∷ []
   pub rounds : (P.later ≡ []) ⊎ (All HasNoRounds m.level.shown × (m.rounds ≡ []))
 
-none_derived : (P : Problem) (l : Level) (derived : List (List Multiplier)) → derived ≡ [] → (P.later ≡ []) ⊎ All HasNoRounds l.shown → (P.later ≡ []) ⊎ (All HasNoRounds l.shown × (derived ≡ []))
+none_derived : (P : Problem) (l : Level) (derived : List With.Round) → derived ≡ [] → (P.later ≡ []) ⊎ All HasNoRounds l.shown → (P.later ≡ []) ⊎ (All HasNoRounds l.shown × (derived ≡ []))
 none_derived P l derived none (inl e) = inl e
 none_derived P l derived none (inr a) = inr (a, none)
 
@@ -261,7 +262,7 @@ module _ (P : Problem) (C : Case) (rest : List Case) (m : SearchMoment) (is : m.
       record {
         level = h.level;
         cut = D;
-        after = after_on m.rounds m.level.program h.cut ms cs k h.after is_cut.cut is_cut.fits;
+        after = after_on m.rounds m.level.program h.cut (RoundBy ms) cs k h.after is_cut.cut is_cut.fits;
         within = narrow;
         cases = subst (All (IsOpen m.level.program)) (sym next) (All-cons (IsOpen m.level.program) (undivided D) [] (open_undivided m.level.program D narrow) (All-nil (IsOpen m.level.program)));
         best = h.best;

@@ -6,7 +6,7 @@ use Rattle.rational.specs.Ratio.{Ratio}
 use Rattle.evidence.specs.Instance.{Range, Variable, Goal, Instance, Problem, IsInstance, IsProblem, IsGoalOfNumbers, alone, no_variable, variable_at}
 use Rattle.evidence.specs.Point.{value_at, IsZeroOr}
 use Rattle.evidence.specs.Cases.{Multiplier, IsZeroBranch}
-use Rattle.evidence.specs.Rounds.{Certificate}
+use Rattle.evidence.specs.Rounds.{Certificate, Round}
 use Rattle.evidence.proofs.Columns.{All-anywhere}
 use Rattle.certificate.specs.declared.causes.Cause.{Cause}
 use Rattle.simplex_rules.specs.Ends.{Terms, Clock, End, Clash, Empty, Best, Endless, TurnsOut, TooWide, Stopped}
@@ -59,7 +59,7 @@ early_uncut None c = tt
 early_uncut (Some f) c = tt
 
 bare : (c : Certificate) → HasNoRounds c → c ≡ record { rounds = []; nodes = c.nodes }
-bare c e = ap (λ (r : List (List Multiplier)). let d : Certificate = record { rounds = r; nodes = c.nodes } in d) e
+bare c e = ap (λ (r : List Round). let d : Certificate = record { rounds = r; nodes = c.nodes } in d) e
 
 module _ (I : Instance) where
   abbrev P : Problem

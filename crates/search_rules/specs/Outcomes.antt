@@ -2,13 +2,12 @@
 use Rattle.std.specs.Prelude.{◌≡◌, ℕ, ℤ, ◌<◌, IsTrue, Option, None, Some, List, [], ◌∷◌}
 use Rattle.std.specs.List.{All}
 use Rattle.rational.specs.Ratio.{Ratio}
-use Rattle.evidence.specs.Sums.{none}
 use Rattle.evidence.specs.Instance.{Variable, Goal, Instance, Problem, width, variable_at, minimising}
 use Rattle.evidence.specs.Point.{IsFeasible, IsRay}
-use Rattle.evidence.specs.Cases.{Multiplier, Tree, Node, preorder, Shows}
-use Rattle.evidence.specs.Rounds.{Certificate, IsRoundingCut, derive}
+use Rattle.evidence.specs.Cases.{Tree, Node, preorder, Shows}
+use Rattle.evidence.specs.Rounds.{Certificate, Round, IsRound, RoundFits, derive}
 use Rattle.evidence.specs.Levels.{IsReachedEnd, next_level, RoundsAreOfOneGoal}
-use Rattle.evidence.specs.Width.{PointFits, LeafFits}
+use Rattle.evidence.specs.Width.{PointFits}
 use Rattle.search_rules.specs.Search.{Outcome, Optimal, Infeasible, Unbounded, BestSoFar, Unsure, AreValuesAt}
 
 -- the nodes are those of a tree that shows it
@@ -18,9 +17,9 @@ pub record Proves (I : Instance) (nodes : List Node) (z : Option Ratio) : Type 0
   pub shows : Shows I tree z
 
 -- of the program with the rows of the cuts, whose own sums fit
-abbrev pub ProvesAfter : Instance → List (List Multiplier) → List Node → Option Ratio → Type 0
+abbrev pub ProvesAfter : Instance → List Round → List Node → Option Ratio → Type 0
 ProvesAfter I [] nodes z = Proves I nodes z
-ProvesAfter I (ms ∷ rounds) nodes z = (cs : List ℤ) × (k : ℤ) × IsRoundingCut I ms cs k × LeafFits I none ms × ProvesAfter (derive I cs k) rounds nodes z
+ProvesAfter I (r ∷ rounds) nodes z = (cs : List ℤ) × (k : ℤ) × IsRound I r cs k × RoundFits I r cs × ProvesAfter (derive I cs k) rounds nodes z
 
 abbrev pub CertificateProves : Instance → Certificate → Option Ratio → Type 0
 CertificateProves I c z = ProvesAfter I c.rounds c.nodes z

@@ -7,7 +7,8 @@ use Rattle.rational.specs.Width.{IsReduced, SumFits}
 use Rattle.evidence.specs.Instance.{Goal, Instance, Problem, goals, asking, width, minimising}
 use Rattle.evidence.specs.Point.{value_at, objective}
 use Rattle.evidence.specs.Cases.{Multiplier, Node, ClashAt, FarkasBy, BoundBy, SplitAt, ZeroAt}
-use Rattle.evidence.specs.Rounds.{Certificate, derive}
+use Rattle.evidence.specs.Rounds as With
+use Rattle.evidence.specs.Rounds.{Certificate, RoundBy, derive}
 use Rattle.evidence.specs.Levels.{IsReachedEnd, next_level}
 use Rattle.evidence.specs.Width.{PointFits}
 use Rattle.certificate.specs.declared.causes.Step.{Step}
@@ -35,7 +36,7 @@ pub record Level : Type 0 where
 -- a search under way: the level; the multipliers of the cuts derived so far; the cases that are still to search, the next one first; the nodes of those that were searched on this level, in their order; the turns and looks so far; and the best point
 pub record SearchMoment : Type 0 where
   pub level : Level
-  pub rounds : List (List Multiplier)
+  pub rounds : List With.Round
   pub waiting : List Case
   pub nodes : List Node
   pub clock : Clock
@@ -100,7 +101,7 @@ divide m C rest j = record m { waiting = divided_cases C j rest; nodes = m.nodes
 
 -- a cut is one more row of the case
 abbrev pub with_cut : SearchMoment → Case → List Case → List Multiplier → List ℤ → ℤ → SearchMoment
-with_cut m C rest ms cs k = record m { waiting = record C { program = derive C.program cs k } ∷ rest; rounds = m.rounds ++ ms ∷ [] }
+with_cut m C rest ms cs k = record m { waiting = record C { program = derive C.program cs k } ∷ rest; rounds = m.rounds ++ RoundBy ms ∷ [] }
 
 -- the next level, of goal g, whose program has one more row between equal ends e
 abbrev pub next_level_at : SearchMoment → Found → Ratio → Goal → List Goal → SearchMoment

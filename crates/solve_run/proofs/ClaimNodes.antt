@@ -1,13 +1,15 @@
 -- The certificates that a claim of a search carries: their columns are the instance's and those of their own rows.
-use Rattle.std.proofs.Common.{◌≡◌, ℕ, ◌+◌, ◌^◌, ◌<◌, ◌≤◌, Option, None, Some, List, [], ◌∷◌, length, slice_index_or, arith, refl, ap, sym, ◌∙◌, subst}
+use Rattle.std.proofs.Common.{◌≡◌, ℕ, ◌+◌, ◌^◌, ◌<◌, ◌≤◌, ℤ, Option, None, Some, List, [], ◌∷◌, length, slice_index_or, arith, refl, ap, sym, ◌∙◌, subst}
 use Rattle.std.specs.List.{All, flat_map}
 use Rattle.std.proofs.lemmas.List.{length-map, length-drop}
 use Rattle.std.proofs.lemmas.List.Elements.{All-nil, All-cons, All-head, All-tail, All-append, All-map}
 use Rattle.rational.specs.Ratio.{Ratio, whole}
 use Rattle.evidence.specs.Instance.{Instance, Problem, width, height}
 use Rattle.evidence.specs.OneDenominator.{number_at}
-use Rattle.evidence.specs.Cases.{Multiplier, Node}
-use Rattle.evidence.specs.Rounds.{Certificate, derive}
+use Rattle.evidence.specs.Cases.{Multiplier, Node, AreLegal}
+use Rattle.evidence.specs.RowRounds.{numbers_of}
+use Rattle.cert_checker.proofs.Rounding.{parts_of}
+use Rattle.evidence.specs.Rounds.{Certificate, Round, RoundBy, RoundByRows, IsRound, derive}
 use Rattle.evidence.specs.ProvedBounds as With
 use Rattle.evidence.specs.Claim as Says
 use Rattle.evidence.proofs.AddedRows.{height_added}
@@ -69,23 +71,35 @@ none_said (Unsure c) = refl
 pub none_bounded : (p : Parts) (c : Claim) (b : ProvedBound) → IsShownClaim p c → bound_said (Means.claim c) ≡ Some (Means.proved b) → ⊥
 none_bounded p c b s is = let clash : Some (Means.proved b) ≡ None = sym is ∙ ap bound_said s.tells.says ∙ none_said s.outcome in cc
 
+-- its columns are below n
+abbrev pub RoundIsWithin : ℕ → Round → Type 0
+RoundIsWithin n (RoundBy ms) = All (HasColumn n) ms
+RoundIsWithin n (RoundByRows ms) = All (HasColumn n) ms
+
 -- its columns are below n, and its tree has nodes
 pub record IsCertWithin (n : ℕ) (c : Certificate) : Type 0 where
-  pub rounds : All (λ (ms : List Multiplier). All (HasColumn n) ms) c.rounds
+  pub rounds : All (RoundIsWithin n) c.rounds
   pub nodes : All (IsWithin n) c.nodes
   pub some : 0 < length c.nodes
 
-after_within : (n : ℕ) (rounds : List (List Multiplier)) (I : Instance) (nodes : List Node) (z : Option Ratio) → width I + height I + length rounds ≤ n → ProvesAfter I rounds nodes z → IsCertWithin n (record { rounds = rounds; nodes = nodes })
+legal_within : (n : ℕ) (I : Instance) (ms : List Multiplier) → width I + height I ≤ n → AreLegal I ms → All (HasColumn n) ms
+legal_within n I ms few legal i d h = let below = legal.columns i d h in omega (arith, below, few)
+
+round_within : (n : ℕ) (I : Instance) (r : Round) (cs : List ℤ) (k : ℤ) → width I + height I ≤ n → IsRound I r cs k → RoundIsWithin n r
+round_within n I (RoundBy ms) cs k few is = legal_within n I ms few is.legal
+round_within n I (RoundByRows ms) cs k few is = legal_within n I ms few (parts_of I (numbers_of cs) ms is.legal).0
+
+after_within : (n : ℕ) (rounds : List Round) (I : Instance) (nodes : List Node) (z : Option Ratio) → width I + height I + length rounds ≤ n → ProvesAfter I rounds nodes z → IsCertWithin n (record { rounds = rounds; nodes = nodes })
 after_within n [] I nodes z few p = record {
-  rounds = All-nil (λ (ms : List Multiplier). All (HasColumn n) ms);
+  rounds = All-nil (RoundIsWithin n);
   nodes = nodes_within n I p.tree z nodes (omega (arith, few)) p.listed p.shows;
   some = omega (arith, some_nodes p.tree, ap length p.listed);
 }
-after_within n (ms ∷ rounds) I nodes z few (cs, k, cut, fits, rest) =
+after_within n (q ∷ rounds) I nodes z few (cs, k, cut, fits, rest) =
     let more = height_added I (record { lb = Some (whole k); ub = None }) (λ j. whole (number_at cs j)) in
     let r = after_within n rounds (derive I cs k) nodes z (omega (arith, few, more)) rest in
     record {
-      rounds = All-cons (λ (ns : List Multiplier). All (HasColumn n) ns) ms rounds (λ i d h. let below = cut.legal.columns i d h in omega (arith, below, few)) r.rounds;
+      rounds = All-cons (RoundIsWithin n) q rounds (round_within n I q cs k (omega (arith, few)) cut) r.rounds;
       nodes = r.nodes;
       some = r.some;
     }
@@ -119,7 +133,7 @@ shown_within p c valid s few =
     certs_within (2 ^ 32) (most_columns (problem p)) most_rounds (Means.certificates (certs_of c)) (few_columns p valid)
     (subst (All (ProvesIn (most_columns (problem p)))) (carried c s.outcome s.tells) (each_proves (problem p) s.outcome s.shown))
     (All-map (λ (d : Certificate). length d.rounds ≤ most_rounds) Means.certificate (certs_of c)
-    (λ i d h. let cert : Cert = slice_index_or (certs_of c) i d in let less = few i d h in omega (arith, less, length-map cert.rounds Means.multipliers)))
+    (λ i d h. let cert : Cert = slice_index_or (certs_of c) i d in let less = few i d h in omega (arith, less, length-map cert.rounds Means.round)))
 
 -- splits of what is shown are at numbers that fit
 nodes_range : (cs : List Cert) → All (IsCertWithin (2 ^ 32)) (Means.certificates cs) → All IsInRange (flat_map (λ (c : Cert). c.nodes) cs)

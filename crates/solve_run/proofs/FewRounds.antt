@@ -6,7 +6,7 @@ use Rattle.std.proofs.lemmas.List.Elements.{All-nil, All-cons, All-push}
 use Rattle.rational.specs.Ratio.{Ratio}
 use Rattle.evidence.specs.Instance.{Goal, Problem}
 use Rattle.evidence.specs.Cases.{Multiplier}
-use Rattle.evidence.specs.Rounds.{Certificate}
+use Rattle.evidence.specs.Rounds.{Certificate, RoundBy}
 use Rattle.certificate.specs.declared.causes.Cause.{Cause}
 use Rattle.simplex_rules.specs.Ends.{Terms, Clock, End, Clash, Empty, Best, Endless, TurnsOut, TooWide, Stopped}
 use Rattle.simplex_rules.specs.Runs.{looked_once}
@@ -76,7 +76,7 @@ module _ (P : Problem) (t : Terms) where
     trial_few : (C : Case) (x : List Ratio) (trial : Trial) → MayCut P t m → GoesFromTrial P t C rest m x trial next → AreFewThen next
     trial_few C x NoCut may b = branches_few C x b
     trial_few C x WideCut may e = given m _ _ next e
-    trial_few C x (Cut ms cs k) may e = of_next next _ e (few.0, (let n = length_push m.rounds ms in let less = may.fewer in omega (arith, n, less)))
+    trial_few C x (Cut ms cs k) may e = of_next next _ e (few.0, (let n = length_push m.rounds (RoundBy ms) in let less = may.fewer in omega (arith, n, less)))
 
     best_few : (ray : Option (List Ratio)) (C : Case) (before : Clock) (b : Ratio) (x : List Ratio) (ms : List Multiplier) → GoesFromBest P t ray C rest m before b x ms next → AreFewThen next
     best_few None C before b x ms (inl (p, e)) = of_next next _ e few

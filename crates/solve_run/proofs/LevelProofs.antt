@@ -4,8 +4,8 @@ use Rattle.std.specs.List.{All}
 use Rattle.std.proofs.lemmas.List.Elements.{All-nil, All-cons, All-tail}
 use Rattle.rational.specs.Ratio.{Ratio}
 use Rattle.evidence.specs.Instance.{Goal, Instance, Problem, width, height, cost_at, minimising}
-use Rattle.evidence.specs.Cases.{Multiplier, Node}
-use Rattle.evidence.specs.Rounds.{Certificate, derive}
+use Rattle.evidence.specs.Cases.{Node}
+use Rattle.evidence.specs.Rounds.{Certificate, Round, derive}
 use Rattle.evidence.specs.Levels.{next_level, RoundsAreOfOneGoal}
 use Rattle.evidence.proofs.AddedRows.{height_added}
 use Rattle.search_rules.specs.Outcomes.{ProvesAfter, CertificateProves, AreLevelsProved, ProvesEndless}
@@ -19,17 +19,17 @@ use Rattle.cert_checker.specs.Settled.{Settles, AreSettled}
 abbrev pub ProvesIn : ℕ → Certificate → Type 0
 ProvesIn most c = (J : Instance) × (z : Option Ratio) × (width J + height J ≤ most) × CertificateProves J c z
 
-settled_after : (rounds : List (List Multiplier)) (I : Instance) (nodes : List Node) (z : Option Ratio) → ProvesAfter I rounds nodes z → Settles I rounds nodes z
+settled_after : (rounds : List Round) (I : Instance) (nodes : List Node) (z : Option Ratio) → ProvesAfter I rounds nodes z → Settles I rounds nodes z
 settled_after [] I nodes z p = (p.tree, p.listed, p.shows)
-settled_after (ms ∷ rounds) I nodes z (cs, k, cut, fits, rest) = (cs, k, cut, settled_after rounds (derive I cs k) nodes z rest)
+settled_after (r ∷ rounds) I nodes z (cs, k, cut, fits, rest) = (cs, k, cut, settled_after rounds (derive I cs k) nodes z rest)
 
 pub settled_by : (I : Instance) (c : Certificate) (z : Option Ratio) → CertificateProves I c z → Settles I c.rounds c.nodes z
 settled_by I c z p = settled_after c.rounds I c.nodes z p
 
 -- the sums of its rounds fit
-held_after : (rounds : List (List Multiplier)) (I : Instance) (nodes : List Node) (z : Option Ratio) → ProvesAfter I rounds nodes z → (J : Instance) × IsAfterRounds I rounds J
+held_after : (rounds : List Round) (I : Instance) (nodes : List Node) (z : Option Ratio) → ProvesAfter I rounds nodes z → (J : Instance) × IsAfterRounds I rounds J
 held_after [] I nodes z p = (I, refl)
-held_after (ms ∷ rounds) I nodes z (cs, k, cut, fits, rest) = let t = held_after rounds (derive I cs k) nodes z rest in (t.0, (cs, k, cut, fits, t.1))
+held_after (r ∷ rounds) I nodes z (cs, k, cut, fits, rest) = let t = held_after rounds (derive I cs k) nodes z rest in (t.0, (cs, k, cut, fits, t.1))
 
 -- ---- the certificates of levels
 

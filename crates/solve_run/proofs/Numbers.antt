@@ -8,12 +8,14 @@ use Rattle.rational.specs.Width.{most}
 use Rattle.evidence.specs.Sums.{none}
 use Rattle.evidence.specs.Instance.{Range, Instance, width, height, variable_at}
 use Rattle.evidence.specs.Cases as Of
-use Rattle.evidence.specs.Cases.{Multiplier, Tree, preorder, Shows, lesser_end, greater_end, both, or_free, with_range, at_most, at_least, at_zero, unless_zero}
+use Rattle.evidence.specs.Cases.{Multiplier, Tree, preorder, Shows, AreLegal, lesser_end, greater_end, both, or_free, with_range, at_most, at_least, at_zero, unless_zero}
 use Rattle.certificate.specs.declared.nodes.Node.{Node}
-use Rattle.certificate.specs.declared.nodes.Node.TheVariants.{Split, Zero, Clash, Farkas, Bound, Grid}
+use Rattle.certificate.specs.declared.nodes.Node.TheVariants.{Split, Zero, Clash, Farkas, Bound, Grid, FarkasRows, BoundRows, GridRows}
 use Rattle.evidence.proofs.Branches.{width_with}
 use Rattle.certificate.specs.Meanings.{node, nodes}
 use Rattle.certificate.specs.Nodes.{IsInRange}
+use Rattle.cert_checker.specs.RowLeaves.{all_of}
+use Rattle.cert_checker.proofs.RowLeaves.{parts_of}
 
 -- the columns are below n, and a split's number fits
 abbrev pub HasColumn : ℕ → Multiplier → Type 0
@@ -24,6 +26,9 @@ IsWithin n (Of.ClashAt c) = c < n
 IsWithin n (Of.FarkasBy ms) = All (HasColumn n) ms
 IsWithin n (Of.BoundBy ms) = All (HasColumn n) ms
 IsWithin n (Of.GridBy g ms) = All (HasColumn n) ms
+IsWithin n (Of.FarkasByRows ms) = All (HasColumn n) ms
+IsWithin n (Of.BoundByRows ms) = All (HasColumn n) ms
+IsWithin n (Of.GridByRows g ms) = All (HasColumn n) ms
 IsWithin n (Of.SplitAt j k) = (j < n) × (neg_ℤ (pos most) ≤ℤ k) × (k <ℤ pos most)
 IsWithin n (Of.ZeroAt j) = j < n
 
@@ -33,6 +38,10 @@ all_of_one n x h = All-cons (IsWithin n) x [] h (All-nil (IsWithin n))
 few_with : (n : ℕ) (I : Instance) (j : ℕ) (r : Range) → width I + height I ≤ n → width (with_range I j r) + height I ≤ n
 few_with n I j r few = let same = width_with I j r in omega (arith, same)
 
+-- so are the columns of rows that are completed to legal multipliers
+rows_within : (n : ℕ) (I : Instance) (ms : List Multiplier) (z : Option Ratio) → width I + height I ≤ n → AreLegal I (all_of I ms z) → All (HasColumn n) ms
+rows_within n I ms z few legal = λ k d h. let l = (parts_of I ms z legal).0 in let below = l.columns k d h in omega (arith, below)
+
 tree_within : (n : ℕ) (I : Instance) (t : Tree) (z : Option Ratio) → width I + height I ≤ n → Shows I t z → All (IsWithin n) (preorder t)
 tree_within n I (Of.Clash c) z few s = all_of_one n (Of.ClashAt c) (omega (arith, s.0))
 tree_within n I (Of.Farkas ms) z few s = all_of_one n (Of.FarkasBy ms) (λ k d h. let below = s.legal.columns k d h in omega (arith, below))
@@ -40,6 +49,11 @@ tree_within n I (Of.Bound ms) None few s = absurd s
 tree_within n I (Of.Bound ms) (Some z) few s = all_of_one n (Of.BoundBy ms) (λ k d h. let below = s.legal.columns k d h in omega (arith, below))
 tree_within n I (Of.Grid g ms) None few s = absurd s
 tree_within n I (Of.Grid g ms) (Some z) few s = all_of_one n (Of.GridBy g ms) (λ k d h. let below = s.legal.columns k d h in omega (arith, below))
+tree_within n I (Of.FarkasRows ms) z few s = all_of_one n (Of.FarkasByRows ms) (rows_within n I ms None few s.1.legal)
+tree_within n I (Of.BoundRows ms) None few s = absurd s
+tree_within n I (Of.BoundRows ms) (Some z) few s = all_of_one n (Of.BoundByRows ms) (rows_within n I ms (Some z) few s.1.legal)
+tree_within n I (Of.GridRows g ms) None few s = absurd s
+tree_within n I (Of.GridRows g ms) (Some z) few s = all_of_one n (Of.GridByRows g ms) (rows_within n I ms (Some z) few s.1.legal)
 tree_within n I (Of.Split j k a b) z few (branch, first, second) =
     let inside = branch.variable in
     All-cons (IsWithin n) (Of.SplitAt j k) (preorder a ++ preorder b) (omega (arith, inside), branch.low, branch.high)
@@ -60,6 +74,9 @@ node_range (Clash c) h = tt
 node_range (Farkas ms) h = tt
 node_range (Bound ms) h = tt
 node_range (Grid g ms) h = tt
+node_range (FarkasRows ms) h = tt
+node_range (BoundRows ms) h = tt
+node_range (GridRows g ms) h = tt
 
 pub each_of : (P : Node → Type 0) → ((x : Node) → IsWithin (2 ^ 32) (node x) → P x) → (ns : List Node) → All (IsWithin (2 ^ 32)) (nodes ns) → All P ns
 each_of P f [] h = All-nil P
@@ -70,6 +87,9 @@ some_nodes (Of.Clash c) = omega arith
 some_nodes (Of.Farkas ms) = omega arith
 some_nodes (Of.Bound ms) = omega arith
 some_nodes (Of.Grid g ms) = omega arith
+some_nodes (Of.FarkasRows ms) = omega arith
+some_nodes (Of.BoundRows ms) = omega arith
+some_nodes (Of.GridRows g ms) = omega arith
 some_nodes (Of.Split j k a b) = omega arith
 some_nodes (Of.Zero j a b) = omega arith
 

@@ -4,17 +4,20 @@ use Rattle.rational.specs.Ratio.{IsSame}
 use Rattle.fraction.specs.Frac.{ratio, ratios}
 use Rattle.fraction.specs.declared.frac.Frac.{Frac}
 use Rattle.evidence.specs.Cases as Of
+use Rattle.evidence.specs.Rounds as With
 use Rattle.evidence.specs.Rounds.{Certificate}
 use Rattle.evidence.specs.ProvedBounds as Early
 use Rattle.evidence.specs.Claim as Says
 use Rattle.certificate.specs.declared.lists.Mult.{Mult}
 use Rattle.certificate.specs.declared.nodes.Node.{Node}
-use Rattle.certificate.specs.declared.nodes.Node.TheVariants.{Split, Zero, Clash, Farkas, Bound, Grid}
+use Rattle.certificate.specs.declared.nodes.Node.TheVariants.{Split, Zero, Clash, Farkas, Bound, Grid, FarkasRows, BoundRows, GridRows}
+use Rattle.certificate.specs.declared.nodes.Round.{Round}
+use Rattle.certificate.specs.declared.nodes.Round.TheVariants.{Whole, OfRows}
 use Rattle.certificate.specs.declared.nodes.Cert.{Cert}
 use Rattle.certificate.specs.declared.claims.ProvedBound.{ProvedBound}
 use Rattle.certificate.specs.declared.claims.Claim.{Claim}
 use Rattle.certificate.specs.declared.claims.Claim.TheVariants as Has
-use Rattle.certificate.specs.Meanings.{multiplier, multipliers, node, certificate, certificates, proved, bound, claim}
+use Rattle.certificate.specs.Meanings.{multiplier, multipliers, node, round, certificate, certificates, proved, bound, claim}
 use Rattle.search_rules.specs.Search.{Outcome}
 use Rattle.branch_bound.specs.Claims.{ClaimTells, claimed_cause}
 
@@ -53,14 +56,26 @@ module _ (fractions : (x y : Frac) → IsSame (ratio x) (ratio y) → x ≡ y) w
       let step : g ≡ h = fraction_once g h (cc) in
       let list : ms ≡ ns = mults_once ms ns (cc) in
       cc
+  node_once (FarkasRows ms) (FarkasRows ns) e = let all : Of.FarkasByRows (multipliers ms) ≡ Of.FarkasByRows (multipliers ns) = e in ap FarkasRows (mults_once ms ns (cc))
+  node_once (BoundRows ms) (BoundRows ns) e = let all : Of.BoundByRows (multipliers ms) ≡ Of.BoundByRows (multipliers ns) = e in ap BoundRows (mults_once ms ns (cc))
+  node_once (GridRows g ms) (GridRows h ns) e =
+      let all : Of.GridByRows (ratio g) (multipliers ms) ≡ Of.GridByRows (ratio h) (multipliers ns) = e in
+      let step : g ≡ h = fraction_once g h (cc) in
+      let list : ms ≡ ns = mults_once ms ns (cc) in
+      cc
   node_once a b e = absurd (cc)
+
+  round_once : (a b : Round) → round a ≡ round b → a ≡ b
+  round_once (Whole ms) (Whole ns) e = let all : With.RoundBy (multipliers ms) ≡ With.RoundBy (multipliers ns) = e in ap Whole (mults_once ms ns (cc))
+  round_once (OfRows ms) (OfRows ns) e = let all : With.RoundByRows (multipliers ms) ≡ With.RoundByRows (multipliers ns) = e in ap OfRows (mults_once ms ns (cc))
+  round_once a b e = absurd (cc)
 
   points_once : (x y : List Frac) → ratios x ≡ ratios y → x ≡ y
   points_once x y e = each_once ratio fraction_once x y e
 
   cert_once : (c d : Cert) → certificate c ≡ certificate d → c ≡ d
   cert_once c d e =
-      let rounds = each_once multipliers mults_once c.rounds d.rounds (ap (λ (x : Certificate). x.rounds) e) in
+      let rounds = each_once round round_once c.rounds d.rounds (ap (λ (x : Certificate). x.rounds) e) in
       let nodes = each_once node node_once c.nodes d.nodes (ap (λ (x : Certificate). x.nodes) e) in
       λ i. record { rounds = rounds i; nodes = nodes i }
 

@@ -9,30 +9,31 @@ use Rattle.rational.specs.Ratio.{Ratio}
 use Rattle.rational.specs.Width.{most}
 use Rattle.fraction.specs.Frac.{ratio}
 use Rattle.evidence.specs.Instance.{Problem}
-use Rattle.evidence.specs.Cases as Of
 use Rattle.evidence.specs.Claim as Says
 use Rattle.instance.specs.Parts.{Parts, IsValid}
 use Rattle.instance.specs.Program.{problem}
 use Rattle.certificate.specs.declared.lists.Mult.{Mult}
 use Rattle.certificate.specs.declared.nodes.Node.{Node}
-use Rattle.certificate.specs.declared.nodes.Node.TheVariants.{Split, Zero, Clash, Farkas, Bound, Grid}
+use Rattle.certificate.specs.declared.nodes.Node.TheVariants.{Split, Zero, Clash, Farkas, Bound, Grid, FarkasRows, BoundRows, GridRows}
+use Rattle.certificate.specs.declared.nodes.Round.{Round}
+use Rattle.certificate.specs.declared.nodes.Round.TheVariants.{Whole, OfRows}
 use Rattle.certificate.specs.declared.nodes.Cert.{Cert}
 use Rattle.certificate.specs.declared.causes.Cause.{Cause}
 use Rattle.certificate.specs.declared.causes.Cause.TheVariants.{Memory}
 use Rattle.certificate.specs.declared.claims.Claim.{Claim}
 use Rattle.certificate.specs.declared.claims.Claim.TheVariants as Has
-use Rattle.certificate.specs.Meanings.{multiplier, multipliers, node, certificate, certificates, claim}
+use Rattle.certificate.specs.Meanings.{multiplier, multipliers, node, round, certificate, certificates, claim}
 use Rattle.certificate.specs.Nodes.{certs_of}
 use Rattle.search_rules.specs.Search.{Found, Outcome, Optimal, Infeasible, Unbounded, BestSoFar, Unsure, early}
 use Rattle.search_rules.specs.Outcomes.{IsPoint, IsShown}
 use Rattle.cert_checker.specs.LevelRefusals.{Best, Endless}
 use Rattle.branch_bound.specs.Claims.{said, cause_of, claimed_cause}
-use Rattle.osrl_grammar.specs.Back.{HaveColumns, NodeComesBack, CauseComesBack, LevelComesBack, TreesComeBack, HasTrees, MayHaveTrees, ClaimComesBack}
+use Rattle.osrl_grammar.specs.Back.{HaveColumns, NodeComesBack, RoundComesBack, CauseComesBack, LevelComesBack, TreesComeBack, HasTrees, MayHaveTrees, ClaimComesBack}
 use Rattle.solve_run.specs.Judging.{IsShownClaim, HasFewRounds}
 use Rattle.solve_run.specs.Runs.{HasCauses}
 use Rattle.solve_run.proofs.Numbers.{HasColumn, IsWithin, each_of}
 use Rattle.solve_run.proofs.LevelProofs.{at_most_goals, best_levels, endless_levels, HasNoRounds, HaveNoRoundsBehind, none_behind}
-use Rattle.solve_run.proofs.ClaimNodes.{said_certificates, carried, IsCertWithin, shown_within}
+use Rattle.solve_run.proofs.ClaimNodes.{said_certificates, carried, RoundIsWithin, IsCertWithin, shown_within}
 
 -- ---- certificates
 
@@ -51,21 +52,25 @@ node_back (Clash c) h = h
 node_back (Farkas ms) h = columns_back ms h
 node_back (Bound ms) h = columns_back ms h
 node_back (Grid g ms) h = columns_back ms h
+node_back (FarkasRows ms) h = columns_back ms h
+node_back (BoundRows ms) h = columns_back ms h
+node_back (GridRows g ms) h = columns_back ms h
 
-abbrev HaveTheirColumns : List Of.Multiplier → Type 0
-HaveTheirColumns ms = All (HasColumn (2 ^ 32)) ms
+round_back : (r : Round) → RoundIsWithin (2 ^ 32) (round r) → RoundComesBack r
+round_back (Whole ms) h = columns_back ms h
+round_back (OfRows ms) h = columns_back ms h
 
-rounds_back : (rs : List (List Mult)) → All HaveTheirColumns (map multipliers rs) → All HaveColumns rs
-rounds_back [] h = All-nil HaveColumns
+rounds_back : (rs : List Round) → All (RoundIsWithin (2 ^ 32)) (map round rs) → All RoundComesBack rs
+rounds_back [] h = All-nil RoundComesBack
 rounds_back (r ∷ rs) h =
-    All-cons HaveColumns r rs (columns_back r (All-head HaveTheirColumns (multipliers r) (map multipliers rs) h)) (rounds_back rs (All-tail HaveTheirColumns (multipliers r) (map multipliers rs) h))
+    All-cons RoundComesBack r rs (round_back r (All-head (RoundIsWithin (2 ^ 32)) (round r) (map round rs) h)) (rounds_back rs (All-tail (RoundIsWithin (2 ^ 32)) (round r) (map round rs) h))
 
 nodes_back : (c : Cert) → IsCertWithin (2 ^ 32) (certificate c) → All NodeComesBack c.nodes
 nodes_back c within = each_of NodeComesBack node_back c.nodes within.nodes
 
-no_rounds : (rs : List (List Mult)) → map multipliers rs ≡ [] → rs ≡ []
+no_rounds : (rs : List Round) → map round rs ≡ [] → rs ≡ []
 no_rounds [] e = refl
-no_rounds (r ∷ rs) e = let clash : multipliers r ∷ map multipliers rs ≡ [] = e in absurd (cc)
+no_rounds (r ∷ rs) e = let clash : round r ∷ map round rs ≡ [] = e in absurd (cc)
 
 abbrev AreWithin : List Cert → Type 0
 AreWithin cs = All (IsCertWithin (2 ^ 32)) (certificates cs)

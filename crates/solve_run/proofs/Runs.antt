@@ -176,7 +176,7 @@ few_by p o turns n found oc asked tells answer i d h =
     let each : All (λ (c : Certificate). length c.rounds ≤ o.rounds) (Means.certificates (certs_of found)) = subst (All (λ (c : Certificate). length c.rounds ≤ o.rounds)) (carried found oc tells) few in
     let cert : Cert = slice_index_or (certs_of found) i d in
     let less = each i (Means.certificate d) (omega (arith, h, length-map (certs_of found) Means.certificate)) in
-    omega (arith, asked, less, ap (λ (c : Certificate). length c.rounds) (get_or-map Means.certificate (certs_of found) i d (Means.certificate d) h), length-map cert.rounds Means.multipliers)
+    omega (arith, asked, less, ap (λ (c : Certificate). length c.rounds) (get_or-map Means.certificate (certs_of found) i d (Means.certificate d) h), length-map cert.rounds Means.round)
 
 -- ---- no search
 

@@ -7,39 +7,10 @@ ghost use Rattle.branch_bound.specs.Claims.{ClaimTells, is_killed};
 ghost use Rattle.solve_run.specs.JobAnswers.{job_terms};
 
 use branch_bound::{Searched, search};
-use dictionary::Steps;
 use instance::Instance;
 use os_io::Watch;
 use osol_grammar::Options;
 use std::alloc::Global;
-use std::marker::Brand;
-use std::sync::ledger::{Blank, Ledger};
-
-/// Searches within the options' limits, with a count of steps on this ledger.
-fn find_on<W: Watch, L: Ledger>(
-    alloc: Global,
-    instance: &Instance,
-    options: &Options,
-    watch: &mut W,
-    blank: Blank,
-) -> Searched
-    requires name { blank.name ≡ L.name }
-    requires parts { blank.parts ≡ L.parts }
-    requires some { 0 < blank.parts }
-    requires stops { W.stops watch.old < 2 ^ 64 - 1 }
-    ensures { (n : ℕ) × (o : Outcome) × ClaimTells result.claim o × W.came watch.old watch.new (answers n (is_killed o)) × ((stop : Option ℕ) → AgreesWith stop 0 n (is_killed o) → IsSearchAnswer (problem instance.now) (job_terms options.now stop) o (record { turns = result.turns; looks = looks_after 0 n (is_killed o) })) }
-{
-    let mut steps = Steps::<L>::new(blank);
-    search(
-        alloc,
-        instance,
-        options.nodes,
-        options.turns,
-        options.rounds,
-        watch,
-        &mut steps,
-    )
-}
 
 /// Searches an instance within the options' limits.
 pub fn find<W: Watch>(
@@ -51,5 +22,12 @@ pub fn find<W: Watch>(
     requires { W.stops watch.old < 2 ^ 64 - 1 }
     ensures { (n : ℕ) × (o : Outcome) × ClaimTells result.claim o × W.came watch.old watch.new (answers n (is_killed o)) × ((stop : Option ℕ) → AgreesWith stop 0 n (is_killed o) → IsSearchAnswer (problem instance.now) (job_terms options.now stop) o (record { turns = result.turns; looks = looks_after 0 n (is_killed o) })) }
 {
-    find_on::<W, Brand>(alloc, instance, options, watch, Blank::new(1))
+    search(
+        alloc,
+        instance,
+        options.nodes,
+        options.turns,
+        options.rounds,
+        watch,
+    )
 }

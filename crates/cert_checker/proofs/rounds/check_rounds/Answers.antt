@@ -1,18 +1,16 @@
 use mir.Val.{SFits, of_z, to_z}
 use mir.Syntax.{w128}
 use Rattle.std.proofs.Math.Facts.{to_z-of_z}
-use Rattle.std.proofs.Common.{rules, ◌≡◌, ◌+◌, ◌<◌, Some, None, List, length, take, arith, ap, ◌∙◌, subst}
+use Rattle.std.proofs.Common.{rules, ◌≡◌, ◌+◌, ◌<◌, Some, None, length, take, arith, ap, ◌∙◌}
 use Rattle.std.proofs.lemmas.Result.{err_from_is_err_and}
 use Rattle.std.proofs.lemmas.List.{length-map}
 use Rattle.rational.specs.Ratio.{Ratio, whole}
 use Rattle.evidence.specs.Instance.{Range, width}
 use Rattle.evidence.specs.OneDenominator.{number_at}
 use Rattle.instance.specs.Program.{variable, row, program}
-use Rattle.certificate.specs.declared.lists.Mult.{Mult}
 use Rattle.certificate.specs.Meanings as Means
 use Rattle.case_tree.specs.Cuts.{cut_variable}
-use Rattle.cert_checker.specs.Programs.{with_rows, numerators, MakesRound}
-use Rattle.cert_checker.specs.RoundRefusals.{RoundRefuses}
+use Rattle.cert_checker.specs.Programs.{with_rows, numerators, GivesRow}
 use Rattle.cert_checker.proofs.AddedLeads.{wide_with}
 use Rattle.cert_checker.proofs.HandRows.{rows_width}
 use Rattle.cert_checker.proofs.NextLevel.{rounds_first, round_refused, round_next, rounds_last}
@@ -28,8 +26,7 @@ returns-in_err-low-clause-err c =
     let J = with_rows (program c.args.instance.now) (take k c.loop-i.added) in
     let e = c.in_err-low.field-0.0 in
     rw (p.1, p.2)
-    (round_refused c.args.instance.now c.args.rounds.now c.loop-i.added k c.index-rounds-i.result c.loop-i-test.true c.index-rounds-i.is c.loop-i.invariant.leads e
-    (subst (λ (ms : List Mult). RoundRefuses J (Means.multipliers ms) (k + 1) e) c.as_slice-mults.ensures c.in_err-low.ensures.err))
+    (round_refused c.args.instance.now c.args.rounds.now c.loop-i.added k c.index-rounds-i.result c.loop-i-test.true c.index-rounds-i.is c.loop-i.invariant.leads e c.in_err-low.ensures.err)
 
 pub put-requires : goal.put-requires
 put-requires c =
@@ -54,8 +51,7 @@ loop-i-preserved c =
     let slots = c.check_next.new.slots in
     let fits : SFits w128 c.in_ok-low.low = search rules in
     let same : to_z w128 (of_z w128 c.in_ok-low.low) ≡ c.in_ok-low.low = to_z-of_z fits in
-    let made : MakesRound J (Means.multipliers c.index-rounds-i.result) slots c.in_ok-low.low =
-    subst (λ (ms : List Mult). MakesRound J (Means.multipliers ms) slots c.in_ok-low.low) c.as_slice-mults.ensures c.in_ok-low.ensures.ok in
+    let made : GivesRow J (Means.round c.index-rounds-i.result) slots c.in_ok-low.low = c.in_ok-low.ensures.ok in
     let a = c.check_next.auto.slots in
     let d = c.loop-i.auto.slots in
     let e = c.requires.slots in

@@ -4,6 +4,7 @@ use Rattle.std.proofs.Common.{rules, arith, IsTrue, false, inl, ◌≡◌, ◌+�
 use Rattle.std.proofs.Math.Facts.{to_z-of_z}
 use Rattle.cert_checker.proofs.Sizes.{not_none}
 use Rattle.std.proofs.lemmas.Result.{err_from_is_err_and}
+use Rattle.fraction.specs.Frac.{ratio}
 use Rattle.evidence.specs.Cases as Cases
 use Rattle.certificate.specs.Meanings as Means
 use Rattle.certificate.specs.declared.nodes.Node.{Node}
@@ -11,9 +12,10 @@ use Rattle.case_tree.specs.Cuts as Tree
 use Rattle.cert_checker.specs.Cuts as Of
 use Rattle.cert_checker.specs.Trees.{TreeRefuses, LeadsThrough}
 use Rattle.cert_checker.specs.declared.refused.Unshown.TheVariants.{Tree as Missing}
-use Rattle.cert_checker.proofs.Widths.{width_is}
+use Rattle.cert_checker.proofs.Widths.{width_is, cut-instance}
+use Rattle.cert_checker.proofs.RowWalks.{farkas_rows_leads, bound_rows_leads, grid_rows_leads, as_meant, meant_refused, farkas_meant, bound_meant, grid_meant}
 use Rattle.cert_checker.proofs.Walks.{split_leads, zero_leads, clash_leads, farkas_node_leads, bound_node_leads, grid_node_leads, farkas_refused, bound_refused, grid_refused}
-use Rattle.cert_checker.proofs.walk.step.Goals.{in-Clash+in_ok-check_clash-in-Clash, in-Farkas+in_ok-check_leaf-in-Farkas, in-Bound+else-is_none+in_ok-check_leaf-in-Bound, in-Grid+in_ok-check_grid_leaf-in-Grid}
+use Rattle.cert_checker.proofs.walk.step.Goals.{in-Clash+in_ok-check_clash-in-Clash, in-Farkas+in_ok-check_leaf-in-Farkas, in-Bound+else-is_none+in_ok-check_leaf-in-Bound, in-Grid+in_ok-check_grid_leaf-in-Grid, in-FarkasRows+in_ok-check_row_leaf-in-FarkasRows, in-BoundRows+in_ok-check_bound_rows-in-BoundRows, in-GridRows+in_ok-check_grid_row_leaf-in-GridRows}
 use Rattle.cert_checker.proofs.walk.step.Goals as goal
 
 pub returns-then-not-is_branch-clause-err : goal.returns-then-not-is_branch-clause-err
@@ -97,6 +99,27 @@ returns-in_err-check_grid_leaf-in-Grid-clause-err c =
     rw (p.1, p.2)
     (λ rest. grid_refused (Tree.cut c.args.program.now c.args.cuts.now) (Tree.pending c.args.program.now c.args.cuts.now c.args.branches.now c.args.depth) c.args.number (Of.aim c.args.aim) rest c.args.node.now c.in-Grid.step c.in-Grid.mults c.as_slice-in-Grid.result.now c.in-Grid.is c.as_slice-in-Grid.ensures c.in_err-check_grid_leaf-in-Grid.field-0.0 c.in_err-check_grid_leaf-in-Grid.ensures.err)
 
+pub returns-in_err-check_row_leaf-in-FarkasRows-clause-err : goal.returns-in_err-check_row_leaf-in-FarkasRows-clause-err
+returns-in_err-check_row_leaf-in-FarkasRows-clause-err c =
+    let p = err_from_is_err_and c.from_residual-in_err-check_row_leaf-in-FarkasRows.result c.from_residual-in_err-check_row_leaf-in-FarkasRows.ensures.1 in
+    rw (p.1, p.2)
+    (λ rest. meant_refused (Tree.cut c.args.program.now c.args.cuts.now) (Tree.pending c.args.program.now c.args.cuts.now c.args.branches.now c.args.depth) c.args.number (Of.aim c.args.aim) rest c.args.node.now (Cases.FarkasByRows (Means.multipliers c.as_slice-in-FarkasRows.result.now))
+    (farkas_meant c.args.node.now c.in-FarkasRows.mults c.as_slice-in-FarkasRows.result.now c.as_slice-in-FarkasRows.ensures c.in-FarkasRows.is) c.in_err-check_row_leaf-in-FarkasRows.field-0.0 (inl c.in_err-check_row_leaf-in-FarkasRows.ensures.err))
+
+pub returns-in_err-check_bound_rows-in-BoundRows-clause-err : goal.returns-in_err-check_bound_rows-in-BoundRows-clause-err
+returns-in_err-check_bound_rows-in-BoundRows-clause-err c =
+    let p = err_from_is_err_and c.from_residual-in_err-check_bound_rows-in-BoundRows.result c.from_residual-in_err-check_bound_rows-in-BoundRows.ensures.1 in
+    rw (p.1, p.2)
+    (λ rest. meant_refused (Tree.cut c.args.program.now c.args.cuts.now) (Tree.pending c.args.program.now c.args.cuts.now c.args.branches.now c.args.depth) c.args.number (Of.aim c.args.aim) rest c.args.node.now (Cases.BoundByRows (Means.multipliers c.as_slice-in-BoundRows.result.now))
+    (bound_meant c.args.node.now c.in-BoundRows.mults c.as_slice-in-BoundRows.result.now c.as_slice-in-BoundRows.ensures c.in-BoundRows.is) c.in_err-check_bound_rows-in-BoundRows.field-0.0 (inl c.in_err-check_bound_rows-in-BoundRows.ensures.err))
+
+pub returns-in_err-check_grid_row_leaf-in-GridRows-clause-err : goal.returns-in_err-check_grid_row_leaf-in-GridRows-clause-err
+returns-in_err-check_grid_row_leaf-in-GridRows-clause-err c =
+    let p = err_from_is_err_and c.from_residual-in_err-check_grid_row_leaf-in-GridRows.result c.from_residual-in_err-check_grid_row_leaf-in-GridRows.ensures.1 in
+    rw (p.1, p.2)
+    (λ rest. meant_refused (Tree.cut c.args.program.now c.args.cuts.now) (Tree.pending c.args.program.now c.args.cuts.now c.args.branches.now c.args.depth) c.args.number (Of.aim c.args.aim) rest c.args.node.now (Cases.GridByRows (ratio c.in-GridRows.step) (Means.multipliers c.as_slice-in-GridRows.result.now))
+    (grid_meant c.args.node.now c.in-GridRows.mults c.as_slice-in-GridRows.result.now c.as_slice-in-GridRows.ensures c.in-GridRows.step c.in-GridRows.is) c.in_err-check_grid_row_leaf-in-GridRows.field-0.0 (inl c.in_err-check_grid_row_leaf-in-GridRows.ensures.err))
+
 pub returns-clause-ok : goal.returns-clause-ok
 returns-clause-ok c = λ rest.
     let p = c.args.program.now in
@@ -113,4 +136,16 @@ returns-clause-ok c = λ rest.
           bound_node_leads I js after c.args.number rest c.args.node.now w.in-Bound.mults w.as_slice-in-Bound.result.now w.in-Bound.is w.as_slice-in-Bound.ensures c.args.aim (not_none c.args.aim w.is_none.result w.is_none.ensures w.if-is_none.false) w.in_ok-check_leaf-in-Bound.ensures.ok (c.back.ensures.cases p)
       | in-Grid+in_ok-check_grid_leaf-in-Grid w ↦
           grid_node_leads I js after c.args.number (Of.aim c.args.aim) rest c.args.node.now w.in-Grid.step w.in-Grid.mults w.as_slice-in-Grid.result.now w.in-Grid.is w.as_slice-in-Grid.ensures w.in_ok-check_grid_leaf-in-Grid.ensures.ok (c.back.ensures.cases p)
+      | in-FarkasRows+in_ok-check_row_leaf-in-FarkasRows w ↦
+          as_meant I js after c.args.number rest (Of.aim c.args.aim) c.args.node.now (Cases.FarkasByRows (Means.multipliers w.as_slice-in-FarkasRows.result.now))
+          (farkas_meant c.args.node.now w.in-FarkasRows.mults w.as_slice-in-FarkasRows.result.now w.as_slice-in-FarkasRows.ensures w.in-FarkasRows.is)
+          (farkas_rows_leads I (cut-instance c.args.program.now c.requires.numbers c.args.cuts.now) js after c.args.number rest (Means.multipliers w.as_slice-in-FarkasRows.result.now) (Of.aim c.args.aim) w.in_ok-check_row_leaf-in-FarkasRows.ensures.ok (c.back.ensures.cases p))
+      | in-BoundRows+in_ok-check_bound_rows-in-BoundRows w ↦
+          as_meant I js after c.args.number rest (Of.aim c.args.aim) c.args.node.now (Cases.BoundByRows (Means.multipliers w.as_slice-in-BoundRows.result.now))
+          (bound_meant c.args.node.now w.in-BoundRows.mults w.as_slice-in-BoundRows.result.now w.as_slice-in-BoundRows.ensures w.in-BoundRows.is)
+          (bound_rows_leads I (cut-instance c.args.program.now c.requires.numbers c.args.cuts.now) js after c.args.number rest (Means.multipliers w.as_slice-in-BoundRows.result.now) (Of.aim c.args.aim) w.in_ok-check_bound_rows-in-BoundRows.ensures.ok (c.back.ensures.cases p))
+      | in-GridRows+in_ok-check_grid_row_leaf-in-GridRows w ↦
+          as_meant I js after c.args.number rest (Of.aim c.args.aim) c.args.node.now (Cases.GridByRows (ratio w.in-GridRows.step) (Means.multipliers w.as_slice-in-GridRows.result.now))
+          (grid_meant c.args.node.now w.in-GridRows.mults w.as_slice-in-GridRows.result.now w.as_slice-in-GridRows.ensures w.in-GridRows.step w.in-GridRows.is)
+          (grid_rows_leads I (cut-instance c.args.program.now c.requires.numbers c.args.cuts.now) js after c.args.number rest (Means.multipliers w.as_slice-in-GridRows.result.now) (ratio w.in-GridRows.step) w.in-GridRows.step.above (Of.aim c.args.aim) w.in_ok-check_grid_row_leaf-in-GridRows.ensures.ok (c.back.ensures.cases p))
     ]

@@ -1,0 +1,8 @@
+use Rattle.evidence.proofs.LeftOut.{farkas_left, bound_left}
+use Rattle.evidence.proofs.variables_may_be_left_out.Goals as goal
+
+pub returns-clause-farkas : goal.returns-clause-farkas
+returns-clause-farkas c = λ I ms good f. farkas_left I good ms f
+
+pub returns-clause-bound : goal.returns-clause-bound
+returns-clause-bound c = λ I ms z good p b. bound_left I good ms z p b
