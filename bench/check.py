@@ -1,8 +1,9 @@
 """Times `check`: seconds, peak memory, and how both grow with a tree's nodes and with a leaf's entries.
 
 The tree shows by cases that 2 x0 - 2 x1 = 1 has no whole solution within its bounds: 100,001 nodes over 2 variables
-and 1 row. The leaf shows by 1,000 multipliers that a point is optimal, over 1,000 rows with 100,000 entries. What
-`check` answers is compared, so a figure is that of a whole proof.
+and 1 row. The leaf shows by 1,000 multipliers that a point is optimal, over 1,000 rows with 100,000 entries. Then the
+same where each variable has a multiplier too: once all are written out, once those of rows alone, which decide the
+others. What `check` answers is compared, so a figure is that of a whole proof.
 """
 
 import os
@@ -58,10 +59,13 @@ def tree(nodes):
     return len(items), instance, osrl("infeasible", [("tree", items)]), "accepted infeasible\n"
 
 
-def leaf(rows):
-    """The point of ones is best: each row is at its lower end there, and the costs are a sum of the rows."""
+def leaf(rows, kind="leaf"):
+    """The point of ones is best: each row is at its lower end there, and the costs are a sum of the rows. Where variables
+    have multipliers too, they are at their lower ends, and the costs are greater by these."""
     rng = random.Random(1)
-    columns, values, lows, costs = [], [], [], [0] * VARIABLES
+    own = [] if kind == "leaf" else [rng.randint(1, 9) for _ in range(VARIABLES)]
+    columns, values, lows, costs = [], [], [], list(own) or [0] * VARIABLES
+    named = [f"{j}:{factor}" for j, factor in enumerate(own)] if kind == "variables" else []
     factors = [rng.randint(1, 9) for _ in range(rows)]
     for factor in factors:
         chosen = sorted(rng.sample(range(VARIABLES), ROW_ENTRIES))
@@ -73,14 +77,15 @@ def leaf(rows):
         values += entries
     objectives = "".join(f'<coef idx="{j}">{cost}</coef>' for j, cost in enumerate(costs))
     instance = osil(
-        f'<var mult="{VARIABLES}"/>',
+        f'<var lb="{1 if own else 0}" mult="{VARIABLES}"/>',
         f"<objectives><obj>{objectives}</obj></objectives>",
         "".join(f'<con lb="{low}"/>' for low in lows),
         range(0, len(values) + 1, ROW_ENTRIES),
         columns,
         values,
     )
-    bound = "bound " + " ".join(f"{VARIABLES + i}:{factor}" for i, factor in enumerate(factors))
+    word = "boundRows" if kind == "rows" else "bound"
+    bound = " ".join([word, *named, *(f"{VARIABLES + i}:{factor}" for i, factor in enumerate(factors))])
     results = [("point", ["1"] * VARIABLES), ("value", [sum(costs)]), ("tree", [bound])]
     return len(values), instance, osrl("optimal", results), "accepted optimal\n"
 
@@ -123,7 +128,8 @@ def main():
     print("proof | nodes or entries | instance bytes | result bytes | s | times the one before | peak MB")
     with tempfile.TemporaryDirectory() as folder:
         timed(folder, "tree", (tree(nodes) for nodes in (1_001, 10_001, 20_001, 40_001, 100_001)))
-        timed(folder, "leaf", (leaf(rows) for rows in (10, 100, 1_000)))
+        for kind in ("leaf", "variables", "rows"):
+            timed(folder, kind, (leaf(rows, kind) for rows in (10, 100, 1_000)))
 
 
 if __name__ == "__main__":

@@ -4,6 +4,7 @@ Numbers are exact. It says what a document says and doesn't judge it: `./os chec
 """
 
 import fractions
+import math
 import re
 
 from linear_program import Complaint, printable, read_bytes
@@ -13,6 +14,8 @@ from gubnatris.limits import MOST_DOCUMENT
 
 RATIO = re.compile(r"-?\d+(?:/\d+)?")
 CERTIFICATE = "os_cert."
+# the words of leaves that name no variable, and of what they are once they are completed
+OF_ROWS = {"farkasRows": "farkas", "boundRows": "bound", "gridRows": "grid"}
 
 
 def named(column, otherwise):
@@ -41,10 +44,12 @@ def ratio(text):
 
 class Node:
     """A node of a tree of cases: a split (its variable, the value, the two cases), a zero (its variable), a clash (its column), a farkas or
-    a bound (their multipliers by columns), or a grid (its step too). The number is its place in its tree, from 1."""
+    a bound (their multipliers by columns), or a grid (its step too). The number is its place in its tree, from 1. A leaf of rows alone
+    has the multipliers of variables too, once its tree is read."""
 
     def __init__(self, number, kind, column=None, value=None, multipliers=(), step=None):
         self.number, self.kind, self.column, self.value, self.multipliers, self.step = number, kind, column, value, list(multipliers), step
+        self.is_of_rows = False
 
 
 def column_of(text, most, where):
@@ -65,10 +70,26 @@ def step_of(text, where):
     return step
 
 
+def names_rows(multipliers, variables, where):
+    """Complains of a variable among the multipliers of rows alone."""
+    named = [column for column, _ in multipliers if column < variables]
+    if named:
+        raise Complaint(f"{where} is of rows alone, and names the column {named[0]}, which is a variable")
+
+
+def rows_of(node, variables, where):
+    """A leaf of rows alone, which names no variable."""
+    names_rows(node.multipliers, variables, where)
+    node.is_of_rows = True
+    return node
+
+
 def node_of(text, number, variables, columns):
     """A node, of so many variables and so many columns."""
     kind, *pieces = text.split(" ")
     where = f"node {number} of its tree"
+    if kind in OF_ROWS:
+        return rows_of(node_of(" ".join([OF_ROWS[kind], *pieces]), number, variables, columns), variables, where)
     if kind == "split" and len(pieces) == 2:
         return Node(number, kind, column_of(pieces[0], variables, where), ratio(pieces[1]))
     if kind == "zero" and len(pieces) == 1:
@@ -82,12 +103,35 @@ def node_of(text, number, variables, columns):
     raise Complaint(f"{where} is {text[:40]!r}, which is none")
 
 
-def round_of(text, number, most):
-    """The multipliers of a round, over the columns before its row."""
+def rounded(variable, form):
+    """What a round of rows makes of the form at a variable: a whole number where the variable is whole, and else 0."""
+    if not variable.whole:
+        return 0
+    return math.floor(form) if variable.low is None else math.ceil(form)
+
+
+def round_of(text, number, instance, rows):
+    """The multipliers of a round, over the instance's columns and the rows of those before it; those of variables are made where it is of
+    rows alone."""
     kind, *pieces = text.split(" ")
-    if kind != "round":
-        raise Complaint(f"round {number} of it is {text[:40]!r}, which is none")
-    return pairs_of(pieces, most, f"round {number} of it")
+    where, variables = f"round {number} of it", len(instance.variables)
+    if kind not in ("round", "roundRows"):
+        raise Complaint(f"{where} is {text[:40]!r}, which is none")
+    multipliers = pairs_of(pieces, variables + len(rows), where)
+    if kind == "round":
+        return multipliers
+    names_rows(multipliers, variables, where)
+    form = form_of(multipliers, variables, rows)
+    left = [(j, rounded(variable, form.get(j, 0)) - form.get(j, fractions.Fraction(0))) for j, variable in enumerate(instance.variables)]
+    return [pair for pair in left if pair[1]] + multipliers
+
+
+def rounds_of(texts, instance):
+    rounds, rows = [], list(instance.factors)
+    for text in texts:
+        rounds.append(round_of(text, len(rounds) + 1, instance, rows))
+        rows.append(form_of(rounds[-1], len(instance.variables), rows))
+    return rounds
 
 
 class Result:
@@ -109,6 +153,39 @@ def path_text(root, *names):
     return printable(element.text.strip()) if element else ""
 
 
+def form_of(multipliers, variables, rows):
+    """The sum of columns, each times its multiplier, by variables."""
+    form = {}
+    for column, multiplier in multipliers:
+        for j, factor in ({column: 1} if column < variables else rows[column - variables]).items():
+            form[j] = form.get(j, 0) + multiplier * factor
+    return form
+
+
+def minimising_costs(goal):
+    return {j: -cost if goal.maximise else cost for j, cost in goal.costs.items()}
+
+
+def rows_at(instance, result, level):
+    """The coefficients of the rows at a level: the instance's, and those that rounds or the objectives before it add."""
+    rows = list(instance.factors)
+    for multipliers in result.rounds if level == 0 else []:
+        rows.append(form_of(multipliers, len(instance.variables), rows))
+    return rows + [minimising_costs(goal) for goal in instance.goals[:level]]
+
+
+def complete(instance, result):
+    """Gives each leaf of rows alone the multipliers of variables, which are what its rows leave of the form that is wanted."""
+    variables = len(instance.variables)
+    for level, nodes in enumerate(result.trees):
+        rows = rows_at(instance, result, level) if any(node.is_of_rows for node in nodes) else []
+        for node in (node for node in nodes if node.is_of_rows):
+            wanted = {} if node.kind == "farkas" or not instance.goals else minimising_costs(instance.goals[level])
+            form = form_of(node.multipliers, variables, rows)
+            left = [(j, wanted.get(j, fractions.Fraction(0)) - form.get(j, 0)) for j in range(variables)]
+            node.multipliers = [pair for pair in left if pair[1]] + node.multipliers
+
+
 def find_whole_tree(nodes):
     """Whether the nodes are one tree in preorder."""
     wanted = 1
@@ -123,7 +200,7 @@ def find_whole_tree(nodes):
 def read_trees(result, instance):
     """The rounds, and the trees, whose columns are the instance's and then one for each round, or for each objective before."""
     variables, columns = len(instance.variables), len(instance.columns())
-    result.rounds = [round_of(text, k + 1, columns + k) for k, text in enumerate(result.parts.get("rounds", []))]
+    result.rounds = rounds_of(result.parts.get("rounds", []), instance)
     for text in result.parts.get("tree", []):
         level = re.fullmatch(r"level (\d{1,9})", text)
         if level:
@@ -137,6 +214,7 @@ def read_trees(result, instance):
         result.trees[-1].append(node_of(text, len(result.trees[-1]) + 1, variables, columns + added))
     for nodes in result.trees:
         find_whole_tree(nodes)
+    complete(instance, result)
 
 
 def read_bound(result):

@@ -23,6 +23,7 @@ BUILT = os.path.join(os.path.dirname(os.path.dirname(os.path.abspath(__file__)))
 MOST_CASES, MOST_TURNS = 1_000_000, 100_000_000
 SHORTEST_PAUSE, LONGEST_PAUSE = 0.002, 0.5
 LONGEST_STOP = 30  # seconds that a server may take to end a job that was killed
+PAUSE_OF_STOP = 0.05  # seconds between two looks whether it has
 LONGEST_CHECK = 300  # seconds that the check of one result may take
 LONGEST_START = 60  # seconds that a server of this tool may take until it listens
 STARTS = 5  # how often a server of this tool is started anew
@@ -109,16 +110,14 @@ def certificate_parts(document):
 
 
 class ServerWorker:
-    """A seat at a server. `jobs`: where the names of jobs are written down while they are at the server, so that none is left there."""
+    """A seat at a server. `jobs`: where the names of jobs are written down while they are at the server, so that no instance is left there."""
 
     def __init__(self, url, jobs=None, seconds=30.0):
         self.name, self.server, self.jobs = url, gubnatris.Server(url, seconds=seconds), jobs
 
     def solve(self, osil, stop):
         try:
-            job = self.server.submit(osil, node_limit=MOST_CASES, turn_limit=MOST_TURNS)
-            if self.jobs:
-                self.jobs.begun(self.name, job)
+            job = self.server.submit(osil, node_limit=MOST_CASES, turn_limit=MOST_TURNS, named=self.begun)
             try:
                 return self.wait(job, stop)
             finally:
@@ -127,6 +126,11 @@ class ServerWorker:
             raise Wrong(f"{failure}") from failure
         except gubnatris.Error as failure:
             raise Failed(f"{failure}") from failure
+
+    def begun(self, job):
+        """Writes a job down, before its instance is sent."""
+        if self.jobs:
+            self.jobs.begun(self.name, job)
 
     def wait(self, job, stop):
         """The document of a job; it is asked for ever less often, and killed where the part isn't wanted any more."""
@@ -149,16 +153,20 @@ class ServerWorker:
             pause = min(LONGEST_PAUSE, max(SHORTEST_PAUSE, (now - begun) / 8))
             time.sleep(pause) if until else stop.wait(pause)
 
-    def give_up(self, job):
-        """What runs stays, where a server doesn't end it: a second kill of a job that runs does nothing. Whether the server answered."""
+    def give_up(self, job, seconds=0.0):
+        """Has a job given up; one that runs is asked to stop, and waited for, so many seconds at most. Its state then, `running` or `unknown`, or
+        none where the server doesn't answer."""
+        until = time.monotonic() + seconds
         try:
-            if self.server.kill(job) == "killed":
-                self.server.kill(job)
-            if self.jobs:
-                self.jobs.ended(self.name, job)
+            while (state := self.server.kill(job)) == "running" and time.monotonic() < until:
+                time.sleep(PAUSE_OF_STOP)
+            if state == "killed":  # it waited, and is killed by the first of two kills
+                state = self.server.kill(job)
         except gubnatris.Error:
-            return False
-        return True
+            return None
+        if self.jobs and state != "running":
+            self.jobs.ended(self.name, job)
+        return state
 
     def mend(self):
         pass
@@ -213,30 +221,39 @@ class Jobs:
     """The jobs that are at servers, in a file, so that a tool that is started again gives up what an ended one left there."""
 
     def __init__(self, path):
-        self.path, self.lock, self.open = path, threading.Lock(), set()
+        self.path, self.lock = path, threading.Lock()
 
     def give_up_left(self):
-        """Gives up what is left at servers; how many were given up. A server that doesn't answer isn't asked for the rest, which stays
-        written down."""
-        left, silent = set(), set()
+        """Gives up what is left at servers; how many were given up. What still runs a while later stays written down, and so do the jobs of a
+        server that doesn't answer, which isn't asked for the rest."""
+        left = self.left()
+        workers, silent = {url: ServerWorker(url, seconds=5) for url, _ in left}, set()
+
+        def is_gone(it, seconds):
+            url, job = it
+            state = None if url in silent else workers[url].give_up(job, seconds)
+            if state is None:
+                silent.add(url)
+            return state not in (None, "running")
+
+        running = [it for it in left if not is_gone(it, 0.0)]  # all are asked to stop before the first of them is waited for
+        stay = [it for it in running if not is_gone(it, LONGEST_STOP)]
+        with open(self.path, "w", encoding="utf-8") as file:
+            file.writelines(f"+ {url} {job}\n" for url, job in stay)
+        return len(left) - len(stay)
+
+    def left(self):
+        """The servers and names of jobs that began and didn't end. A line that was cut short by a kill is passed over."""
+        left = set()
         try:
             with open(self.path, encoding="utf-8") as file:
                 for line in file:
-                    mark, url, job = (line.split() + ["", "", ""])[:3]
-                    (left.add if mark == "+" else left.discard)((url, job))
+                    pieces = line.split()
+                    if len(pieces) == 3 and line.endswith("\n"):
+                        (left.add if pieces[0] == "+" else left.discard)(tuple(pieces[1:]))
         except OSError:
             pass
-        stay = []
-        for url, job in sorted(left):
-            worker = ServerWorker(url, seconds=5)
-            if url not in silent and worker.give_up(job):
-                worker.give_up(job)
-            else:
-                silent.add(url)
-                stay.append(f"+ {url} {job}\n")
-        with open(self.path, "w", encoding="utf-8") as file:
-            file.writelines(stay)
-        return len(left) - len(stay)
+        return sorted(left)
 
     def write(self, mark, url, job):
         with self.lock, open(self.path, "a", encoding="utf-8") as file:

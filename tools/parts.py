@@ -172,9 +172,11 @@ def levels_of(items):
 
 
 def ruled_out(node, column):
-    """A leaf for the program with one row more, the goal between two ends that are better than what a bound leaf shows: no point is there."""
-    kind, *pairs = node.split(" ")
-    return " ".join(["farkas", *pairs, f"{column}:-1"]) if kind == "bound" else node
+    """A leaf for the program with one row more, the goal between two ends that are better than what a bound or a grid leaf shows: no point is
+    there. The ends are those of a point, so a whole number of a grid's steps, and its low sum passes them before it is rounded up."""
+    kind, *words = node.split(" ")
+    pairs = {"bound": words, "grid": words[1:]}.get(kind)
+    return node if pairs is None else " ".join(["farkas", *pairs, f"{column}:-1"])
 
 
 # ---- the result of the whole

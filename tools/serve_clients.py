@@ -233,7 +233,13 @@ def plant(calls, rng):
             told_first[c.job] = min(c.received, told_first.get(c.job, c.received))
     late = max((c for c in calls if seen(FINISHED)(c) and told_first[c.job] < c.sent), key=lambda c: c.sent)
     yield "a finished job runs again", with_change((late, (RUNNING, None, False, None)))
-    early = some(seen(ISSUED))
+    # its number was given before it was asked for, and nobody had asked to give it up: else another order would explain the answer
+    given = {c.answer: c.received for c in issues}
+    killed = {}
+    for c in calls:
+        if c.name == "kill":
+            killed[c.job] = min(c.sent, killed.get(c.job, c.sent))
+    early = some(lambda c: seen(ISSUED)(c) and given.get(c.job, c.sent) < c.sent and c.received < killed.get(c.job, c.received + 1))
     yield "a job is unknown and then issued", with_change((early, ("unknown", None, False, None)), *(
         (c, (ISSUED, None, False, None)) for c in calls if c.name == "retrieve" and c.job == early.job and c.sent > early.received and c.answer[0] == "unknown"
     ))
@@ -362,10 +368,11 @@ def main():
     with tempfile.TemporaryDirectory() as folder:
         try:
             good.append(planted_are_found(history_is_legal(min(calls, 6400), folder)))
-            history_is_legal(calls, folder)
+            good.append(bool(history_is_legal(calls, folder)))
         except Contradiction as contradiction:
             print(f"the history isn't shown to be one of a table:\n{contradiction}")
             good.append(False)
+    print(f"{sum(good)} passed, {len(good) - sum(good)} failed")
     return not all(good)
 
 

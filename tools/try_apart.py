@@ -25,7 +25,7 @@ import programs
 import solve_apart_command
 from gubnatris.instances import read_instance
 from odd_servers import EndingEarly, Lying, Slow, ended_by_length, ended_with_bound
-from part_workers import Outcome
+from part_workers import Checker, Jobs, Outcome
 from serving import PROGRAM, Server
 
 TOOL = "tools/solve_apart"
@@ -37,6 +37,8 @@ WIDE = programs.Program(  # rows whose factors have so many digits that what is 
 )
 # Names without the answers: three goals, the last of which has no end; and one whose relaxation has no end, but for whole numbers no point
 LATER_ENDLESS = programs.Program("later endless", False, [(0, 3, True), (0, None, False)], [], [1, 0], later=([0, -1],))
+# The least 2 x, then the least y, where 4 x - 8 y is at least 2: 2 where y is 0, and 6 where it is 1, each by a low sum that is rounded up, of 1 and of 5
+ON_A_GRID = programs.Program("on a grid", False, [(0, 10, True), (0, 1, True)], [(2, None, {0: 4, 1: -8})], [2, 0], later=([0, 1],))
 ONLY_RELAXED = programs.Program("only relaxed", True, [(0, None, True), (0, None, True)], [(1, 1, {0: 2, 1: -2})], [1, 1])
 
 
@@ -134,6 +136,19 @@ def rules(_):
     is_so("and the part is over with its cases", it.is_over())
 
 
+def grids(folder):
+    """Parts whose leaves are on a grid: their trees are joined on each level."""
+    it = division(ON_A_GRID)
+    it.resume(it.root)
+    it.keep_branch(it.root, parts.Branch(1, 0))
+    it.next_open()
+    it.offer((Fraction(1), Fraction(0)))
+    for child, values in zip(it.root.children, ((2, 0), (6, 1))):
+        it.close(child, tuple(map(Fraction, values)), (("grid 2 1:4 2:1/2",), ("bound 1:1",)))
+    line = Checker(folder).line(programs.osil(ON_A_GRID), parts.result_text(it.instance, it.claim()))
+    is_so(f"parts whose leaves are on a grid: {line}", line == "accepted optimal")
+
+
 def kinds(folder):
     """Programs of each kind: the same status and values as one `solve`, and a result that the check accepts."""
     transport = programs.transport(4, 6)
@@ -192,6 +207,7 @@ def servers(folder):
                 is_so(f"{name}: {case.line()}, asked {liar.asked} times", ran.returncode == 0 and case.told() == value and is_told and 0 < liar.asked)
         full_or_slow(case, value, one)
         end_early(folder, one)
+        left_running(folder, urls[0])
         dies(folder, urls, two)
     ran = case.solve("--servers", urls[0])
     is_so(f"no server is there: {last(ran)[:100]}", ran.returncode == 1 and "Traceback" not in ran.stderr)
@@ -253,6 +269,17 @@ def busy_since(url, before, process):
     return False
 
 
+def left_running(folder, url):
+    """A job that a killed run left at a server, and that runs there still, is asked to stop and given up; a line that was cut short isn't read."""
+    server, path, limit = gubnatris.Server(url), Path(folder, "left"), time.monotonic() + LONGEST
+    job = server.submit(programs.osil(programs.job_shop(6, 4)), node_limit=10**6, turn_limit=10**8)
+    while server.state(job) != "running" and time.monotonic() < limit:
+        time.sleep(0.02)
+    path.write_text(f"+ {url} {job}\n+ {url} os-9", encoding="utf-8")
+    count = Jobs(str(path)).give_up_left()
+    is_so(f"{count} job that still runs is given up", count == 1 and not server.jobs().states and not path.read_text(encoding="utf-8"))
+
+
 def dies(folder, urls, server):
     """The tool is killed while jobs of it are at two servers, and started again; then one server is, with its parts."""
     case = Case(folder, "dying", programs.osil(programs.fixed_charge(9, 12)))
@@ -268,7 +295,8 @@ def dies(folder, urls, server):
         text = process.communicate(timeout=LONGEST)[1]
     is_so("a tool that was killed gives up the jobs that it left", is_busy and re.search(r"\d+ jobs of a run that was killed are given up", text))
     is_so(f"a server is killed with its parts: {case.line()}", process.returncode == 0 and case.told() == ("optimal", (938,)) and "asked again" in text)
-    is_so("no job is left at the other one", not gubnatris.Server(urls[0]).jobs().states)
+    left = gubnatris.Server(urls[0]).jobs().states  # a kill between a server's answer and its reading may leave a number, to which nothing was sent
+    is_so(f"no instance is left at the other one: {left}", set(left.values()) <= {"issued"})
 
 
 def families():
@@ -362,7 +390,7 @@ def refused(folder):
 
 def main():
     with tempfile.TemporaryDirectory() as folder:
-        for tried in (rules, refused, kinds, servers, goes_on):
+        for tried in (rules, grids, refused, kinds, servers, goes_on):
             try:
                 tried(folder)
             except (OSError, ValueError, AttributeError, subprocess.TimeoutExpired, gubnatris.Error) as failure:

@@ -26,7 +26,7 @@ STATUSES = {
     "unbounded": (constants.LpStatusUnbounded, constants.LpSolutionUnbounded),
     "unsure": (constants.LpStatusNotSolved, constants.LpSolutionNoSolutionFound),
 }
-TAKEN = ("logPath", "maxNodes", "path", "server")
+TAKEN = ("logPath", "maxNodes", "names", "path", "server")
 PASSED_OVER = {  # what other solvers are told of, and why it changes no answer here
     "maxMemory": "no limit of memory can be set",
     "threads": "one search has one thread",
@@ -39,7 +39,8 @@ class GUBNATRIS(LpSolver):
     """The solver.
 
     `mip`: False relaxes whole variables. `msg`: False says nothing. `timeLimit`: after so many seconds the best point so far. Further:
-    `maxNodes`, `logPath`, `path` of a program, `server`, the URL of one. `gapRel` and `gapAbs` are refused.
+    `maxNodes`, `logPath`, `names`, True for names in the result's document, `path` of a program, `server`, the URL of one. `gapRel` and
+    `gapAbs` are refused.
     """
 
     name = "GUBNATRIS"
@@ -105,8 +106,8 @@ class GUBNATRIS(LpSolver):
         return model, made
 
     def _result(self, model: Model) -> Result:
-        nodes = self.optionsDict.get("maxNodes", MOST_NODES)
-        return self._solver().solve(model, node_limit=nodes, turn_limit=MOST_TURNS, seconds=self.timeLimit)
+        nodes, names = self.optionsDict.get("maxNodes", MOST_NODES), bool(self.optionsDict.get("names"))
+        return self._solver().solve(model, node_limit=nodes, turn_limit=MOST_TURNS, names=names, seconds=self.timeLimit)
 
     def _say(self, lines: list[str]) -> None:
         if self.msg:

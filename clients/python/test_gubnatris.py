@@ -277,6 +277,11 @@ class Peers(unittest.TestCase):
             result = server.result("os-7")
             self.assertEqual((result.status, result.tree), ("optimal", ("grid 1/2 0:-1",)))
 
+    def test_leaves_of_rows_alone_are_taken(self):
+        with Peer(response(returns("retrieve", solved("optimal", **{**POINT, "tree": "<item>boundRows</item><item>farkasRows 1:-1</item>"})))) as server:
+            result = server.result("os-7")
+            self.assertEqual((result.status, result.tree), ("optimal", ("boundRows", "farkasRows 1:-1")))
+
     def test_a_bound_is_taken(self):
         parts = {"cause": "<item>killed</item>", "bound": "<item>5/2</item>", "tree": "<item>bound 1:-1/2</item>"}
         for status, more, objective in (("unsure", {}, None), ("bestSoFar", {"point": "<item>2</item>", "value": "<item>2</item>"}, 2)):
@@ -401,6 +406,16 @@ class Served(unittest.TestCase):
             with self.assertRaises(NotFinished) as raised:
                 call(job)
             self.assertEqual((raised.exception.job, raised.exception.state), (job, "unknown"))
+
+    def test_a_name_is_told_before_the_instance_is_sent(self):
+        told, before = [], self.server.jobs().states
+        job = self.server.submit(EXAMPLES[0], named=lambda job: told.append((job, self.server.state(job))))
+        self.assertEqual(told, [(job, "issued")])
+        self.server.wait(job, 10)
+        self.server.kill(job)
+        with self.assertRaises(KeyError):
+            self.server.submit(EXAMPLES[0], named=lambda job: {}[job])
+        self.assertEqual(self.server.jobs().states, before)
 
     def test_a_search_is_stopped_in_time(self):
         # The sum of 2 x over 61 whole variables is at most 61, which is odd: no branch ends early, so the limit of cases would be passed.

@@ -73,6 +73,14 @@ class LeftOut(unittest.TestCase):
             with self.assertRaisesRegex(PulpSolverError, "the log can't be written"):
                 problem.solve(GUBNATRIS(msg=False, logPath=f"{folder}/none/log"))
 
+    def test_names_stand_in_the_document_that_is_asked_for_them(self):
+        problem, _ = first_problem()
+        for names, wanted in ((True, ['<var idx="0" name="x">4</var>', '<var idx="1" name="y">-1</var>', '<con idx="2" name="c3">']), (None, [])):
+            problem.solve(GUBNATRIS(msg=False, **({"names": names} if names else {})))
+            document = problem.solverModel.document
+            self.assertEqual([text for text in wanted if text not in document], [])
+            self.assertEqual('name="c3"' in document, bool(names))
+
     def test_the_time_is_kept(self):
         problem = pulp.LpProblem("odd", pulp.LpMaximize)
         chosen = [pulp.LpVariable(f"x{j}", 0, 1, pulp.LpInteger) for j in range(60)]

@@ -3,6 +3,7 @@
 "use strict";
 
 const POLL = 2000; // milliseconds from one knock to the next
+const TOGETHER = 50; // milliseconds within which what servers answer is shown at once
 const PATIENCE = 60000; // for an answer
 const LONGEST = 4194304; // bytes of a call
 const CUT = 12; // decimals that are shown
@@ -39,6 +40,11 @@ class Fraction {
   sign() { return this.over > 0n ? 1 : this.over < 0n ? -1 : 0; }
   is(it) { return this.over === it.over && this.under === it.under; }
   isBelow(it) { return this.over * it.under < it.over * this.under; }
+  // The least whole number of steps, each above 0, that isn't below it.
+  roundedUp(step) {
+    const over = this.over * step.under, under = this.under * step.over;
+    return step.times(new Fraction(over / under + (over % under > 0n ? 1n : 0n)));
+  }
   toString() { return this.under === 1n ? `${this.over}` : `${this.over}/${this.under}`; }
   // A decimal, cut towards zero, with two dots where something was cut.
   shown() {
@@ -331,10 +337,10 @@ function askedView(instance) {
 
 // ---- what is shown of a result
 
-// The multipliers of a certificate that is one leaf, by columns.
+// The multipliers of a certificate that is one leaf, by columns; those of a grid say less than its rounding.
 function onlyLeaf(result) {
   const leaf = result.trees.length === 1 && result.trees[0].length === 1 && !result.rounds.length ? result.trees[0][0] : null;
-  return new Map((leaf ? pairsOf(leaf) : []));
+  return new Map((leaf && leaf.kind !== "grid" ? pairsOf(leaf) : []));
 }
 
 function pairsOf(node) {
@@ -522,14 +528,14 @@ class TreeView {
 
   label(node) {
     if (node.children.length) return `${this.name(Number(node.pieces[0]))}${node.isFolded ? " .." : ""}`;
-    if (node.kind === "bound") return this.bestOf(node);
+    if (node.kind === "bound" || node.kind === "grid") return this.bestOf(node);
     if (node.kind === "clash") return `no point: the ends of ${this.name(Number(node.pieces[0]))} clash`;
     if (node.kind !== "farkas") return "closed";
     const names = pairsOf(node).slice(0, 3).map(([column]) => this.name(column));
     return `no point: ${names.join(", ")}${node.pieces.length > 3 ? " .." : ""} can't hold together`;
   }
 
-  // What the multipliers of a leaf show: that no point of its case is better.
+  // What the multipliers of a leaf show, on a grid rounded up to its steps: that no point of its case is better.
   bestOf(node) {
     const { instance } = this, pairs = pairsOf(node), count = instance ? instance.variables.length + instance.rows.length : 0;
     if (!instance || this.level || pairs.some(([column]) => column >= count)) return "no better point";
@@ -538,6 +544,11 @@ class TreeView {
       const end = this.endOf(node, column, factor.sign() > 0);
       if (!end) return "no better point";
       sum = sum.plus(factor.times(end));
+    }
+    if (node.kind === "grid") {
+      const step = ratio(node.pieces[0] ?? "");
+      if (step.sign() <= 0) return "closed";
+      sum = sum.roundedUp(step);
     }
     const goal = instance.goals[0];
     return `no better than ${(goal.most ? goal.constant.minus(sum) : goal.constant.plus(sum)).shown()}`;
@@ -592,9 +603,21 @@ async function ask(server) {
     if (!server.trouble) server.down = Date.now();
     server.trouble = failure.message;
   }
-  showServers();
-  showJobs();
-  followJob();
+  showSoon();
+}
+
+let isShownSoon = false;
+
+// Shows what the servers told, once for all that answer within a moment: a long table is laid out anew each time.
+function showSoon() {
+  if (isShownSoon) return;
+  isShownSoon = true;
+  setTimeout(() => {
+    isShownSoon = false;
+    showServers();
+    showJobs();
+    followJob();
+  }, TOGETHER);
 }
 
 async function watch(server) {
@@ -642,6 +665,10 @@ function lineOf(job) {
   return line;
 }
 
+function setClass(element, name) {
+  if (element.className !== name) element.className = name;
+}
+
 function setText(cell, text) {
   if (cell.textContent !== text) cell.textContent = text;
 }
@@ -667,8 +694,8 @@ function showJobs() {
   for (const job of order) {
     const line = lineOf(job);
     setText(line.cells[2], job.state);
-    line.cells[2].className = job.state;
-    line.className = job.name === current ? "chosen" : "";
+    setClass(line.cells[2], job.state);
+    setClass(line, job.name === current ? "chosen" : "");
   }
   setText(byId("count"), `${order.length.toLocaleString("en")} of ${jobs.size.toLocaleString("en")} jobs`);
   showAges();

@@ -7,7 +7,7 @@ import re
 import socket
 import time
 import urllib.parse
-from typing import TYPE_CHECKING, NamedTuple, Optional, Union
+from typing import TYPE_CHECKING, Callable, NamedTuple, Optional, Union
 
 from .errors import Error, Fault, NoReply, NotFinished, NotReached, NotSent, Status, TimedOut
 from .limits import MOST_DOCUMENT
@@ -109,17 +109,21 @@ class Server:
         turn_limit: Optional[int] = None,
         rounds: Optional[int] = None,
         names: bool = False,
+        named: Optional[Callable[[str], object]] = None,
     ) -> str:
         """Hands an instance over, to be solved behind this call; the job's name.
 
+        `named` is called with that name before the instance is sent: whoever writes it down there finds the job again, whatever ends him.
         Raises `Refused` where a limit is; where the instance is, its result tells that. A server holds 10,000 jobs: give up, by `kill`,
         what was read.
         """
-        return self._submit(source_of(instance), (node_limit, turn_limit, rounds, names))
+        return self._submit(source_of(instance), (node_limit, turn_limit, rounds, names), named)
 
-    def _submit(self, source: Source, limits: tuple[Union[int, bool, None], ...]) -> str:
+    def _submit(self, source: Source, limits: tuple[Union[int, bool, None], ...], named: Optional[Callable[[str], object]] = None) -> str:
         job = self._call("getJobID", {"osol": options_text(None, *limits)})
         try:
+            if named:
+                named(job)
             taken = self._call("send", {"osol": options_text(job, *limits), "osil": source.text})
         except BaseException:
             self._give_up(job)
