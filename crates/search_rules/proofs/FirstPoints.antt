@@ -71,20 +71,20 @@ searches_once P t good gs a b is other o p c d s u = from_once P t good gs a is 
 
 -- from none
 module _ (P : Problem) (t : Terms) where
-  plain_comes : (m : SearchMoment) → ComesFrom P t None m → ComesInSearch P t m
-  plain_comes m begins = Plain.begins
-  plain_comes m (goes_on {m = before} k next) = Plain.goes_on (plain_comes before k) next
+  from_none : (m : SearchMoment) → ComesFrom P t None m → ComesInSearch P t m
+  from_none m begins = Plain.begins
+  from_none m (goes_on {m = before} k next) = Plain.goes_on (from_none before k) next
 
-  comes_plain : (m : SearchMoment) → ComesInSearch P t m → ComesFrom P t None m
-  comes_plain m Plain.begins = begins
-  comes_plain m (Plain.goes_on {m = before} k next) = goes_on (comes_plain before k) next
+  pub comes_from_none : (m : SearchMoment) → ComesInSearch P t m → ComesFrom P t None m
+  comes_from_none m Plain.begins = begins
+  comes_from_none m (Plain.goes_on {m = before} k next) = goes_on (comes_from_none before k) next
 
   pub plain_answer : (o : Outcome) (c : Clock) → IsAnswerFrom P t None o c → IsSearchAnswer P t o c
-  plain_answer o c (searched s) = Plain.searched (record { last = s.last; comes = plain_comes s.last s.comes; ends = s.ends })
-  plain_answer o c (given_up {m} k) = Plain.given_up (plain_comes m k)
-  plain_answer o c (given_up_after {m} k r) = Plain.given_up_after (plain_comes m k) r
+  plain_answer o c (searched s) = Plain.searched (record { last = s.last; comes = from_none s.last s.comes; ends = s.ends })
+  plain_answer o c (given_up {m} k) = Plain.given_up (from_none m k)
+  plain_answer o c (given_up_after {m} k r) = Plain.given_up_after (from_none m k) r
 
   pub answer_plain : (o : Outcome) (c : Clock) → IsSearchAnswer P t o c → IsAnswerFrom P t None o c
-  answer_plain o c (Plain.searched s) = searched (record { last = s.last; comes = comes_plain s.last s.comes; ends = s.ends })
-  answer_plain o c (Plain.given_up {m} k) = given_up (comes_plain m k)
-  answer_plain o c (Plain.given_up_after {m} k r) = given_up_after (comes_plain m k) r
+  answer_plain o c (Plain.searched s) = searched (record { last = s.last; comes = comes_from_none s.last s.comes; ends = s.ends })
+  answer_plain o c (Plain.given_up {m} k) = given_up (comes_from_none m k)
+  answer_plain o c (Plain.given_up_after {m} k r) = given_up_after (comes_from_none m k) r
