@@ -1,5 +1,5 @@
 -- Searches from a first point: what holds at their moments, what they end with, and that from none they are the searches.
-use Rattle.std.proofs.Common.{◌≡◌, inr, Option, None, Some, List, refl, sym, ◌∙◌, ap, ap₂, subst}
+use Rattle.std.proofs.Common.{◌≡◌, inr, Option, None, Some, List, [], refl, sym, ◌∙◌, ap, ap₂, subst}
 use Rattle.std.proofs.lemmas.List.Elements.{All-nil}
 use Rattle.rational.specs.Ratio.{Ratio}
 use Rattle.evidence.specs.Instance.{Problem, IsProblem}
