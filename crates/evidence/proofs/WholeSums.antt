@@ -50,6 +50,11 @@ at_ceiling x k n c h =
 pub same-whole : (x y : Ratio) → x ≈ y → IsWhole y → IsWhole x
 same-whole x y e w = let all = e ⊙ near_whole y e.right w in record { number = w.number; same = all.is }
 
+pub product-wholes : (a x : Ratio) → IsNumber a → IsNumber x → IsWhole a → IsWhole x → IsWhole (product a x)
+product-wholes a x pa p v w =
+    let C : x ≈ x = ≈-refl p in
+    same-whole (product a x) (product (whole v.number) x) (product-≈ (near_whole a pa v) C) (product-whole v.number x p w)
+
 pub none_product-whole : (a x : Ratio) → IsNumber a → IsNumber x → IsSame a none → IsWhole (product a x)
 none_product-whole a x pa p e =
     let C : x ≈ x = ≈-refl p in
