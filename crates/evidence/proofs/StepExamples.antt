@@ -13,10 +13,10 @@ use Rattle.evidence.specs.RowRounds.{IsRowsRound, numbers_of}
 use Rattle.evidence.specs.OneDenominator.{number_at}
 use Rattle.evidence.specs.Claim.{Accepts}
 use Rattle.evidence.specs.Levels.{HasGoalValues}
-use Rattle.evidence.specs.Examples.{times, halves, half_the_row, two_by_steps, two_by_row_steps, two_by_rows, two_by_named_variables, two_by_row_rounding, pairs, one_by_a_row}
+use Rattle.evidence.specs.Examples.{times, halves, half_the_row, two_by_steps, two_by_row_steps, two_by_rows, two_by_named_variables, two_by_row_rounding, odd, five_by_steps, five_without_steps, pairs, parted, half_weighted, one_by_a_row}
 use Rattle.evidence.proofs.Examples.{whole_sums, one, both, stated_one, stated_two, wholes, just, two_of, zeros, halves_feasible, halves_fit, bound_legal, bound_fits, farkas_legal, farkas_fits, bound, farkas}
 use Rattle.evidence.proofs.JointExamples.{half_legal, half_fits, half_row, minus_five_halves, five_halves-reduced, after_round}
-use Rattle.evidence.proofs.PendingNodes.{start, grid_step, split_step, bound_rows_step, farkas_rows_step}
+use Rattle.evidence.proofs.PendingNodes.{start, bound_step, grid_step, split_step, row_split_step, bound_rows_step, farkas_rows_step}
 
 two_values : HasGoalValues (alone halves) (whole (pos 2) ∷ []) (whole (pos 2) ∷ [])
 two_values = record { feasible = halves_feasible; count = refl; numbers = just IsNumber (whole (pos 2)) (lit< tt); values = one (λ k. IsSame (value_at (whole (pos 2) ∷ []) k) (objective (asking (alone halves) k) (whole (pos 2) ∷ []))) refl }
@@ -55,15 +55,15 @@ pub steps : Accepts (alone halves) (two_by_steps (whole (pos 1)))
 steps = (two_values, halves_fit, inl refl, record { tree = Grid (whole (pos 1)) half_row; listed = refl; shows = half_grid; fits = (half_fits, half_steps) })
 
 -- no step of 2: the cost is 1
-odd : (n : ℤ) → negsuc 0 *ℤ pos 1 ≡ (n *ℤ pos 2) *ℤ pos 1 → ⊥
-odd n e = omega (arith, ints)
+odd_step : (n : ℤ) → negsuc 0 *ℤ pos 1 ≡ (n *ℤ pos 2) *ℤ pos 1 → ⊥
+odd_step n e = omega (arith, ints)
 
 pub large_step : Accepts (alone halves) (two_by_steps (whole (pos 2))) → ⊥
 large_step (v, f, r, p) =
     let s = (start halves _ (Some (whole (negsuc 1)))).0 p in
     let g = (grid_step halves [] (whole (pos 2)) half_row [] (whole (negsuc 1))).0 s in
     let m = g.0.step.multiples 0 (lit< tt) refl in
-    odd m.number m.same
+    odd_step m.number m.same
 
 -- rows alone
 
@@ -265,3 +265,92 @@ row_branch = (
     fits = (few_fits, many_fits);
   },
 )
+
+-- a row that isn't whole has no branch: where a variable of it isn't, and where an entry isn't
+
+pub part_row : Accepts (alone parted) one_by_a_row → ⊥
+part_row (v, f, r, p) =
+    let z : Option Ratio = Some (whole (negsuc 0)) in
+    let s = (start parted _ z).0 p in
+    let t = (row_split_step parted [] 1 (pos 1) _ z).0 s in
+    let e = t.0.whole.others 1 (lit< tt) (λ h. cc) in
+    absurd (omega (arith, ints))
+
+no_half : (n : ℤ) → pos 1 *ℤ pos 1 ≡ n *ℤ pos 2 → ⊥
+no_half n e = omega (arith, ints)
+
+pub half_entry : Accepts (alone half_weighted) one_by_a_row → ⊥
+half_entry (v, f, r, p) =
+    let z : Option Ratio = Some (whole (negsuc 0)) in
+    let s = (start half_weighted _ z).0 p in
+    let t = (row_split_step half_weighted [] 1 (pos 1) _ z).0 s in
+    let w = t.0.whole.entries 1 (lit< tt) refl in
+    no_half w.number w.same
+
+-- a goal with a constant, in steps of 2
+
+odd_values : HasGoalValues (alone odd) (whole (pos 2) ∷ []) (whole (pos 5) ∷ [])
+odd_values = let h = halves_feasible in record {
+  feasible = record { count = h.count; numbers = h.numbers; variables = h.variables; rows = h.rows; whole = h.whole; further = h.further };
+  count = refl;
+  numbers = just IsNumber (whole (pos 5)) (lit< tt);
+  values = one (λ k. IsSame (value_at (whole (pos 5) ∷ []) k) (objective (asking (alone odd) k) (whole (pos 2) ∷ []))) refl;
+}
+
+odd_fit : PointFits (alone odd) (whole (pos 2) ∷ [])
+odd_fit = record {
+  rows = halves_fit.rows;
+  goals = one (λ k. GoalFits (asking (alone odd) k) (whole (pos 2) ∷ []))
+      (stated_one (whole (pos 1)) (cost_at odd) (value_at (whole (pos 2) ∷ [])) (wholes (whole (pos 1)) (whole (pos 2)) (whole (pos 2)) (pos 1) (pos 4) (lit< tt) (lit< tt) refl refl (lit≤ tt) (lit≤ tt) (lit≤ tt)));
+}
+
+odd_legal : AreLegal odd row_alone
+odd_legal = record {
+  numbers = just (λ m. IsNumber m.by) (times 1 (negsuc 0)) (lit< tt);
+  columns = just (λ m. m.column < 2) (times 1 (negsuc 0)) (lit< tt);
+  ascending = λ k h. absurd (omega arith);
+  nonzero = just (λ m. m.by.num ≡ pos 0 → ⊥) (times 1 (negsuc 0)) (λ e. cc);
+  ends = just (λ m. IsSome (end_of odd m)) (times 1 (negsuc 0)) refl;
+}
+
+odd_row_fits : LeafFits odd none row_alone
+odd_row_fits = record {
+  forms = one (λ j. FormFits odd row_alone j)
+      (stated_one none (by_of row_alone) (coefficient_of odd row_alone 0) (wholes none (whole (negsuc 0)) (whole (pos 2)) (pos 0) (negsuc 1) (lit< tt) (lit< tt) refl refl (lit≤ tt) (lit≤ tt) (lit≤ tt)));
+  low = stated_one none (by_of row_alone) (end_at odd row_alone) (wholes none (whole (negsuc 0)) (whole (pos 5)) (pos 0) (negsuc 4) (lit< tt) (lit< tt) refl refl (lit≤ tt) (lit≤ tt) (lit≤ tt));
+}
+
+odd_grid : IsGrid odd (whole (pos 2)) row_alone (whole (negsuc 4))
+odd_grid = record {
+  legal = odd_legal;
+  costs = one (λ j. IsSame (form odd row_alone j) (minimising odd (cost_at odd j))) refl;
+  step = record {
+    number = lit< tt;
+    above = omega (arith, ints);
+    multiples = one (λ j. IsTrue (variable_at odd j).whole → IsMultiple (whole (pos 2)) (minimising odd (cost_at odd j))) (λ h. record { number = negsuc 0; same = refl });
+    others = one (λ j. (IsTrue (variable_at odd j).whole → ⊥) → IsSame (minimising odd (cost_at odd j)) none) (λ h. absurd (h refl));
+  };
+  steps = negsuc 1;
+  rounded = record { low = omega (arith, ints); high = omega (arith, ints) };
+  reaches = omega (arith, ints);
+}
+
+odd_steps : StepsFit odd (whole (pos 2)) row_alone
+odd_steps = record {
+  steps = record { number = lit< tt; form = minus_five_halves; same = refl; reduced = five_halves-reduced; within = (lit≤ tt, lit≤ tt) };
+  value = λ k c.
+      let low = c.low in
+      let high = c.high in
+      let e : negsuc 1 ≡ k = omega (arith, ints) in
+      subst (λ k. TermFits (whole (negsuc 0)) (whole k) (whole (pos 2))) e (wholes (whole (negsuc 0)) (whole (negsuc 1)) (whole (pos 2)) (negsuc 0) (negsuc 3) (lit< tt) (lit< tt) refl refl (lit≤ tt) (lit≤ tt) (lit≤ tt));
+}
+
+pub constant : Accepts (alone odd) five_by_steps
+constant = (odd_values, odd_fit, inl refl, record { tree = Grid (whole (pos 2)) row_alone; listed = refl; shows = odd_grid; fits = (odd_row_fits, odd_steps) })
+
+pub constant_alone : Accepts (alone odd) five_without_steps → ⊥
+constant_alone (v, f, r, p) =
+    let s = (start odd _ (Some (whole (negsuc 4)))).0 p in
+    let b = (bound_step odd [] row_alone [] (whole (negsuc 4))).0 s in
+    let r = b.0.reaches in
+    absurd (omega (arith, ints))

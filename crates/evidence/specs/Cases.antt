@@ -11,7 +11,7 @@ pub record Multiplier : Type 0 where
   pub column : ℕ
   pub by : Ratio
 
--- cases, one within the other, or one of three reasons
+-- a leaf, of one of seven kinds, or two cases: of a column, or of a variable that may be 0
 pub data Tree : Type 0 where
   Clash : ℕ → Tree
   Farkas : List Multiplier → Tree
@@ -72,7 +72,7 @@ pub record IsBound (I : Instance) (ms : List Multiplier) (z : Ratio) : Type 0 wh
   pub costs : (j : ℕ) → j < width I → IsSame (form I ms j) (minimising I (cost_at I j))
   pub reaches : IsAtMost z (low_sum I (minimising I I.goal.constant) ms)
 
--- the goal goes in steps of g: each cost of a whole variable is a whole multiple of it, and the others are 0
+-- the goal goes in steps of g: each cost of a whole variable is a whole multiple of it, and the others are 0; so bounds may be rounded (Wolsey, Integer Programming, 1998, chapter 7)
 pub record HasStep (I : Instance) (g : Ratio) : Type 0 where
   pub number : IsNumber g
   pub above : IsBelow none g
@@ -88,7 +88,7 @@ pub record IsGrid (I : Instance) (g : Ratio) (ms : List Multiplier) (z : Ratio) 
   pub rounded : IsCeiling (quotient (low_sum I none ms) g) steps
   pub reaches : IsAtMost z (sum (minimising I I.goal.constant) (product (whole steps) g))
 
--- what is left of t at variable j: the multiplier of j by which the form there is t
+-- what is left of t at variable j: the multiplier of j by which the form there is t. Of costs, what rows leave is a reduced cost (Chvátal, chapter 5)
 abbrev pub left_at : Instance → (ℕ → Ratio) → List Multiplier → ℕ → Ratio
 left_at I t ms j = sum (t j) (negative (form I ms j))
 
@@ -212,7 +212,7 @@ pub record IsWholeRow (I : Instance) (i : ℕ) : Type 0 where
   pub entries : (j : ℕ) → j < width I → IsTrue (variable_at I j).whole → IsWhole (entry_at I.entries i j)
   pub others : (j : ℕ) → j < width I → (IsTrue (variable_at I j).whole → ⊥) → IsSame (entry_at I.entries i j) none
 
--- column c is a row whose sum is whole, so that each of its values is at most k or at least k + 1, and both numbers fit
+-- column c is a row whose sum is whole, so that each of its values is at most k or at least k + 1 (constraint branching: Ryan and Foster, 1981; general disjunctions: Owen and Mehrotra, 2001), and both numbers fit
 pub record IsRowBranch (I : Instance) (c : ℕ) (k : ℤ) : Type 0 where
   pub past : width I ≤ c
   pub inside : c < width I + height I
