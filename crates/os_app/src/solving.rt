@@ -1,5 +1,5 @@
 //! Solves jobs that nobody stops.
-ghost use Rattle.std.specs.Prelude.{◌≡◌, false, option_map, IfOk};
+ghost use Rattle.std.specs.Prelude.{◌≡◌, false, Some, option_map, IfOk};
 ghost use Rattle.os_io.specs.Files.{CountsFiles};
 ghost use Rattle.solve_run.specs.Runs.{IsRight};
 ghost use Rattle.os_app.specs.Solves.{IsDocumentAbout, IsRightWith, IsRightWithin};
@@ -46,6 +46,23 @@ fn solve_with<T: Clock>(
     }
 }
 
+/// The result document of such a job, within so many seconds.
+fn solve_timed<T: Clock>(
+    clock: &T,
+    alloc: Global,
+    osil: &[u8],
+    osol: &[u8],
+    seconds: u64,
+    safe: bool,
+) -> Result<Document, Memory>
+    ensures { IfOk result (IsRightWithin (Some seconds) safe osil.now osol.now) }
+{
+    match timed_options(alloc, osol, seconds)? {
+        Some(text) => solve_with(clock, alloc, osil, text.as_slice(), safe),
+        None => solve_with(clock, alloc, osil, osol, safe),
+    }
+}
+
 /// The result document of such a job, within so many seconds, if they are asked for.
 fn solve_within<T: Clock>(
     clock: &T,
@@ -57,12 +74,9 @@ fn solve_within<T: Clock>(
 ) -> Result<Document, Memory>
     ensures { IfOk result (IsRightWithin seconds safe osil.now osol.now) }
 {
-    let Some(seconds) = seconds else {
-        return solve_with(clock, alloc, osil, osol, safe);
-    };
-    match timed_options(alloc, osol, seconds)? {
-        Some(text) => solve_with(clock, alloc, osil, text.as_slice(), safe),
+    match seconds {
         None => solve_with(clock, alloc, osil, osol, safe),
+        Some(seconds) => solve_timed(clock, alloc, osil, osol, seconds, safe),
     }
 }
 
