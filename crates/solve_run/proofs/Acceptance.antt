@@ -2,6 +2,7 @@
 use Rattle.std.proofs.Common.{◌≡◌, ◌∙◌, ℕ, ◌⊎◌, inl, inr, Bool, Option, None, Some, List, arith, refl, ap, sym, subst}
 use Rattle.evidence.specs.Instance.{Problem, IsProblem}
 use Rattle.evidence.specs.Claim.{Accepts}
+use Rattle.fraction.specs.declared.frac.Frac.{Frac}
 use Rattle.instance.specs.Parts.{Parts, IsValid}
 use Rattle.instance.specs.Program.{problem}
 use Rattle.certificate.specs.Meanings as Means
@@ -25,12 +26,13 @@ use Rattle.document_checker.specs.Documents.{kind, IsAcceptedText}
 use Rattle.certificate.specs.GivenUp.{given_up}
 use Rattle.solve_run.specs.Judging.{IsShownClaim, HasFewRounds, IsFinal, IsJudged, checked}
 use Rattle.solve_run.specs.Closings.{error_report, claim_report, IsShort, IsFitted, IsToldOf}
-use Rattle.solve_run.specs.JobAnswers.{job_terms, Solved, IsJobOf, IsBestOfSearch, AnswersJob, no_options, no_instance, solved, gave_up}
+use Rattle.solve_run.specs.JobAnswers.{Solved, IsJobOf, IsBestOfSearch, AnswersJob, no_options, no_instance, solved, gave_up}
+use Rattle.solve_run.specs.Untils.{job_terms, renamed}
 use Rattle.solve_run.proofs.Lengths.{IsShortName, unsure_short, error_short}
 use Rattle.solve_run.proofs.InkedTexts.{IsMessage}
 use Rattle.solve_run.proofs.FaultMessages.{options_message, instance_message}
 use Rattle.solve_run.proofs.Names.{short_name, bare_name}
-use Rattle.solve_run.proofs.PartialClaims.{given_other, given_shown}
+use Rattle.solve_run.proofs.PartialClaims.{given_other, given_shown, renamed_shown}
 use Rattle.solve_run.proofs.ClaimNodes.{none_bounded}
 use Rattle.solve_run.proofs.WidthRefusals.{best_accepted}
 use Rattle.solve_run.proofs.RoundTrips.{shown_back, wanting_causes}
@@ -99,8 +101,8 @@ module _ (names : (bytes : List ℕ) (o : Options) → IsOptionsText bytes o →
     pub good : IsGood parts job claim
     pub is : r ≡ claim_report job claim
 
-  solved_good : (osil osol : List ℕ) (stop : Option ℕ) (looks : ℕ) (r : Report) → Solved osil osol stop looks r → IsGoodReport osil r
-  solved_good osil osol stop looks r s =
+  solved_good : (osil osol : List ℕ) (stop : Option ℕ) (timed : Option Frac) (looks : ℕ) (r : Report) → Solved osil osol stop timed looks r → IsGoodReport osil r
+  solved_good osil osol stop timed looks r s =
       let g = s.given in
       let shown = shows (problem g.parts) (job_terms g.options stop) s.outcome _ (numbers g.parts) (searched s.ends) in
       record {
@@ -110,7 +112,7 @@ module _ (names : (bytes : List ℕ) (o : Options) → IsOptionsText bytes o →
         instance_text = g.instance_text;
         claim = s.told;
         back = s.numbers;
-        good = closed_good g.parts g.options.job g.valid (short_name g.options.job (names osol g.options g.options_text)) s.turns s.found s.told (record { outcome = s.outcome; tells = s.tells; shown = shown }) s.closed;
+        good = closed_good g.parts g.options.job g.valid (short_name g.options.job (names osol g.options g.options_text)) s.turns s.found s.told (record { outcome = renamed timed s.outcome; tells = s.tells; shown = renamed_shown (problem g.parts) timed s.outcome shown }) s.closed;
         is = s.is;
       }
 
@@ -168,7 +170,7 @@ module _ (names : (bytes : List ℕ) (o : Options) → IsOptionsText bytes o →
   answer_good : (osil osol : List ℕ) (asked : Bool) (r : Report) (c : Claim) (k : Kind) → AnswersJob osil osol asked r → r.claim ≡ Some c → kind c ≡ Some k → IsGoodReport osil r
   answer_good osil osol asked r c k (no_options a) stands says = absurd (claims_nothing r c (ap (λ (s : Report). s.claim) a.is) stands)
   answer_good osil osol asked r c k (no_instance a) stands says = absurd (claims_nothing r c (ap (λ (s : Report). s.claim) a.is) stands)
-  answer_good osil osol asked r c k (solved stop looks may s) stands says = solved_good osil osol stop looks r s
+  answer_good osil osol asked r c k (solved stop looks timed may s) stands says = solved_good osil osol stop timed looks r s
   answer_good osil osol asked r c k (gave_up a) stands says = by a.claims
     where
       by : (a.claim ≡ Has.Unsure causes.Memory None) ⊎ IsBestOfSearch osil osol a.claim → IsGoodReport osil r
@@ -195,7 +197,7 @@ module _ (names : (bytes : List ℕ) (o : Options) → IsOptionsText bytes o →
   answer_read osil osol asked r (no_instance a) =
       let name = names osol a.options a.options_text in
       error_read a.options.job a.message r (bare_name a.options.job name) (short_name a.options.job name) (instance_message osil a.fault a.message a.fails a.says) a.is
-  answer_read osil osol asked r (solved stop looks may s) = good_read osil r (solved_good osil osol stop looks r s)
+  answer_read osil osol asked r (solved stop looks timed may s) = good_read osil r (solved_good osil osol stop timed looks r s)
   answer_read osil osol asked r (gave_up a) = by a.claims
     where
       by : (a.claim ≡ Has.Unsure causes.Memory None) ⊎ IsBestOfSearch osil osol a.claim → IsReportText (report_text r) r

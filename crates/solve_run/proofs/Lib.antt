@@ -14,6 +14,7 @@ pub mod RoundLimits
 pub mod RoundTrips
 pub mod Closings
 pub mod Runs
+pub mod Untils
 pub mod OneClaim
 pub mod OneAnswer
 pub mod Acceptance

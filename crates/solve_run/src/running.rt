@@ -8,7 +8,7 @@ ghost use Rattle.solve_run.specs.JobAnswers.{Right};
 ghost use Rattle.solve_run.specs.Runs.{Ran, IsRight, AreDueNames, TellsDocument, TellsText};
 
 use crate::document::Document;
-use crate::finding::find;
+use crate::finding::find_until;
 use crate::telling::{found_document, memory_document, refusal};
 use branch_bound::Searched;
 use instance::{Instance, problems_have_numbers};
@@ -19,6 +19,7 @@ use osol_grammar::{Options, OsolFault, options_have_names, read_options_come_bac
 use osrl_writing::NameLists;
 use search_rules::answers_are_shown;
 use std::alloc::Global;
+use std::time::Clock;
 
 /// The names that a job's result is told with: those of its instance's document, where its options ask for them.
 fn due_names(alloc: Global, osil: &[u8], options: &Options) -> Result<NameLists, Memory>
@@ -31,11 +32,12 @@ fn due_names(alloc: Global, osil: &[u8], options: &Options) -> Result<NameLists,
 }
 
 /// Runs a job whose options, instance and names are read.
-fn run_instance<W: Watch>(
+fn run_instance<W: Watch, T: Clock>(
     alloc: Global,
     instance: &Instance,
     names: &NameLists,
     options: Options,
+    clock: &T,
     watch: &mut W,
 ) -> Result<Document, Memory>
     requires valid { IsValid instance.now }
@@ -43,7 +45,7 @@ fn run_instance<W: Watch>(
     requires stops { W.stops watch.old < 2 ^ 64 - 1 }
     ensures { (osil osol : List ℕ) → IsOptionsText osol options → IsInstanceText osil instance.now → AreDueNames osil options names.now → Ran (W.came watch.old watch.new) osil osol (TellsDocument osil osol result) }
 {
-    let Searched { claim, turns } = find(alloc, instance, &options, watch);
+    let Searched { claim, turns } = find_until(alloc, instance, &options, clock, watch);
     options_have_names();
     problems_have_numbers();
     answers_are_shown();
@@ -51,11 +53,12 @@ fn run_instance<W: Watch>(
 }
 
 /// Runs a job whose options and instance are read.
-fn run_read<W: Watch>(
+fn run_read<W: Watch, T: Clock>(
     alloc: Global,
     osil: &[u8],
     instance: &Instance,
     options: Options,
+    clock: &T,
     watch: &mut W,
 ) -> Result<Document, Memory>
     requires valid { IsValid instance.now }
@@ -64,16 +67,17 @@ fn run_read<W: Watch>(
     ensures { (osol : List ℕ) → IsOptionsText osol options → IsInstanceText osil.now instance.now → Ran (W.came watch.old watch.new) osil.now osol (TellsDocument osil.now osol result) }
 {
     match due_names(alloc, osil, &options) {
-        Ok(names) => run_instance(alloc, instance, &names, options, watch),
+        Ok(names) => run_instance(alloc, instance, &names, options, clock, watch),
         Err(_) => memory_document(alloc, options.job),
     }
 }
 
 /// Runs a job whose options are read.
-fn run_options<W: Watch>(
+fn run_options<W: Watch, T: Clock>(
     alloc: Global,
     osil: &[u8],
     options: Options,
+    clock: &T,
     watch: &mut W,
 ) -> Result<Document, Memory>
     requires rounds { AreFewRounds options.rounds }
@@ -81,7 +85,7 @@ fn run_options<W: Watch>(
     ensures { (osol : List ℕ) → IsOptionsText osol options → Ran (W.came watch.old watch.new) osil.now osol (TellsDocument osil.now osol result) }
 {
     match osil_grammar::decode(alloc, osil) {
-        Ok(instance) => run_read(alloc, osil, &instance, options, watch),
+        Ok(instance) => run_read(alloc, osil, &instance, options, clock, watch),
         Err(OsilFault::Memory) => memory_document(alloc, options.job),
         Err(fault) => {
             let message = osil_grammar::refusal_text(alloc, &fault);
@@ -91,10 +95,11 @@ fn run_options<W: Watch>(
 }
 
 /// Runs a job, whose options are read first.
-fn run_texts<W: Watch>(
+fn run_texts<W: Watch, T: Clock>(
     alloc: Global,
     osil: &[u8],
     osol: &[u8],
+    clock: &T,
     watch: &mut W,
 ) -> Result<Document, Memory>
     requires { W.stops watch.old < 2 ^ 64 - 1 }
@@ -102,7 +107,7 @@ fn run_texts<W: Watch>(
 {
     read_options_come_back();
     match osol_grammar::decode(alloc, osol) {
-        Ok(options) => run_options(alloc, osil, options, watch),
+        Ok(options) => run_options(alloc, osil, options, clock, watch),
         Err(OsolFault::Memory) => memory_document(alloc, None),
         Err(fault) => {
             let message = osol_grammar::refusal_text(alloc, fault);
@@ -112,36 +117,39 @@ fn run_texts<W: Watch>(
 }
 
 /// Runs a job: its result document, from the texts of its instance and of its options. The options are read before the
-/// instance; a text of white space alone says none. The watch is asked by the looks of the search alone.
+/// instance; a text of white space alone says none. The watch is asked by the looks of the search alone, and the clock too, where the
+/// options say a time.
 ///
 /// Where memory is wanting, the document says so, and may have the best point of some moment of the search; where there is
 /// none for such a document either, there is no document. Where the options ask for names, the instance's document is read
 /// for them before the search.
-pub fn answer_job<W: Watch>(
+pub fn answer_job<W: Watch, T: Clock>(
     alloc: Global,
     osil: &[u8],
     osol: &[u8],
+    clock: &T,
     watch: &mut W,
 ) -> Result<Document, Memory>
     requires { W.stops watch.old < 2 ^ 64 - 1 }
     ensures ran { Ran (W.came watch.old watch.new) osil.now osol.now (TellsDocument osil.now osol.now result) }
     ensures right { (asked : Bool) → (asked ≡ false → W.stops watch.new ≡ W.stops watch.old) → IfOk result (IsRight osil.now osol.now asked) }
 {
-    run_texts(alloc, osil, osol, watch)
+    run_texts(alloc, osil, osol, clock, watch)
 }
 
 /// Runs a job, as [`answer_job`] does: the text of its result document.
-pub fn run_job<W: Watch>(
+pub fn run_job<W: Watch, T: Clock>(
     alloc: Global,
     osil: &[u8],
     osol: &[u8],
+    clock: &T,
     watch: &mut W,
 ) -> Result<Text, Memory>
     requires { W.stops watch.old < 2 ^ 64 - 1 }
     ensures ran { Ran (W.came watch.old watch.new) osil.now osol.now (λ n killed. IfOk result (TellsText osil.now osol.now n killed)) }
     ensures right { (asked : Bool) → (asked ≡ false → W.stops watch.new ≡ W.stops watch.old) → IfOk result (λ doc. Right osil.now osol.now asked (Some doc)) }
 {
-    match answer_job(alloc, osil, osol, watch) {
+    match answer_job(alloc, osil, osol, clock, watch) {
         Ok(document) => Ok(document.text),
         Err(memory) => Err(memory),
     }
