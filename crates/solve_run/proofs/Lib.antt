@@ -12,6 +12,7 @@ pub mod RefusedNames
 pub mod FaultMessages
 pub mod RoundLimits
 pub mod RoundTrips
+pub mod RowForms
 pub mod Closings
 pub mod Runs
 pub mod Untils

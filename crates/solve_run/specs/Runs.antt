@@ -120,12 +120,12 @@ HasCauses (BestSoFar x vs c b) = CauseComesBack c
 HasCauses (Unsure c b) = CauseComesBack c
 
 -- what is told of a claim that was found, closed, with these names
-pub record ClosesClaim (p : Parts) (ns : NameLists) (job : Option (List ℕ)) (turns : ℕ) (found : Claim) (doc : Document) : Type 0 where
+pub record ClosesClaim (p : Parts) (ns : NameLists) (job : Option (List ℕ)) (form turns : ℕ) (found : Claim) (doc : Document) : Type 0 where
   pub told : Claim
-  pub closed : IsToldOf p job turns found told
+  pub closed : IsToldOf p job form turns found told
   pub numbers : ClaimComesBack (Some told)
   pub is : IsNamedDocument ns (claim_report job told) doc
 
 -- the document tells what was found, or memory was wanting
-abbrev pub IsClaimTold : (p : Parts) (ns : NameLists) (job : Option (List ℕ)) (turns : ℕ) (found : Claim) → Document → Type 0
-IsClaimTold p ns job turns found doc = ClosesClaim p ns job turns found doc ⊎ IsMemoryDocument job doc
+abbrev pub IsClaimTold : (p : Parts) (ns : NameLists) (job : Option (List ℕ)) (form turns : ℕ) (found : Claim) → Document → Type 0
+IsClaimTold p ns job form turns found doc = ClosesClaim p ns job form turns found doc ⊎ IsMemoryDocument job doc

@@ -49,7 +49,8 @@ fn run_instance<W: Watch, T: Clock>(
     options_have_names();
     problems_have_numbers();
     answers_are_shown();
-    found_document(alloc, instance, names, options.job, claim, turns)
+    let form = options.form;
+    found_document(alloc, instance, names, options.job, form, claim, turns)
 }
 
 /// Runs a job whose options and instance are read.

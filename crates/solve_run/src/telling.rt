@@ -9,7 +9,7 @@ ghost use Rattle.solve_run.specs.Judging.{IsShownClaim, HasFewRounds};
 ghost use Rattle.solve_run.specs.Closings as specs;
 ghost use Rattle.solve_run.specs.Runs.{IsClaimTold, IsTextOf, IsNamedTextOf, IsFittedDocument, IsMemoryDocument, IsErrorDocument, HasCauses};
 
-use crate::closing::{checked, judge};
+use crate::closing::{checked, formed, judge};
 use crate::document::Document;
 use certificate::{Cause, Claim};
 use instance::Instance;
@@ -155,23 +155,27 @@ fn read_causes(claim: &Claim)
     }
 }
 
-/// The document that tells what a search found after so many turns, once it is checked and fitted, with these names.
+/// The document that tells what a search found after so many turns, once it is checked, formed and fitted, with these names.
 pub fn found_document(
     alloc: Global,
     instance: &Instance,
     names: &NameLists,
     job: Option<Text>,
+    form: u32,
     found: Claim,
     turns: u64,
 ) -> Result<Document, Memory>
     requires valid { IsValid instance.now }
     requires shown { IsShownClaim instance.now found }
     requires few { HasFewRounds found }
-    ensures { IfOk result (IsClaimTold instance.now names.now job turns found) }
+    ensures { IfOk result (IsClaimTold instance.now names.now job form turns found) }
 {
     read_causes(&found);
-    match judge(alloc, instance, &found) {
-        Ok(width) => fitted(alloc, names, job, checked(found, turns, width)),
+    let Ok(width) = judge(alloc, instance, &found) else {
+        return memory_document(alloc, job);
+    };
+    match formed(alloc, instance, checked(found, turns, width), form) {
+        Ok(claim) => fitted(alloc, names, job, claim),
         Err(_) => memory_document(alloc, job),
     }
 }
