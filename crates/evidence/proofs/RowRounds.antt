@@ -1,5 +1,5 @@
 -- A round of rows is, once it is completed, a rounding cut; a round has one row, so that rounds are read one after the other.
-use Rattle.std.proofs.Common.{◌≡◌, IsSome, ℕ, ◌<◌, ℤ, pos, ◌+ℤ◌, ◌≤ℤ◌, ◌↔◌, IsTrue, Option, None, Some, List, ◌∷◌, length, arith, refl, sym, ◌∙◌, subst}
+use Rattle.std.proofs.Common.{◌≡◌, IsSome, ℕ, ◌<◌, ℤ, pos, ◌+ℤ◌, ◌≤ℤ◌, ◌↔◌, IsTrue, Option, None, Some, List, ◌∷◌, arith, refl, sym, ◌∙◌, subst}
 use Rattle.std.specs.List.{All}
 use Rattle.std.proofs.lemmas.Int.{ints, by_lt_z}
 use Rattle.std.proofs.lemmas.List.{ext_get_or}
