@@ -1,5 +1,5 @@
 -- The marks of a written document say the options that it was written of.
-use Rattle.std.proofs.Common.{◌≡◌, ◌∙◌, inr, inl, ℕ, zero, suc, ◌+◌, ◌≤◌, ◌==◌, ◌<◌, Bool, true, false, not, ap, eqb-true, Option, None, Some, List, [], ◌∷◌, ◌++◌, length, leb, refl, sym, subst, arith}
+use Rattle.std.proofs.Common.{◌≡◌, ◌∙◌, inr, inl, ℕ, zero, suc, ◌+◌, ◌≤◌, ◌==◌, Bool, true, false, not, ap, eqb-true, Option, None, Some, List, [], ◌∷◌, ◌++◌, length, leb, refl, sym, subst, arith}
 use Rattle.std.proofs.lemmas.Bool.{not-false}
 use Rattle.std.specs.Prelude.{codes, map, filter, ◌||◌}
 use Rattle.std.specs.Fmt.{decimal}
@@ -18,7 +18,8 @@ use Rattle.tag_tests.specs.Forms.{AreTaken}
 use Rattle.tag_tests.proofs.Forms.{taken_both}
 use Rattle.tag_tests.proofs.Characters.{chars_taken}
 use Rattle.osol_grammar.specs.declared.limit.Limit.{Limit}
-use Rattle.osol_grammar.specs.declared.limit.Limit.TheVariants.{Nodes, Turns, Rounds, Names, Form}
+use Rattle.osol_grammar.specs.declared.limit.Limit.TheVariants as limits
+use Rattle.osol_grammar.specs.declared.limit.Limit.TheVariants.{Rounds, Names, Form}
 use Rattle.osol_grammar.specs.declared.options.Options.{Options}
 use Rattle.osol_grammar.specs.declared.place.Place.{Place}
 use Rattle.osol_grammar.specs.declared.place.Place.TheVariants.{Outside, Osol, General, JobId, Job, MaxTime, Optimization, SolverOptions, SolverOption}
@@ -56,8 +57,8 @@ amount_said : (l : Limit) (n : ℕ) → n ≤ (limit_row l).most → IsCount (de
 amount_said Form zero few count = refl
 amount_said Form (suc zero) few count = refl
 amount_said Form (suc (suc n)) few count = omega (arith, few)
-amount_said Nodes n few count = count
-amount_said Turns n few count = count
+amount_said limits.Nodes n few count = count
+amount_said limits.Turns n few count = count
 amount_said Rounds n few count = count
 amount_said Names n few count = count
 
@@ -107,7 +108,7 @@ told_or_not o q l ls same = by (is_told o l) refl
 all_said : (job : Option (List ℕ)) (seconds : Option Frac) (amounts : Limit → ℕ) → made job seconds amounts ≡ with_amounts (timed job seconds) (made job seconds amounts) (told_limits (made job seconds amounts))
 all_said job seconds amounts =
     let o = made job seconds amounts in
-    let limited = with_amount (with_amount (timed job seconds) Nodes o.nodes) Turns o.turns in
+    let limited = with_amount (with_amount (timed job seconds) limits.Nodes o.nodes) limits.Turns o.turns in
     let rounded = with_amount limited Rounds o.rounds in
     let labelled = with_amount rounded Names o.names in
     sym (told_or_not o limited Rounds (Names ∷ Form ∷ []) refl ∙ told_or_not o rounded Names (Form ∷ []) refl ∙ told_or_not o labelled Form [] refl)

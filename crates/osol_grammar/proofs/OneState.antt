@@ -3,7 +3,6 @@ use Rattle.std.proofs.Common.{◌≡◌, ◌∙◌, inl, inr, ℕ, zero, suc, �
 use Rattle.std.specs.Prelude.{codes}
 use Rattle.tree_grammar.specs.Elements.{Attribute}
 use Rattle.fraction.specs.declared.frac.Frac.{Frac}
-use Rattle.decimal_text.specs.Count.{IsCount}
 use Rattle.decimal_text.proofs.OneNumber.{count_once}
 use Rattle.document_tags.specs.Elements.{value_of}
 use Rattle.document_tags.proofs.SomeAnd.{some_once}
