@@ -19,10 +19,10 @@ fn rows_of(alloc: Global, vars: u32, mults: &Mults) -> Result<Mults, Memory>
     ensures { IfOk result (λ rows. rows ≡ specs.rows_of vars mults.now) }
 {
     let mut rows = Items::new(alloc);
-    let mults = mults.as_slice();
-    for i in 0..mults.len() {
-        if is_of_row(vars, mults[i]) {
-            rows.push(mults[i])?;
+    let whole = mults.as_slice();
+    for i in 0..whole.len() {
+        if is_of_row(vars, whole[i]) {
+            rows.push(whole[i])?;
         }
     }
     Ok(rows)
@@ -53,9 +53,9 @@ fn nodes_of_rows(alloc: Global, vars: u32, nodes: &Nodes) -> Result<Nodes, Memor
     ensures { IfOk result (λ rows. rows ≡ map (specs.node_of_rows vars) nodes.now) }
 {
     let mut rows = Items::new(alloc);
-    let nodes = nodes.as_slice();
-    for i in 0..nodes.len() {
-        rows.push(node_of_rows(alloc, vars, &nodes[i])?)?;
+    let whole = nodes.as_slice();
+    for i in 0..whole.len() {
+        rows.push(node_of_rows(alloc, vars, &whole[i])?)?;
     }
     Ok(rows)
 }
@@ -75,9 +75,9 @@ fn rounds_of_rows(alloc: Global, vars: u32, rounds: &Rounds) -> Result<Rounds, M
     ensures { IfOk result (λ rows. rows ≡ map (specs.round_of_rows vars) rounds.now) }
 {
     let mut rows = Items::new(alloc);
-    let rounds = rounds.as_slice();
-    for i in 0..rounds.len() {
-        rows.push(round_of_rows(alloc, vars, &rounds[i])?)?;
+    let whole = rounds.as_slice();
+    for i in 0..whole.len() {
+        rows.push(round_of_rows(alloc, vars, &whole[i])?)?;
     }
     Ok(rows)
 }
@@ -96,9 +96,9 @@ fn certs_of_rows(alloc: Global, vars: u32, certs: &Certs) -> Result<Certs, Memor
     ensures { IfOk result (λ rows. rows ≡ map (specs.cert_of_rows vars) certs.now) }
 {
     let mut rows = Items::new(alloc);
-    let certs = certs.as_slice();
-    for i in 0..certs.len() {
-        rows.push(cert_of_rows(alloc, vars, &certs[i])?)?;
+    let whole = certs.as_slice();
+    for i in 0..whole.len() {
+        rows.push(cert_of_rows(alloc, vars, &whole[i])?)?;
     }
     Ok(rows)
 }
