@@ -148,8 +148,8 @@ rows_are n (BestSoFar x vs k b) = refl
 rows_are n (Unsure k b) = refl
 
 formed_is : (p : Parts) (form : ℕ) (c formed : Claim) → IsFormed p form c formed → claims_turn_limit c ≡ false → claims_turn_limit formed ≡ false
-formed_is p form c formed (inl (one, yes, is)) within = ap claims_turn_limit is ∙ rows_are (length p.vars) c ∙ within
-formed_is p form c formed (inr (no, is)) within = ap claims_turn_limit is ∙ within
+formed_is p form c formed (inl (one, fine, is)) within = ap claims_turn_limit is ∙ rows_are (length p.vars) c ∙ within
+formed_is p form c formed (inr (other_form, is)) within = ap claims_turn_limit is ∙ within
 
 closed_is : (p : Parts) (job : Option (List ℕ)) (form turns : ℕ) (found told : Claim) → IsToldOf p job form turns found told → claims_turn_limit found ≡ false → claims_turn_limit told ≡ false
 closed_is p job form turns found told closed within = fitted_is job closed.formed told closed.fitted (formed_is p form _ closed.formed closed.forms (checked_is found turns closed.width within))

@@ -81,12 +81,12 @@ module _ (p : Parts) (job : Option (List ℕ)) (valid : IsValid p) (name : IsSho
 
   -- with rows alone, where it is accepted so
   rows_good : (c told : Claim) → IsShownClaim p c → IsFinal c → Accepts (problem p) (Means.claim (claim_of_rows (length p.vars) c)) → IsFitted job (claim_of_rows (length p.vars) c) told → IsGood p job told
-  rows_good c told s final yes (inl (short, same)) = subst (IsGood p job) (sym same) (record { shown = λ other. absurd (other (rows_final (length p.vars) c final)); accepted = λ f. yes; short = short })
-  rows_good c told s final yes (inr (long, same)) = subst (IsGood p job) (sym (same ∙ rows_given (length p.vars) c causes.Length)) (given_good c causes.Length s)
+  rows_good c told s final fine (inl (short, same)) = subst (IsGood p job) (sym same) (record { shown = λ other. absurd (other (rows_final (length p.vars) c final)); accepted = λ f. fine; short = short })
+  rows_good c told s final fine (inr (long, same)) = subst (IsGood p job) (sym (same ∙ rows_given (length p.vars) c causes.Length)) (given_good c causes.Length s)
 
   formed_good : (form : ℕ) (c formed told : Claim) → IsShownClaim p c → (IsFinal c → Accepts (problem p) (Means.claim c)) → IsFormed p form c formed → IsFitted job formed told → IsGood p job told
-  formed_good form c formed told s final (inl (one, yes, same)) fitted = rows_good c told s yes.0 yes.1 (subst (λ (d : Claim). IsFitted job d told) same fitted)
-  formed_good form c formed told s final (inr (no, same)) fitted = fitted_good c told s final (subst (λ (d : Claim). IsFitted job d told) same fitted)
+  formed_good form c formed told s final (inl (one, fine, same)) fitted = rows_good c told s fine.0 fine.1 (subst (λ (d : Claim). IsFitted job d told) same fitted)
+  formed_good form c formed told s final (inr (other_form, same)) fitted = fitted_good c told s final (subst (λ (d : Claim). IsFitted job d told) same fitted)
 
   pub closed_good : (form turns : ℕ) (found told : Claim) → IsShownClaim p found → IsToldOf p job form turns found told → IsGood p job told
   closed_good form turns found told s c = by c.width c.judged c.forms

@@ -1,5 +1,5 @@
 -- Claims with multipliers of rows alone: their numbers are those of their types, their splits fit, and each has one form.
-use Rattle.std.proofs.Common.{◌≡◌, ◌∙◌, ℕ, ◌+◌, ◌^◌, ◌<◌, inl, inr, Bool, true, false, cond, Option, None, Some, List, [], ◌∷◌, length, slice_index_or, arith, refl, ap, sym, subst}
+use Rattle.std.proofs.Common.{◌≡◌, ◌∙◌, ℕ, ◌^◌, ◌<◌, inl, inr, Bool, true, false, cond, Some, List, [], ◌∷◌, length, slice_index_or, arith, refl, ap, sym, subst}
 use Rattle.std.specs.Prelude.{map}
 use Rattle.std.specs.List.{All, flat_map}
 use Rattle.std.proofs.lemmas.List.{length-map}
@@ -40,10 +40,10 @@ rows_final n (Unsure c b) f = f
 
 -- a claim has one form
 pub formed_once : (p : Parts) (form : ℕ) (c a b : Claim) → IsFormed p form c a → IsFormed p form c b → a ≡ b
-formed_once p form c a b (inl (one, yes, same)) (inl (one_too, yes_too, same_too)) = same ∙ sym same_too
-formed_once p form c a b (inl (one, yes, same)) (inr (no, same_too)) = absurd (no one yes)
-formed_once p form c a b (inr (no, same)) (inl (one, yes, same_too)) = absurd (no one yes)
-formed_once p form c a b (inr (no, same)) (inr (no_too, same_too)) = same ∙ sym same_too
+formed_once p form c a b (inl (one, fine, same)) (inl (one_too, fine_too, same_too)) = same ∙ sym same_too
+formed_once p form c a b (inl (one, fine, same)) (inr (other_form, same_too)) = absurd (other_form one fine)
+formed_once p form c a b (inr (other_form, same)) (inl (one, fine, same_too)) = absurd (other_form one fine)
+formed_once p form c a b (inr (other_form, same)) (inr (other_too, same_too)) = same ∙ sym same_too
 
 module _ (n : ℕ) where
   -- ---- numbers of their types
@@ -135,5 +135,5 @@ module _ (n : ℕ) where
 
 -- the form that is asked for comes back where the claim does
 pub formed_back : (p : Parts) (form : ℕ) (c formed : Claim) → IsFormed p form c formed → ClaimComesBack (Some c) → ClaimComesBack (Some formed)
-formed_back p form c formed (inl (one, yes, same)) back = subst (λ (d : Claim). ClaimComesBack (Some d)) (sym same) (claim_back (length p.vars) c back)
-formed_back p form c formed (inr (no, same)) back = subst (λ (d : Claim). ClaimComesBack (Some d)) (sym same) back
+formed_back p form c formed (inl (one, fine, same)) back = subst (λ (d : Claim). ClaimComesBack (Some d)) (sym same) (claim_back (length p.vars) c back)
+formed_back p form c formed (inr (other_form, same)) back = subst (λ (d : Claim). ClaimComesBack (Some d)) (sym same) back

@@ -67,9 +67,9 @@ kept : (p : Parts) (job : Option (List ℕ)) (form turns : ℕ) (found told : Cl
 kept p job form turns found told other short c = by c.width c.judged c.forms c.fitted
   where
     by : (width : Option ℕ) → IsJudged p found width → IsFormed p form (checked found turns width) c.formed → IsFitted job c.formed told → told ≡ found
-    by None judged (inl (one, yes, is)) fitted = absurd (other yes.0)
-    by None judged (inr (no, is)) (inl (s, same)) = same ∙ is
-    by None judged (inr (no, is)) (inr (long, same)) = absurd (long (subst (IsShort job) (sym is) short))
+    by None judged (inl (one, fine, is)) fitted = absurd (other fine.0)
+    by None judged (inr (other_form, is)) (inl (s, same)) = same ∙ is
+    by None judged (inr (other_form, is)) (inr (long, same)) = absurd (long (subst (IsShort job) (sym is) short))
     by (Some n) judged forms fitted = absurd (other judged.0)
 
 -- a claim for want of memory isn't final
