@@ -10,6 +10,7 @@
 //! Without a fault, and with memory, the bytes that come decide how they are cut into requests, and with the table's replies they
 //! decide the bytes written; laws say so.
 //! Whoever makes the moves may be a table's owner or one of many who share it, and whatever runs the jobs is a [`Server`].
+//! [`Conversations`] has the conversation on each of many links, as a [`link_service::Service`].
 //! [`Served`] is how a conversation ended, [`Order`] what a request asks, and [`Said`] the envelope that answers it; where that is a
 //! fault, a [`FaultCode`] is its code.
 //!
@@ -17,6 +18,7 @@
 #![tactic(auto)]
 
 mod asking;
+mod conversations;
 mod doing;
 mod fault;
 mod laws;
@@ -28,6 +30,7 @@ mod saying;
 mod serve;
 mod server;
 
+pub use conversations::Conversations;
 pub use fault::FaultCode;
 pub use laws::{
     bytes_and_replies_decide_the_answers, bytes_are_cut_one_way, conversations_are_kept,
