@@ -377,19 +377,19 @@ module _ (made : Made) (wakes : Wakes) (by : Requests) (says : Bodies) where
       (subst (λ (c : ℕ). ShowsLast made wakes end c l x) (omega arith) s) (subst (λ (c : ℕ). ShowsLast made wakes other c m y) (omega arith) t) there e past.1)
       ∙ sym (append_assoc q.out (all_of qs).out m.out)
 
-  pub written_once : (end other : Served) (bytes past behind left rest : List ℕ) (p q : Part)
-      (t : Talk made wakes end (past ++ left ≡ []) p) (u : Talk made wakes other (behind ++ rest ≡ []) q)
-      → HasNoFault end → HasNoFault other → bytes ≡ (p.taken ++ past) ++ left → bytes ≡ (q.taken ++ behind) ++ rest
+  pub written_once : (end other : Served) (bytes left rest : List ℕ) (p q : Part)
+      (t : Talk made wakes end (left ≡ []) p) (u : Talk made wakes other (rest ≡ []) q)
+      → HasNoFault end → HasNoFault other → bytes ≡ p.taken ++ left → bytes ≡ q.taken ++ rest
       → replies p.entries ≡ replies q.entries → p.out ≡ q.out
-  written_once end other bytes past behind left rest p q t u free free' e f h =
-      let cut = cut_one_way made wakes by says end other bytes past behind left rest p q t u free free' e f in
+  written_once end other bytes left rest p q t u free free' e f h =
+      let cut = cut_one_way made wakes by says end other bytes left rest p q t u free free' e f in
       ap (λ k. k.out) t.whole
-      ∙ outs_once 0 t.done u.done end other t.last u.last (past ++ left) (behind ++ rest) t.exchanges u.exchanges
-      (subst (λ (c : ℕ). ShowsLast made wakes end c t.last (past ++ left)) (omega arith) (last_shows made wakes by says end (length t.done) t.last (past ++ left) free t.ends))
-      (subst (λ (c : ℕ). ShowsLast made wakes other c u.last (behind ++ rest)) (omega arith) (last_shows made wakes by says other (length u.done) u.last (behind ++ rest) free' u.ends))
+      ∙ outs_once 0 t.done u.done end other t.last u.last left rest t.exchanges u.exchanges
+      (subst (λ (c : ℕ). ShowsLast made wakes end c t.last left) (omega arith) (last_shows made wakes by says end (length t.done) t.last left free t.ends))
+      (subst (λ (c : ℕ). ShowsLast made wakes other c u.last rest) (omega arith) (last_shows made wakes by says other (length u.done) u.last rest free' u.ends))
       cut.1
-      (append_cancel_left (all_of t.done).taken (t.last.taken ++ (past ++ left)) (u.last.taken ++ (behind ++ rest))
-      (sym (whole_bytes made wakes by says bytes past left p (all_of t.done) t.last t.whole e) ∙ whole_bytes made wakes by says bytes behind rest q (all_of u.done) u.last u.whole f
-      ∙ ap (λ a. a ++ (u.last.taken ++ (behind ++ rest))) (sym (all_taken_once t.done u.done cut.1))))
+      (append_cancel_left (all_of t.done).taken (t.last.taken ++ left) (u.last.taken ++ rest)
+      (sym (whole_bytes made wakes by says bytes left p (all_of t.done) t.last t.whole e) ∙ whole_bytes made wakes by says bytes rest q (all_of u.done) u.last u.whole f
+      ∙ ap (λ a. a ++ (u.last.taken ++ rest)) (sym (all_taken_once t.done u.done cut.1))))
       (ap (λ k. replies k.entries) (sym t.whole) ∙ h ∙ ap (λ k. replies k.entries) u.whole)
       ∙ sym (ap (λ k. k.out) u.whole)

@@ -93,7 +93,7 @@ CountsCame (Err Memory) before after = ⊥
 pub record ComesOnLink (made : List ℕ → List ℕ → List Bool → Option (List ℕ) → Type 0) (wakes : Bool → Type 0) (did : List MoveEntry → Type 0) (came : Result HttpReply Served) (old new : Tells) : Type 0 where
   pub taken : List ℕ
   pub own : List MoveEntry
-  pub shows : CameWithDue made wakes came (AtEnd [] old.left new.left) taken own
+  pub shows : CameWithDue made wakes came (AtEnd old.left new.left) taken own
   pub moves : did own
   pub read : ReadsBytes taken old.left new.left
   pub counted : CountsCame came old.read_faults new.read_faults
@@ -108,7 +108,7 @@ AccountsOne (Some end) old new = Accounts end old new
 -- one request of a link and of one who makes moves, and what follows
 pub record ServesOne (made : List ℕ → List ℕ → List Bool → Option (List ℕ) → Type 0) (wakes : Bool → Type 0) (did : List MoveEntry → Type 0) (end : Option Served) (old new : Tells) : Type 0 where
   pub part : Part
-  pub answers : AnswersOne made wakes end (AtEnd [] old.left new.left) part
+  pub answers : AnswersOne made wakes end (AtEnd old.left new.left) part
   pub moves : did part.entries
   pub read : ReadsBytes part.taken old.left new.left
   pub wrote : BothTold old.written new.written (Appends part.out)

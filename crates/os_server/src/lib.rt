@@ -1,11 +1,11 @@
 //! The server of the six calls of the Optimization Services: what is asked on a connection, and how it is answered.
 //!
 //! [`serve_one`] reads the requests of a link one after another, [`serve_ends`] those of an input, and [`turn_away`] answers where there is
-//! no memory to begin. Their contracts say by `Serves` and `ServesWhole` what one definition, `Talk`, is made of: the bytes read are
-//! requests and a last part, the moves of the table of jobs that are made are those that the requests ask, in their order, and the
-//! bytes written are the answers, each a function of its request and of the table's replies. Behind each answer that is 200
-//! or 500 a claim is made, and a job that it gives is run. Each way in which a conversation ends comes exactly where the definition
-//! says. Where a read fails, each whole request that was read was answered, also of a link that is read ahead.
+//! no memory to begin. Their contracts say by `Serves` what one definition, `Talk`, is made of: the bytes read are requests and a last
+//! part, the moves of the table of jobs that are made are those that the requests ask, in their order, and the bytes written are the
+//! answers, each a function of its request and of the table's replies. Behind each answer that is 200 or 500 a claim is made, and a job
+//! that it gives is run. Each way in which a conversation ends comes exactly where the definition says. No byte is read past a
+//! conversation, and where a read fails, each whole request that was read was answered: what a link reads ahead is its own business.
 //! A request's body is read as a call while it comes, and its bytes aren't held beside what is read of it.
 //! Without a fault, and with memory, the bytes that come decide how they are cut into requests, and with the table's replies they
 //! decide the bytes written; laws say so.
