@@ -39,7 +39,7 @@ use Rattle.os_server.specs.declared.saying.Said.{Said}
 use Rattle.os_server.specs.declared.serve.Served.{Served}
 use Rattle.ospl_grammar.specs.Table.{text_or_none}
 use Rattle.os_server.specs.Orders.{Names, order_of, SaysProcess, IsAsked, Orders, Asks, SaysOptionsRefused, RefusesProcess, Faults}
-use Rattle.os_server.specs.Answers.{said_by, fault_said, Doing, Moves, RunsAtOnce, doing_of, DoesSo, Does}
+use Rattle.os_server.specs.Answers.{said_by, fault_said, number_for, Doing, Moves, RunsAtOnce, doing_of, DoesSo, Does}
 use Rattle.os_server.specs.Talk.{Part, all_of, IsBodyAnswered, IsRefusedAs, IsExchange, response_text, Talk}
 use Rattle.os_server.specs.Laws.{HasNoFault, takens, replies}
 use Rattle.os_server.specs.OneReading.{Requests, Bodies}
@@ -49,16 +49,16 @@ use Rattle.os_server.proofs.RequestCuts.{Front, Whole, Refuses, Between, Inside,
 
 -- what a body asks
 
-names_once : (id : List ℕ) (n m : ℕ) → Names id n → Names id m → n ≡ m
-names_once id n m (inl (small, is)) (inl (small', is')) =
-    decimal_injective n m small small' (append_cancel_left (codes "os-") (decimal n) (decimal m) (sym is ∙ is'))
-names_once id n m (inl (small, is)) (inr (none, unnamed)) = absurd (unnamed n small is)
-names_once id n m (inr (none, unnamed)) (inl (small, is)) = absurd (unnamed m small is)
-names_once id n m (inr (none, unnamed)) (inr (none', unnamed')) = none ∙ sym none'
+names_once : (id : List ℕ) (a b : Option ℕ) → Names id a → Names id b → a ≡ b
+names_once id (Some n) (Some m) (small, is) (small', is') =
+    ap Some (decimal_injective n m small small' (append_cancel_left (codes "os-") (decimal n) (decimal m) (sym is ∙ is')))
+names_once id (Some n) None (small, is) unnamed = absurd (unnamed n small is)
+names_once id None (Some m) unnamed (small, is) = absurd (unnamed m small is)
+names_once id None None unnamed unnamed' = refl
 
 asked_once : (call : SoapCall) (o p : Options) (x y : Order) → p ≡ o → IsAsked call o x → IsAsked call p y → x ≡ y
-asked_once call o p x y same (n, named, is) (m, named', is') =
-    is ∙ ap (order_of call) (names_once (text_or_none o.job) n m named (subst (λ (q : Options). Names (text_or_none q.job) m) same named')) ∙ sym is'
+asked_once call o p x y same (job, named, is) (other, named', is') =
+    is ∙ ap (order_of call) (names_once (text_or_none o.job) job other named (subst (λ (q : Options). Names (text_or_none q.job) other) same named')) ∙ sym is'
 
 -- why a body asks nothing: it is refused as a call, or its call is refused
 abbrev said_of : SoapFault → FaultCode × List ℕ
@@ -301,8 +301,8 @@ module _ (made : Made) (wakes : Wakes) (by : Requests) (says : Bodies) where
       let same = asks_once says body q.order p.order q.asks p.asks in
       let past = past_doing made (doing_of p.order) p.last q.last own again x y p.does
       (subst (λ (o : Order). Does made o q.last again) same q.does) e in (
-        some_once s t (sym p.says ∙ ap (λ r. said_by p.order.kind p.order.number r) past.0
-            ∙ subst (λ (o : Order). said_by o.kind o.number q.last ≡ Some t) same q.says),
+        some_once s t (sym p.says ∙ ap (λ r. said_by p.order.kind (number_for p.order.job) r) past.0
+            ∙ subst (λ (o : Order). said_by o.kind (number_for o.job) q.last ≡ Some t) same q.says),
         past.1,
       )
   past_answer body own again s t w v x y (inl p) (inr q) e =

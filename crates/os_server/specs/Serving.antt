@@ -21,14 +21,14 @@ use Rattle.os_server.specs.declared.reply.HttpReply.{HttpReply}
 use Rattle.os_server.specs.declared.reply.HttpReply.TheVariants.{Answer, Refused, NoMemory}
 use Rattle.os_server.specs.declared.serve.Served.{Served}
 use Rattle.os_server.specs.declared.serve.Served.TheVariants.{Ended, CutShort, ReadFault, WriteFault, Memory}
-use Rattle.os_server.specs.Answers.{said_by, Does, BeginsToDo}
+use Rattle.os_server.specs.Answers.{said_by, number_for, Does, BeginsToDo}
 use Rattle.os_server.specs.Talk.{Part, was_taken, text_of_reply, IsRung, AtEnd, ReadsBytes, IsBodyAnswered, LacksMemory, IsReplyDue, IsExchange, EndsTalk, HandsOnAll, Accounts}
 
 module _ (made : List ℕ → List ℕ → List Bool → Option (List ℕ) → Type 0) (wakes : Bool → Type 0) where
   -- the moves that do what is asked, and the reply that says the last one's
   abbrev pub DoesOrder : Order → Bool → List MoveEntry → HttpReply → Type 0
   DoesOrder order close own (Answer said closes as_worker) =
-      (closes ≡ close) × (last : tables.Reply) × Does made order last own × (said_by order.kind order.number last ≡ Some said)
+      (closes ≡ close) × (last : tables.Reply) × Does made order last own × (said_by order.kind (number_for order.job) last ≡ Some said)
       × IsRung wakes (was_taken last) as_worker
   DoesOrder order close own (Refused refusal) = ⊥
   DoesOrder order close own NoMemory = BeginsToDo made order own ⊎ ((last : tables.Reply) × Does made order last own)

@@ -21,7 +21,7 @@ use Rattle.os_server.specs.declared.reply.HttpReply.TheVariants.{Answer, Refused
 use Rattle.os_server.specs.declared.serve.Served.{Served}
 use Rattle.os_server.specs.declared.serve.Served.TheVariants.{Ended, CutShort, ReadFault, WriteFault, Memory}
 use Rattle.os_server.specs.Orders.{Asks, Faults}
-use Rattle.os_server.specs.Answers.{said_by, fault_said, Does, BeginsToDo}
+use Rattle.os_server.specs.Answers.{said_by, fault_said, number_for, Does, BeginsToDo}
 
 -- most requests of one connection
 abbrev pub most_requests : ℕ
@@ -84,7 +84,7 @@ module _ (made : List ℕ → List ℕ → List Bool → Option (List ℕ) → T
     pub last : tables.Reply
     pub asks : Asks body order
     pub does : Does made order last own
-    pub says : said_by order.kind order.number last ≡ Some said
+    pub says : said_by order.kind (number_for order.job) last ≡ Some said
     pub woken : IsRung wakes (was_taken last) as_worker
 
   -- a body is an envelope whose call is refused, no move of the table is made, and the fault is said
