@@ -3,3 +3,4 @@ pub mod Acceptance
 pub mod Exclusion
 pub mod OneText
 pub mod OneAnswer
+pub mod ShownClaims

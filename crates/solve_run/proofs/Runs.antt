@@ -34,10 +34,11 @@ use Rattle.osrl_writing.specs.declared.told_names.NameLists.{NameLists}
 use Rattle.osrl_writing.specs.declared.report.Report.{Report}
 use Rattle.solve_run.specs.declared.document.Document.{Document}
 use Rattle.solve_run.specs.Judging.{IsShownClaim, AreFewRounds, HasFewRounds, IsFinal, IsJudged, checked}
-use Rattle.solve_run.specs.Closings.{claim_report, error_report, IsShort, IsFitted, IsToldOf}
+use Rattle.solve_run.specs.Closings.{claim_report, error_report, noted, IsShort, IsFitted, IsToldOf}
+use Rattle.solve_run.specs.Handing.{HandsInClaim, HandsInNone}
 use Rattle.solve_run.specs.JobAnswers.{job_terms, AreJobTexts, IsJobOf, MayStop, AnswersJob, Right}
 use Rattle.solve_run.specs.JobAnswers as right
-use Rattle.solve_run.specs.Runs.{Reports, no_options, no_instance, solved, gave_up, TellsOutcome, TellsText, TellsDocument, IsRight, Ran, ClosesClaim, IsClaimTold, IsMemoryDocument, IsErrorDocument, AreDueNames}
+use Rattle.solve_run.specs.Runs.{Reports, no_options, no_instance, handed, solved, gave_up, TellsOutcome, TellsText, TellsDocument, IsRight, Ran, ClosesClaim, IsClaimTold, IsFittedDocument, IsMemoryDocument, IsErrorDocument, AreDueNames}
 use Rattle.solve_run.proofs.Lengths.{IsShortName, best_short, unsure_short}
 use Rattle.solve_run.proofs.Names.{short_name}
 use Rattle.solve_run.proofs.ToldNames.{nameless, named_answer}
@@ -81,20 +82,20 @@ memory_killed (Some f) = refl
 abbrev clock_after : (turns n : ℕ) (killed : Bool) → Clock
 clock_after turns n killed = record { turns = turns; looks = looks_after 0 n killed }
 
-module _ (osil osol : List ℕ) (o : Options) (p : Parts) (valid : IsValid p) (options_text : IsOptionsText osol o) (name : IsNameOrNone o.job) (instance_text : IsInstanceText osil p) (ns : NameLists) (due : AreDueNames osil o ns) where
+module _ (osil osol : List ℕ) (o : Options) (p : Parts) (valid : IsValid p) (options_text : IsOptionsText osol o) (name : IsNameOrNone o.job) (instance_text : IsInstanceText osil p) (ns : NameLists) (due : AreDueNames osil o ns) (note : Option (List ℕ)) (none_handed : HandsInNone osol p note) where
   abbrev given : AreJobTexts osil osol
   given = record { options = o; options_text = options_text; parts = p; valid = valid; instance_text = instance_text }
 
   module _ (found : Claim) (turns n : ℕ) (doc : Document) where
     -- memory was wanting in the search: the claim of its moment is told
-    wanted : (oc : Outcome) (m : SearchMoment) → ClaimTells found oc → IsShown (problem p) oc → ComesInSearch (problem p) (job_terms o (stop_after n (is_killed oc))) m → early m.best Memory ≡ oc → ClosesClaim p ns o.job turns found doc → TellsOutcome osil osol n (is_killed oc) doc
+    wanted : (oc : Outcome) (m : SearchMoment) → ClaimTells found oc → IsShown (problem p) oc → ComesInSearch (problem p) (job_terms o (stop_after n (is_killed oc))) m → early m.best Memory ≡ oc → ClosesClaim p ns note o.job turns found doc → TellsOutcome osil osol n (is_killed oc) doc
     wanted oc m tells shown comes is closes =
         let early_told : ClaimTells found (early m.best Memory) = subst (ClaimTells found) (sym is) tells in
         let other = wanting found m.best early_told in
         let same = kept p o.job turns found closes.told other (claim_short p o.job found valid (short_name o.job name) (record { outcome = oc; tells = tells; shown = shown }) other) closes.closed in
         let went : is_killed oc ≡ false = ap is_killed (sym is) ∙ memory_killed m.best in
         record {
-          report = claim_report o.job closes.told;
+          report = noted note (claim_report o.job closes.told);
           reports = gave_up (record {
             job = o.job;
             whose = inr (o, options_text, refl);
@@ -105,14 +106,16 @@ module _ (osil osol : List ℕ) (o : Options) (p : Parts) (valid : IsValid p) (o
               comes = subst (λ (k : Bool). ComesInSearch (problem p) (job_terms o (stop_after n k)) m) went comes;
               tells = subst (λ (c : Claim). ClaimTells c (early m.best Memory)) (sym same) early_told;
             });
+            note = note;
+            noting = inr (given, none_handed);
             is = refl;
           });
-          is = named_answer osil osol o options_text p instance_text ns due (claim_report o.job closes.told) doc closes.is;
+          is = named_answer osil osol o options_text p instance_text ns due (noted note (claim_report o.job closes.told)) doc closes.is;
         }
 
-    ended : (oc : Outcome) → ClaimTells found oc → Search (problem p) (job_terms o (stop_after n (is_killed oc))) oc (clock_after turns n (is_killed oc)) → ClosesClaim p ns o.job turns found doc → TellsOutcome osil osol n (is_killed oc) doc
+    ended : (oc : Outcome) → ClaimTells found oc → Search (problem p) (job_terms o (stop_after n (is_killed oc))) oc (clock_after turns n (is_killed oc)) → ClosesClaim p ns note o.job turns found doc → TellsOutcome osil osol n (is_killed oc) doc
     ended oc tells ends closes = record {
-      report = claim_report o.job closes.told;
+      report = noted note (claim_report o.job closes.told);
       reports = solved (record {
         given = given;
         turns = turns;
@@ -123,12 +126,14 @@ module _ (osil osol : List ℕ) (o : Options) (p : Parts) (valid : IsValid p) (o
         told = closes.told;
         closed = closes.closed;
         numbers = closes.numbers;
+        note = note;
+        handed = none_handed;
         is = refl;
       });
-      is = named_answer osil osol o options_text p instance_text ns due (claim_report o.job closes.told) doc closes.is;
+      is = named_answer osil osol o options_text p instance_text ns due (noted note (claim_report o.job closes.told)) doc closes.is;
     }
 
-    answered : (oc of : Outcome) (d : Clock) → of ≡ oc → d ≡ clock_after turns n (is_killed oc) → ClaimTells found oc → IsShown (problem p) oc → IsSearchAnswer (problem p) (job_terms o (stop_after n (is_killed oc))) of d → ClosesClaim p ns o.job turns found doc → TellsOutcome osil osol n (is_killed oc) doc
+    answered : (oc of : Outcome) (d : Clock) → of ≡ oc → d ≡ clock_after turns n (is_killed oc) → ClaimTells found oc → IsShown (problem p) oc → IsSearchAnswer (problem p) (job_terms o (stop_after n (is_killed oc))) of d → ClosesClaim p ns note o.job turns found doc → TellsOutcome osil osol n (is_killed oc) doc
     answered oc of d e f tells shown (searched s) closes =
         ended oc tells (subst (λ (x : Outcome). Search (problem p) (job_terms o (stop_after n (is_killed oc))) x (clock_after turns n (is_killed oc))) e
         (subst (λ (x : Clock). Search (problem p) (job_terms o (stop_after n (is_killed oc))) of x) f s)) closes
@@ -139,28 +144,28 @@ module _ (osil osol : List ℕ) (o : Options) (p : Parts) (valid : IsValid p) (o
 untold : (osil osol : List ℕ) (n : ℕ) (killed : Bool) (job : Option (List ℕ)) (doc : Document) → IsJobOf osol job → IsMemoryDocument job doc → TellsOutcome osil osol n killed doc
 untold osil osol n killed job doc whose is = record {
   report = claim_report job (Has.Unsure Memory None);
-  reports = gave_up (record { job = job; whose = whose; claim = Has.Unsure Memory None; claims = inl refl; is = refl });
+  reports = gave_up (record { job = job; whose = whose; claim = Has.Unsure Memory None; claims = inl refl; note = None; noting = inl refl; is = refl });
   is = nameless osil osol (claim_report job (Has.Unsure Memory None)) doc (λ ns. refl) is;
 }
 
 -- the run of an instance
-pub ran : {E : Type 0} (Came : List Bool → Type 0) (osil osol : List ℕ) (o : Options) (p : Parts) (ns : NameLists) (found : Claim) (turns n : ℕ) (oc : Outcome) (result : Result Document E)
-    → IsValid p → IsNameOrNone o.job → IsOptionsText osol o → IsInstanceText osil p → AreDueNames osil o ns → ClaimTells found oc → IsShown (problem p) oc
+pub ran : {E : Type 0} (Came : List Bool → Type 0) (osil osol : List ℕ) (o : Options) (p : Parts) (ns : NameLists) (note : Option (List ℕ)) (found : Claim) (turns n : ℕ) (oc : Outcome) (result : Result Document E)
+    → IsValid p → IsNameOrNone o.job → IsOptionsText osol o → IsInstanceText osil p → AreDueNames osil o ns → HandsInNone osol p note → ClaimTells found oc → IsShown (problem p) oc
     → Came (answers n (is_killed oc))
     → ((stop : Option ℕ) → Agrees stop 0 n (is_killed oc) → IsSearchAnswer (problem p) (job_terms o stop) oc (clock_after turns n (is_killed oc)))
-    → IfOk result (IsClaimTold p ns o.job turns found) → Ran Came osil osol (TellsDocument osil osol result)
-ran {E} Came osil osol o p ns found turns n oc result valid name options_text instance_text due tells shown came answer told =
+    → IfOk result (IsClaimTold p ns note o.job turns found) → Ran Came osil osol (TellsDocument osil osol result)
+ran {E} Came osil osol o p ns note found turns n oc result valid name options_text instance_text due none_handed tells shown came answer told =
     let is = answer (stop_after n (is_killed oc)) (agrees n (is_killed oc)) in
     record {
       went_on = n;
       killed = is_killed oc;
       came = came;
-      looks = inr (record { given = given osil osol o p valid options_text name instance_text ns due; turns = turns; outcome = oc; answers = is });
-      tells = IfOk-weaker result (IsClaimTold p ns o.job turns found) (TellsOutcome osil osol n (is_killed oc)) (by is) told;
+      looks = inr (record { given = given osil osol o p valid options_text name instance_text ns due note none_handed; turns = turns; outcome = oc; answers = is });
+      tells = IfOk-weaker result (IsClaimTold p ns note o.job turns found) (TellsOutcome osil osol n (is_killed oc)) (by is) told;
     }
   where
-    by : IsSearchAnswer (problem p) (job_terms o (stop_after n (is_killed oc))) oc (clock_after turns n (is_killed oc)) → (doc : Document) → IsClaimTold p ns o.job turns found doc → TellsOutcome osil osol n (is_killed oc) doc
-    by is doc (inl closes) = answered osil osol o p valid options_text name instance_text ns due found turns n doc oc oc (clock_after turns n (is_killed oc)) refl refl tells shown is closes
+    by : IsSearchAnswer (problem p) (job_terms o (stop_after n (is_killed oc))) oc (clock_after turns n (is_killed oc)) → (doc : Document) → IsClaimTold p ns note o.job turns found doc → TellsOutcome osil osol n (is_killed oc) doc
+    by is doc (inl closes) = answered osil osol o p valid options_text name instance_text ns due note none_handed found turns n doc oc oc (clock_after turns n (is_killed oc)) refl refl tells shown is closes
     by is doc (inr memory) = untold osil osol n (is_killed oc) o.job doc (inr (o, options_text, refl)) memory
 
 -- what was found is shown
@@ -215,6 +220,19 @@ quiet_instance {E} Came osil osol o fault message result came options_text fails
     }
     by doc (inr memory) = untold osil osol 0 false o.job doc (inr (o, options_text, refl)) memory
 
+-- the claim of a result that is handed in is told
+pub quiet_handed : {E : Type 0} (Came : List Bool → Type 0) (osil osol : List ℕ) (o : Options) (p : Parts) (ns : NameLists) (c : Claim) (result : Result Document E) → Came [] → IsValid p → IsOptionsText osol o → IsInstanceText osil p → AreDueNames osil o ns → HandsInClaim osol p c → IfOk result (IsFittedDocument ns None o.job c) → Ran Came osil osol (TellsDocument osil osol result)
+quiet_handed {E} Came osil osol o p ns c result came valid options_text instance_text due hands is =
+    quiet Came osil osol result came (IfOk-weaker result (IsFittedDocument ns None o.job c) (TellsOutcome osil osol 0 false) by is)
+  where
+    by : (doc : Document) → IsFittedDocument ns None o.job c doc → TellsOutcome osil osol 0 false doc
+    by doc (inl (told, fitted, written)) = record {
+      report = claim_report o.job told;
+      reports = handed (record { given = record { options = o; options_text = options_text; parts = p; valid = valid; instance_text = instance_text }; claim = c; handed = hands; told = told; fitted = fitted; is = refl });
+      is = named_answer osil osol o options_text p instance_text ns due (claim_report o.job told) doc written;
+    }
+    by doc (inr memory) = untold osil osol 0 false o.job doc (inr (o, options_text, refl)) memory
+
 -- ---- the verdict
 
 one_stop : (n : ℕ) → stops_of (went_on n ++ true ∷ []) ≡ 1
@@ -227,6 +245,7 @@ Asked killed asked = killed ≡ true → asked ≡ true
 answers_right : (osil osol : List ℕ) (n : ℕ) (killed asked : Bool) (r : Report) → Asked killed asked → Reports osil osol n killed r → AnswersJob osil osol asked r
 answers_right osil osol n killed asked r only (no_options h) = right.no_options h
 answers_right osil osol n killed asked r only (no_instance h) = right.no_instance h
+answers_right osil osol n killed asked r only (handed h) = right.handed h
 answers_right osil osol n killed asked r only (solved h) = right.solved (stop_after n killed) (looks_after 0 n killed) (stops killed only) h
   where
     stops : (k : Bool) → Asked k asked → MayStop asked (stop_after n k) (looks_after 0 n k)

@@ -16,9 +16,9 @@ found_document-requires-clause-few g c =
     few_by c.args.instance.now c.args.options c.find-claim.result.turns n c.find-claim.result.claim oc c.requires.rounds tells answer
 
 pub returns : goal.returns
-returns g c = λ osil osol options_text instance_text due.
+returns g c = λ osil osol options_text instance_text due none_handed.
     let (n, oc, tells, came, answer) = c.find-claim.ensures in
-    ran (g.W.Watch.came c.args.watch.now c.find-claim.new.watch) osil osol c.args.options c.args.instance.now c.args.names.now c.find-claim.result.claim c.find-claim.result.turns n oc c.found_document.result
-    c.requires.valid (c.options_have_names.ensures osol c.args.options options_text) options_text instance_text due tells
+    ran (g.W.Watch.came c.args.watch.now c.find-claim.new.watch) osil osol c.args.options c.args.instance.now c.args.names.now c.args.note c.find-claim.result.claim c.find-claim.result.turns n oc c.found_document.result
+    c.requires.valid (c.options_have_names.ensures osol c.args.options options_text) options_text instance_text due none_handed tells
     (shown_by c.answers_are_shown.ensures c.problems_have_numbers.ensures.numbers c.args.instance.now c.args.options c.find-claim.result.turns n oc answer)
     came answer c.found_document.ensures

@@ -1,0 +1,56 @@
+-- A text of options hands in one thing; one that options in memory are written as, nothing.
+use Rattle.std.proofs.Common.{◌≡◌, ◌∙◌, ℕ, inl, inr, Option, None, Some, List, [], ◌∷◌, refl, ap, sym}
+use Rattle.std.specs.Prelude.{codes}
+use Rattle.tree_grammar.specs.Elements.{none, Element, Event, Close, nodes_events, events}
+use Rattle.doc_tree.specs.Marks.{spread}
+use Rattle.doc_tree.specs.Reading.{Visits}
+use Rattle.tree_grammar.specs.Document.{Doc}
+use Rattle.document_tags.specs.Texts.{IsDocument}
+use Rattle.document_tags.specs.Writing.{text_nodes, group, bare_root}
+use Rattle.osol_grammar.specs.declared.options.Options.{Options}
+use Rattle.osol_grammar.specs.Meaning.{IsBlank, IsOptionsText}
+use Rattle.osol_grammar.specs.Writing.{job_nodes, limit_nodes, options_nodes, options_text}
+use Rattle.osol_grammar.specs.Back.{ComesBack}
+use Rattle.osol_grammar.proofs.WrittenText.{optimization, text_document, text_not_blank}
+use Rattle.handed_results.specs.declared.handed.Handed.{Handed}
+use Rattle.handed_results.specs.declared.handed.Handed.TheVariants.{Nothing}
+use Rattle.handed_results.specs.declared.standing.Place.TheVariants.{InRoot, InGeneral}
+use Rattle.handed_results.specs.declared.standing.Standing.{Standing}
+use Rattle.handed_results.specs.Leaving.{Leaves}
+use Rattle.handed_results.specs.Marked.{bare, start, left}
+use Rattle.handed_results.specs.Reading.{handed_by, MayHandIn, HandsIn}
+use Rattle.handed_results.proofs.Walks.{at, passed_left}
+
+-- what is left behind all marks is handed in, whatever the bytes are read as
+may_hand_in : (limit : ℕ) (bytes : List ℕ) (first s : Standing) (h : Handed) → first ≡ start → ((a b : Element) → Doc bytes a → Doc bytes b → a ≡ b) → h ≡ bare s.handed → Visits (λ ms. Leaves first s ms) limit bytes → MayHandIn bytes h
+may_hand_in limit bytes first s h begins one is visits = λ root doc.
+    is ∙ ap (λ (z : Standing). bare z.handed) (visits.told ∙ ap (λ (z : Standing). left z (spread (events visits.element))) begins) ∙ ap handed_by (one visits.element root visits.document doc.document)
+
+pub document_hands : (limit : ℕ) (bytes : List ℕ) (first s : Standing) (h : Handed) → (IsBlank bytes → ⊥) → first ≡ start → ((a b : Element) → Doc bytes a → Doc bytes b → a ≡ b) → h ≡ bare s.handed → Visits (λ ms. Leaves first s ms) limit bytes → HandsIn bytes h
+document_hands limit bytes first s h some begins one is visits = record { document = λ other. may_hand_in limit bytes first s h begins one is visits; blank = λ none. absurd (some none) }
+
+-- bytes that are blank, and those that are no document
+pub blank_hands : (bytes : List ℕ) → IsBlank bytes → HandsIn bytes Nothing
+blank_hands bytes none = record { document = λ some. absurd (some none); blank = λ is. refl }
+
+pub no_document_hands : (bytes : List ℕ) → ((root : Element) → IsDocument bytes root → ⊥) → HandsIn bytes Nothing
+no_document_hands bytes none = record { document = λ some root is. absurd (none root is); blank = λ is. refl }
+
+pub hands_once : (bytes : List ℕ) (o : Options) (h k : Handed) → IsOptionsText bytes o → HandsIn bytes h → HandsIn bytes k → h ≡ k
+hands_once bytes o h k (inl none) a b = a.blank none.0 ∙ sym (b.blank none.0)
+hands_once bytes o h k (inr some) a b = a.document some.0 some.1.root some.1.document ∙ sym (b.document some.0 some.1.root some.1.document)
+
+-- ---- options in memory
+
+after_optimization : (o : Options) (k : List Event) → left (at InRoot 0 Nothing) (spread (nodes_events (optimization o) k)) ≡ left (at InRoot 0 Nothing) (spread k)
+after_optimization o k = passed_left (group (codes "solverOptions") (limit_nodes o) none) (codes "optimization") InRoot Nothing k
+
+after_job : (job : Option (List ℕ)) (o : Options) (k : List Event) → left (at InRoot 0 Nothing) (spread (nodes_events (job_nodes job (optimization o)) k)) ≡ left (at InRoot 0 Nothing) (spread k)
+after_job None o k = after_optimization o k
+after_job (Some name) o k = passed_left (text_nodes name) (codes "jobID") InGeneral Nothing (Close (codes "general") ∷ nodes_events (optimization o) k) ∙ after_optimization o k
+
+nothing_by : (o : Options) → handed_by (bare_root (codes "osol") (options_nodes o)) ≡ Nothing
+nothing_by o = ap (λ (z : Standing). bare z.handed) (after_job o.job o (Close (codes "osol") ∷ []))
+
+pub nothing_written : (o : Options) (h : Handed) → ComesBack o → HandsIn (options_text o) h → h ≡ Nothing
+nothing_written o h back hands = hands.document (text_not_blank o) (bare_root (codes "osol") (options_nodes o)) (text_document o back) ∙ nothing_by o
