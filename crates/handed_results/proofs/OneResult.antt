@@ -1,5 +1,5 @@
 -- A text of options hands in one thing; one that options in memory are written as, nothing.
-use Rattle.std.proofs.Common.{◌≡◌, ◌∙◌, ℕ, inl, inr, Option, None, Some, List, [], ◌∷◌, refl, ap, sym}
+use Rattle.std.proofs.Common.{◌≡◌, ◌∙◌, ℕ, inl, inr, ◌==◌, Bool, true, false, length, Option, None, Some, List, [], ◌∷◌, refl, ap, sym}
 use Rattle.std.specs.Prelude.{codes}
 use Rattle.tree_grammar.specs.Elements.{none, Element, Event, Close, nodes_events, events}
 use Rattle.doc_tree.specs.Marks.{spread}
@@ -27,18 +27,22 @@ may_hand_in limit bytes first s h begins one is visits = λ root doc.
     is ∙ ap (λ (z : Standing). bare z.handed) (visits.told ∙ ap (λ (z : Standing). left z (spread (events visits.element))) begins) ∙ ap handed_by (one visits.element root visits.document doc.document)
 
 pub document_hands : (limit : ℕ) (bytes : List ℕ) (first s : Standing) (h : Handed) → (IsBlank bytes → ⊥) → first ≡ start → ((a b : Element) → Doc bytes a → Doc bytes b → a ≡ b) → h ≡ bare s.handed → Visits (λ ms. Leaves first s ms) limit bytes → HandsIn bytes h
-document_hands limit bytes first s h some begins one is visits = record { document = λ other. may_hand_in limit bytes first s h begins one is visits; blank = λ none. absurd (some none) }
+document_hands limit bytes first s h some begins one is visits = record { document = λ other. may_hand_in limit bytes first s h begins one is visits; blank = λ is_blank. absurd (some is_blank) }
+
+-- a text that isn't empty has a character
+pub is_some : (b : Bool) (text : List ℕ) → b ≡ (length text == 0) → b ≡ false → text ≡ [] → ⊥
+is_some b text seen some none_left = let clash : true ≡ false = sym (seen ∙ ap (λ (t : List ℕ). length t == 0) none_left) ∙ some in cc
 
 -- bytes that are blank, and those that are no document
 pub blank_hands : (bytes : List ℕ) → IsBlank bytes → HandsIn bytes Nothing
-blank_hands bytes none = record { document = λ some. absurd (some none); blank = λ is. refl }
+blank_hands bytes is_blank = record { document = λ some. absurd (some is_blank); blank = λ is. refl }
 
 pub no_document_hands : (bytes : List ℕ) → ((root : Element) → IsDocument bytes root → ⊥) → HandsIn bytes Nothing
-no_document_hands bytes none = record { document = λ some root is. absurd (none root is); blank = λ is. refl }
+no_document_hands bytes no_root = record { document = λ some root is. absurd (no_root root is); blank = λ is. refl }
 
 pub hands_once : (bytes : List ℕ) (o : Options) (h k : Handed) → IsOptionsText bytes o → HandsIn bytes h → HandsIn bytes k → h ≡ k
-hands_once bytes o h k (inl none) a b = a.blank none.0 ∙ sym (b.blank none.0)
-hands_once bytes o h k (inr some) a b = a.document some.0 some.1.root some.1.document ∙ sym (b.document some.0 some.1.root some.1.document)
+hands_once bytes o h k (inl blank) a b = a.blank blank.0 ∙ sym (b.blank blank.0)
+hands_once bytes o h k (inr text) a b = a.document text.0 text.1.root text.1.document ∙ sym (b.document text.0 text.1.root text.1.document)
 
 -- ---- options in memory
 
