@@ -252,9 +252,9 @@ def inner(held, low, high):
     return max(lows, default=None), min(highs, default=None)
 
 
-def halves(instance, node):
+def halves(instance, node, held):
     """The two cases of a split or a zero, the first one last: the column, the ends that it adds, and the words for them."""
-    column = instance.variables[node.column]
+    column = instance.variables[node.column] if node.kind == "zero" else held[node.column]
     if node.kind == "zero":
         return [(node.column, column.low, column.high, f"{column.name} within its own ends"), (node.column, 0, 0, f"{column.name} = 0")]
     above = node.value + 1
@@ -279,7 +279,7 @@ def cases(instance, result, level):
         node = next(nodes)
         found.append(Case(node, depth, text, said_of(node, goal, held), parent))
         if node.kind in ("split", "zero"):
-            todo += [("begin", depth + 1, half, node.number) for half in halves(instance, node)]
+            todo += [("begin", depth + 1, half, node.number) for half in halves(instance, node, held)]
     return found
 
 
