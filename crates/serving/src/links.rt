@@ -10,6 +10,7 @@ use os_server::{Served, Server, serve_one};
 use server_threads::{OpenLink, Service};
 use std::alloc::Global;
 use std::sync::Wait;
+use std::time::Clock;
 use workers::Bell;
 
 /// A bell, with what ringing it may wait by.
@@ -19,11 +20,14 @@ struct Ringing<'a, R, B> {
     bell: &'a B,
 }
 
-/// Serves links by what is asked on them, and runs jobs by what solves them. While it serves a link, it has a bell.
+/// Serves links by what is asked on them, and runs jobs by what solves them, with this clock. While it serves a link, it has a bell.
 #[derive(Drop)]
-pub(crate) struct LinkServer<B>(pub(crate) B);
+pub(crate) struct LinkServer<'c, T: Clock, B> {
+    pub clock: &'c T,
+    pub with: B,
+}
 
-impl<B> Runner<SolvedJobs> for LinkServer<B> {
+impl<'c, T: Clock, B> Runner<SolvedJobs> for LinkServer<'c, T, B> {
     ghost use Rattle.job_solver.specs.Runs.{MakesDocument};
 
     ghost ran = { MakesDocument };
@@ -35,15 +39,16 @@ impl<B> Runner<SolvedJobs> for LinkServer<B> {
         osol: &[u8],
         watch: &mut W,
     ) -> Option<SharedText> {
-        Solver.run(alloc, osil, osol, watch)
+        Solver::new(self.clock).run(alloc, osil, osol, watch)
     }
 }
 
-impl<'a, R: Wait, B: Bell> Server<SolvedJobs> for LinkServer<Ringing<'a, R, B>> {
+impl<'c, 'a, T: Clock, R: Wait, B: Bell> Server<SolvedJobs>
+    for LinkServer<'c, T, Ringing<'a, R, B>> {
     ghost wakes = { B.rang };
 
     fn wake(&self) -> bool {
-        self.0.bell.ring(self.0.rt)
+        self.with.bell.ring(self.with.rt)
     }
 }
 
@@ -57,7 +62,7 @@ fn lacks_memory(served: Served) -> bool
     }
 }
 
-impl Service<SolvedJobs> for LinkServer<()> {
+impl<'c, T: Clock> Service<SolvedJobs> for LinkServer<'c, T, ()> {
     ghost use Rattle.serving.specs.Serving.{Converses};
 
     ghost talked = { Converses };
@@ -70,7 +75,10 @@ impl Service<SolvedJobs> for LinkServer<()> {
         link: OpenLink<L>,
         mover: &mut C,
     ) -> (bool, OpenLink<L>) {
-        let ringing = LinkServer(Ringing { rt, bell });
+        let ringing = LinkServer {
+            clock: self.clock,
+            with: Ringing { rt, bell },
+        };
         let (served, link) = serve_one(alloc, link, mover, &ringing);
         (lacks_memory(served), link)
     }

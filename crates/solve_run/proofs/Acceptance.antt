@@ -5,6 +5,7 @@ use Rattle.std.proofs.lemmas.Bool.{leb-true}
 use Rattle.document_tags.specs.Texts.{document_limit}
 use Rattle.evidence.specs.Instance.{Problem, IsProblem}
 use Rattle.evidence.specs.Claim.{Accepts}
+use Rattle.fraction.specs.declared.frac.Frac.{Frac}
 use Rattle.instance.specs.Parts.{Parts, IsValid}
 use Rattle.instance.specs.Program.{problem}
 use Rattle.certificate.specs.Meanings as Means
@@ -29,7 +30,8 @@ use Rattle.certificate.specs.GivenUp.{given_up}
 use Rattle.solve_run.specs.Judging.{IsShownClaim, HasFewRounds, IsFinal, IsJudged, checked}
 use Rattle.solve_run.specs.Closings.{error_report, claim_report, with_message, noted, IsShort, IsFitted, IsToldOf}
 use Rattle.solve_run.specs.Handing.{HandsInNone}
-use Rattle.solve_run.specs.JobAnswers.{job_terms, TakesHanded, Solved, IsNoteOfJob, IsJobOf, IsBestOfSearch, AnswersJob, no_options, no_instance, handed, solved, gave_up}
+use Rattle.solve_run.specs.JobAnswers.{TakesHanded, Solved, IsNoteOfJob, IsJobOf, IsBestOfSearch, AnswersJob, no_options, no_instance, handed, solved, gave_up}
+use Rattle.solve_run.specs.Untils.{job_terms, renamed}
 use Rattle.solve_run.proofs.Lengths.{IsShortName, unsure_short, error_short}
 use Rattle.solve_run.proofs.Texts.{noted_claim}
 use Rattle.solve_run.proofs.HandedMessages.{note_bare}
@@ -38,7 +40,7 @@ use Rattle.solve_run.proofs.Closings.{fitted_back}
 use Rattle.solve_run.proofs.InkedTexts.{IsMessage}
 use Rattle.solve_run.proofs.FaultMessages.{options_message, instance_message}
 use Rattle.solve_run.proofs.Names.{short_name, bare_name}
-use Rattle.solve_run.proofs.PartialClaims.{given_other, given_shown}
+use Rattle.solve_run.proofs.PartialClaims.{given_other, given_shown, renamed_shown}
 use Rattle.solve_run.proofs.ClaimNodes.{none_bounded}
 use Rattle.solve_run.proofs.WidthRefusals.{best_accepted}
 use Rattle.solve_run.proofs.RoundTrips.{shown_back, wanting_causes}
@@ -117,11 +119,11 @@ module _ (names : (bytes : List ℕ) (o : Options) → IsOptionsText bytes o →
     pub note_bare : IsBareOrNone note
     pub is : r ≡ noted note (claim_report job claim)
 
-  solved_good : (osil osol : List ℕ) (stop : Option ℕ) (looks : ℕ) (r : Report) → Solved osil osol stop looks r → IsGoodReport osil r
-  solved_good osil osol stop looks r s =
+  solved_good : (osil osol : List ℕ) (stop : Option ℕ) (timed : Option Frac) (looks : ℕ) (r : Report) → Solved osil osol stop timed looks r → IsGoodReport osil r
+  solved_good osil osol stop timed looks r s =
       let g = s.given in
       let shown = shows (problem g.parts) (job_terms g.options stop) s.outcome _ (numbers g.parts) (searched s.ends) in
-      let good = closed_good g.parts g.options.job g.valid (short_name g.options.job (names osol g.options g.options_text)) s.turns s.found s.told (record { outcome = s.outcome; tells = s.tells; shown = shown }) s.closed in
+      let good = closed_good g.parts g.options.job g.valid (short_name g.options.job (names osol g.options g.options_text)) s.turns s.found s.told (record { outcome = renamed timed s.outcome; tells = s.tells; shown = renamed_shown (problem g.parts) timed s.outcome shown }) s.closed in
       record {
         job = g.options.job;
         bare = bare_name g.options.job (names osol g.options g.options_text);
@@ -228,7 +230,7 @@ module _ (names : (bytes : List ℕ) (o : Options) → IsOptionsText bytes o →
   answer_good osil osol asked r c k (no_options a) stands says = absurd (claims_nothing r c (ap (λ (s : Report). s.claim) a.is) stands)
   answer_good osil osol asked r c k (no_instance a) stands says = absurd (claims_nothing r c (ap (λ (s : Report). s.claim) a.is) stands)
   answer_good osil osol asked r c k (handed h) stands says = handed_good osil osol r h
-  answer_good osil osol asked r c k (solved stop looks may s) stands says = solved_good osil osol stop looks r s
+  answer_good osil osol asked r c k (solved stop looks timed may s) stands says = solved_good osil osol stop timed looks r s
   answer_good osil osol asked r c k (gave_up a) stands says = by a.claims
     where
       by : (a.claim ≡ Has.Unsure causes.Memory None) ⊎ IsBestOfSearch osil osol a.claim → IsGoodReport osil r
@@ -255,7 +257,7 @@ module _ (names : (bytes : List ℕ) (o : Options) → IsOptionsText bytes o →
       let name = names osol a.options a.options_text in
       error_read a.options.job a.message r (bare_name a.options.job name) (short_name a.options.job name) (instance_message osil a.fault a.message a.fails a.says) a.is
   answer_read osil osol asked r (handed h) = good_read osil r (handed_good osil osol r h)
-  answer_read osil osol asked r (solved stop looks may s) = good_read osil r (solved_good osil osol stop looks r s)
+  answer_read osil osol asked r (solved stop looks timed may s) = good_read osil r (solved_good osil osol stop timed looks r s)
   answer_read osil osol asked r (gave_up a) = by a.claims
     where
       by : (a.claim ≡ Has.Unsure causes.Memory None) ⊎ IsBestOfSearch osil osol a.claim → IsReportText (report_text r) r

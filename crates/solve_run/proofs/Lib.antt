@@ -16,6 +16,7 @@ pub mod RoundTrips
 pub mod HandedClaims
 pub mod Closings
 pub mod Runs
+pub mod Untils
 pub mod OneClaim
 pub mod OneHanding
 pub mod OneAnswer

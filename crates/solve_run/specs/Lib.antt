@@ -12,6 +12,7 @@ pub use Rattle.cert_checker.specs.Refusals
 pub use Rattle.document_checker.specs.Documents
 pub use Rattle.document_checker.specs.Texts
 pub use Rattle.handed_results.specs.Reading
+pub mod Untils
 pub mod Judging
 pub mod Closings
 pub mod Handing

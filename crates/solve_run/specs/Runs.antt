@@ -1,11 +1,12 @@
 -- What the run of a job answers after its looks, of which the last may have stopped it.
 use Rattle.std.specs.Prelude.{◌≡◌, ◌⊎◌, ℕ, Bool, false, Option, None, Some, Result, Ok, IfOk, List}
+use Rattle.fraction.specs.declared.frac.Frac.{Frac}
 use Rattle.instance.specs.Parts.{Parts}
 use Rattle.instance.specs.Program.{problem}
 use Rattle.certificate.specs.declared.causes.Cause.TheVariants.{Memory}
 use Rattle.certificate.specs.declared.claims.Claim.{Claim}
 use Rattle.certificate.specs.declared.claims.Claim.TheVariants.{Optimal, Infeasible, Unbounded, BestSoFar, Unsure}
-use Rattle.simplex_rules.specs.Looks.{answers, looks_after, stop_after}
+use Rattle.simplex_rules.specs.Looks.{answers}
 use Rattle.search_rules.specs.Search.{Outcome, IsSearchAnswer}
 use Rattle.osrl_writing.specs.declared.report.Report.{Report}
 use Rattle.osrl_writing.specs.declared.told_names.NameLists.{NameLists}
@@ -21,25 +22,33 @@ use Rattle.solve_run.specs.declared.handing.Handing.TheVariants.{Taken, Passed}
 use Rattle.document_checker.specs.Documents.{IsShownIn}
 use Rattle.handed_results.specs.declared.handed.Handed.TheVariants.{Once}
 use Rattle.solve_run.specs.declared.document.Document.{Document}
-use Rattle.solve_run.specs.JobAnswers.{job_terms, RefusesOptions, RefusesInstance, AreJobTexts, TakesHanded, Solved, GaveUp, AnswersJob, TellsReport}
+use Rattle.solve_run.specs.Untils.{job_terms, stop_by, looks_by, MayTime}
+use Rattle.solve_run.specs.JobAnswers.{SaysSeconds, RefusesOptions, RefusesInstance, AreJobTexts, TakesHanded, Solved, GaveUp, AnswersJob, TellsReport}
 
--- the looks are those of the search of the instance, up to its end or to where memory was wanting
+-- the looks are those of the search of the instance, up to its end or to where memory was wanting; or a time that the options say was over at the last one
 pub record AreSearched (osil osol : List ℕ) (n : ℕ) (killed : Bool) : Type 0 where
   pub given : AreJobTexts osil osol
   pub turns : ℕ
   pub outcome : Outcome
-  pub answers : IsSearchAnswer (problem given.parts) (job_terms given.options (stop_after n killed)) outcome (record { turns = turns; looks = looks_after 0 n killed })
+  pub timed : Option Frac
+  pub may : MayTime given.options killed timed
+  pub answers : IsSearchAnswer (problem given.parts) (job_terms given.options (stop_by n killed timed)) outcome (record { turns = turns; looks = looks_by n killed timed })
 
 -- there were no looks, or those of the search
 abbrev pub AreSearchLooks : (osil osol : List ℕ) → ℕ → Bool → Type 0
 AreSearchLooks osil osol n killed = ((n ≡ 0) × (killed ≡ false)) ⊎ AreSearched osil osol n killed
 
--- the report that is answered after n looks that went on, and one more where it stopped the search
+-- a time was over only where the options say that very one, and the job's own watch went on
+abbrev pub MayTimeOut : (osol : List ℕ) → (killed : Bool) → (timed : Option Frac) → Type 0
+MayTimeOut osol killed None = Unit {0}
+MayTimeOut osol killed (Some s) = SaysSeconds osol s × (killed ≡ false)
+
+-- the report that is answered after n looks at which the job's own watch went on, and one more where that stopped the search
 pub data Reports (osil osol : List ℕ) (n : ℕ) (killed : Bool) (r : Report) : Type 0 where
   no_options : RefusesOptions osol r → Reports osil osol n killed r
   no_instance : RefusesInstance osil osol r → Reports osil osol n killed r
   handed : TakesHanded osil osol r → Reports osil osol n killed r
-  solved : Solved osil osol (stop_after n killed) (looks_after 0 n killed) r → Reports osil osol n killed r
+  solved : (timed : Option Frac) → MayTimeOut osol killed timed → Solved osil osol (stop_by n killed timed) timed (looks_by n killed timed) r → Reports osil osol n killed r
   gave_up : GaveUp osil osol r → Reports osil osol n killed r
 
 -- the document is this report's, and says whether it reports an error

@@ -22,8 +22,10 @@ ghost use Rattle.document_checker.specs.Documents.{kind, IsAcceptedText};
 ghost use Rattle.solve_run.specs.Judging.{IsFinal, IsWideAt};
 ghost use Rattle.solve_run.specs.Closings.{IsShort, claim_report, noted};
 ghost use Rattle.solve_run.specs.Handing.{HandsInNone};
-ghost use Rattle.solve_run.specs.JobAnswers.{job_terms, RefusesOptions, RefusesInstance, TakesHanded, Solved, GaveUp, AnswersJob, TellsReport, Right};
+ghost use Rattle.solve_run.specs.JobAnswers.{RefusesOptions, RefusesInstance, TakesHanded, Solved, GaveUp, AnswersJob, TellsReport, Right};
 ghost use Rattle.solve_run.specs.Grounds.{OptionsAreOne, SearchesAreOne, HandedAreOne};
+ghost use Rattle.fraction.specs.declared.frac.Frac.{Frac};
+ghost use Rattle.solve_run.specs.Untils.{job_terms};
 
 use cert_checker::{
     claims_have_one_refusal, refused_is_not_accepted, shown_is_refused_for_width_alone,
@@ -80,11 +82,11 @@ fn handed_are_one()
 /// by their texts, but for want of memory.
 pub fn answers_exclude_each_other()
     ensures options_instance { (osil osol : List ℕ) (r s : Report) → RefusesOptions osol r → RefusesInstance osil osol s → ⊥ }
-    ensures options_search { (osil osol : List ℕ) (stop : Option ℕ) (looks : ℕ) (r s : Report) → RefusesOptions osol r → Solved osil osol stop looks s → ⊥ }
-    ensures instance_search { (osil osol : List ℕ) (stop : Option ℕ) (looks : ℕ) (r s : Report) → RefusesInstance osil osol r → Solved osil osol stop looks s → ⊥ }
+    ensures options_search { (osil osol : List ℕ) (stop : Option ℕ) (timed : Option Frac) (looks : ℕ) (r s : Report) → RefusesOptions osol r → Solved osil osol stop timed looks s → ⊥ }
+    ensures instance_search { (osil osol : List ℕ) (stop : Option ℕ) (timed : Option Frac) (looks : ℕ) (r s : Report) → RefusesInstance osil osol r → Solved osil osol stop timed looks s → ⊥ }
     ensures options_handed { (osil osol : List ℕ) (r s : Report) → RefusesOptions osol r → TakesHanded osil osol s → ⊥ }
     ensures instance_handed { (osil osol : List ℕ) (r s : Report) → RefusesInstance osil osol r → TakesHanded osil osol s → ⊥ }
-    ensures handed_search { (osil osol : List ℕ) (stop : Option ℕ) (looks : ℕ) (r s : Report) → TakesHanded osil osol r → Solved osil osol stop looks s → ⊥ }
+    ensures handed_search { (osil osol : List ℕ) (stop : Option ℕ) (timed : Option Frac) (looks : ℕ) (r s : Report) → TakesHanded osil osol r → Solved osil osol stop timed looks s → ⊥ }
 {
     options_are_one();
     instances_are_one();
@@ -92,11 +94,12 @@ pub fn answers_exclude_each_other()
 }
 
 /// Law: a job has one answer of each kind: one for refused options, one for a refused instance, one for a result that is handed in
-/// and taken, and one for a search that no look stops, or that the same look stops, after so many looks.
+/// and taken, and one for a search that no look stops, or that the same look
+/// stops, for the same time or for none, after so many looks.
 pub fn answers_are_one()
     ensures options { (osol : List ℕ) (r s : Report) → RefusesOptions osol r → RefusesOptions osol s → r ≡ s }
     ensures instance { (osil osol : List ℕ) (r s : Report) → RefusesInstance osil osol r → RefusesInstance osil osol s → r ≡ s }
-    ensures search { (osil osol : List ℕ) (stop : Option ℕ) (looks more : ℕ) (r s : Report) → Solved osil osol stop looks r → Solved osil osol stop more s → (r ≡ s) × (looks ≡ more) }
+    ensures search { (osil osol : List ℕ) (stop : Option ℕ) (timed : Option Frac) (looks more : ℕ) (r s : Report) → Solved osil osol stop timed looks r → Solved osil osol stop timed more s → (r ≡ s) × (looks ≡ more) }
     ensures handed { (osil osol : List ℕ) (r s : Report) → TakesHanded osil osol r → TakesHanded osil osol s → r ≡ s }
 {
     options_are_one();
@@ -117,10 +120,10 @@ pub fn found_claims_are_refused_for_width_alone()
 
 /// Law: where the search of a job that isn't asked to stop ends with a claim that is refused for no width, and whose document
 /// isn't too long, the job's answer tells it, with the message about a result that is handed in and isn't taken, if there is such;
-/// or such a result is taken, or memory is wanting. Such is each claim that a point is optimal, that none is feasible or that points
+/// or such a result is taken, or memory is wanting, or a time that its options say was over at a look. Such is each claim that a point is optimal, that none is feasible or that points
 /// have no best value, and that the checker accepts.
 pub fn ended_searches_are_told()
-    ensures { (osil osol : List ℕ) (o : kinds.Options) (p : Parts) (oc : Outcome) (found : Claim) (c : Clock) (r : Report) → IsOptionsText osol o → IsInstanceText osil p → Search (problem p) (job_terms o None) oc c → ClaimTells found oc → ((q : Refused) (n : ℕ) → IsRefusedFor (problem p) (Means.claim found) q → IsWideAt q n → ⊥) → IsShort o.job found → AnswersJob osil osol false r → ((note : Option (List ℕ)) × HandsInNone osol p note × (r ≡ noted note (claim_report o.job found))) ⊎ TakesHanded osil osol r ⊎ GaveUp osil osol r }
+    ensures { (osil osol : List ℕ) (o : kinds.Options) (p : Parts) (oc : Outcome) (found : Claim) (c : Clock) (r : Report) → IsOptionsText osol o → IsInstanceText osil p → Search (problem p) (job_terms o None) oc c → ClaimTells found oc → ((q : Refused) (n : ℕ) → IsRefusedFor (problem p) (Means.claim found) q → IsWideAt q n → ⊥) → IsShort o.job found → AnswersJob osil osol false r → ((note : Option (List ℕ)) × HandsInNone osol p note × (r ≡ noted note (claim_report o.job found))) ⊎ TakesHanded osil osol r ⊎ GaveUp osil osol r ⊎ ((s : Frac) × (looks : ℕ) × (o.seconds ≡ Some s) × Solved osil osol (Some looks) (Some s) looks r) }
 {
     options_are_one();
     instances_are_one();

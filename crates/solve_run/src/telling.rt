@@ -172,6 +172,7 @@ fn read_cause(cause: Cause)
     match cause {
         Cause::NodeLimit(_nodes) => {}
         Cause::TurnLimit(_turns) => {}
+        Cause::TimeLimit(_seconds) => {}
         Cause::Wide(_place) => {}
         _ => {}
     }
