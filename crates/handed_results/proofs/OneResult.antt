@@ -1,15 +1,18 @@
 -- A text of options hands in one thing; one that options in memory are written as, nothing.
 use Rattle.std.proofs.Common.{◌≡◌, ◌∙◌, ℕ, inl, inr, ◌==◌, Bool, true, false, length, Option, None, Some, List, [], ◌∷◌, refl, ap, sym}
 use Rattle.std.specs.Prelude.{codes}
-use Rattle.tree_grammar.specs.Elements.{none, Element, Event, Close, nodes_events, events}
+use Rattle.tree_grammar.specs.Elements.{Nodes, none, Element, Event, Close, nodes_events, events}
 use Rattle.doc_tree.specs.Marks.{spread}
 use Rattle.doc_tree.specs.Reading.{Visits}
 use Rattle.tree_grammar.specs.Document.{Doc}
 use Rattle.document_tags.specs.Texts.{IsDocument}
-use Rattle.document_tags.specs.Writing.{text_nodes, group, bare_root}
+use Rattle.document_tags.specs.Writing.{text_nodes, leaf, group, bare_root}
+use Rattle.fraction.specs.Frac.{ratio}
+use Rattle.fraction.specs.declared.frac.Frac.{Frac}
+use Rattle.decimal_text.specs.Exact.{ratio_text}
 use Rattle.osol_grammar.specs.declared.options.Options.{Options}
 use Rattle.osol_grammar.specs.Meaning.{IsBlank, IsOptionsText}
-use Rattle.osol_grammar.specs.Writing.{job_nodes, limit_nodes, options_nodes, options_text}
+use Rattle.osol_grammar.specs.Writing.{job_nodes, time_nodes, limit_nodes, options_nodes, options_text}
 use Rattle.osol_grammar.specs.Back.{ComesBack}
 use Rattle.osol_grammar.proofs.WrittenText.{optimization, text_document, text_not_blank}
 use Rattle.handed_results.specs.declared.handed.Handed.{Handed}
@@ -49,12 +52,18 @@ hands_once bytes o h k (inr text) a b = a.document text.0 text.1.root text.1.doc
 after_optimization : (o : Options) (k : List Event) → left (at InRoot 0 Nothing) (spread (nodes_events (optimization o) k)) ≡ left (at InRoot 0 Nothing) (spread k)
 after_optimization o k = passed_left (group (codes "solverOptions") (limit_nodes o) none) (codes "optimization") InRoot Nothing k
 
-after_job : (job : Option (List ℕ)) (o : Options) (k : List Event) → left (at InRoot 0 Nothing) (spread (nodes_events (job_nodes job (optimization o)) k)) ≡ left (at InRoot 0 Nothing) (spread k)
-after_job None o k = after_optimization o k
-after_job (Some name) o k = passed_left (text_nodes name) (codes "jobID") InGeneral Nothing (Close (codes "general") ∷ nodes_events (optimization o) k) ∙ after_optimization o k
+after_time : (seconds : Option Frac) (more : Nodes) (k : List Event) → left (at InRoot 0 Nothing) (spread (nodes_events (time_nodes seconds more) k)) ≡ left (at InRoot 0 Nothing) (spread (nodes_events more k))
+after_time None more k = refl
+after_time (Some s) more k = passed_left (leaf (codes "maxTime") (ratio_text (ratio s)) none) (codes "job") InRoot Nothing (nodes_events more k)
+
+after_job : (job : Option (List ℕ)) (more : Nodes) (k : List Event) → left (at InRoot 0 Nothing) (spread (nodes_events (job_nodes job more) k)) ≡ left (at InRoot 0 Nothing) (spread (nodes_events more k))
+after_job None more k = refl
+after_job (Some name) more k = passed_left (text_nodes name) (codes "jobID") InGeneral Nothing (Close (codes "general") ∷ nodes_events more k)
 
 nothing_by : (o : Options) → handed_by (bare_root (codes "osol") (options_nodes o)) ≡ Nothing
-nothing_by o = ap (λ (z : Standing). bare z.handed) (after_job o.job o (Close (codes "osol") ∷ []))
+nothing_by o =
+    let k : List Event = Close (codes "osol") ∷ [] in
+    ap (λ (z : Standing). bare z.handed) (after_job o.job (time_nodes o.seconds (optimization o)) k ∙ after_time o.seconds (optimization o) k ∙ after_optimization o k)
 
 pub nothing_written : (o : Options) (h : Handed) → ComesBack o → HandsIn (options_text o) h → h ≡ Nothing
 nothing_written o h back hands = hands.document (text_not_blank o) (bare_root (codes "osol") (options_nodes o)) (text_document o back) ∙ nothing_by o
