@@ -3,4 +3,3 @@ pub mod Acceptance
 pub mod Exclusion
 pub mod OneText
 pub mod OneAnswer
-pub mod ShownClaims

@@ -1,8 +1,3 @@
-use Rattle.std.proofs.Common.{sym, subst}
-use Rattle.std.proofs.lemmas.Result.{err_from_is_err_and}
-use Rattle.std.specs.Result.{IfErr}
-use Rattle.document_checker.specs.Documents.{IsUnshownIn}
-use Rattle.document_checker.proofs.ShownClaims.{shown_in, claims_nothing_in, unread_in, unshown_in}
 use Rattle.document_checker.proofs.documents.shown_claim.Goals as goal
 
 pub check_report-requires : goal.check_report-requires
