@@ -117,7 +117,7 @@ refused_bare P None f words is says = claim_bare reasons.NoClaim words (subst (�
 refused_bare P (Some c) f words (r, refused, is) says = claim_bare r words (subst (λ (g : CheckFault). IsCheckFaultText g words) is says)
 
 unshown_bare : (p : Parts) (text : List ℕ) (f : CheckFault) (words : List ℕ) → IsUnshownIn p text f → IsCheckFaultText f words → IsBare (about_handed words)
-unshown_bare p text f words (inl no) says = result_bare no.fault words (subst (λ (g : CheckFault). IsCheckFaultText g words) no.is says)
+unshown_bare p text f words (inl missing) says = result_bare missing.fault words (subst (λ (g : CheckFault). IsCheckFaultText g words) missing.is says)
 unshown_bare p text f words (inr (inl h)) says = refused_bare (problem p) h.report.claim f words h.refuses says
 unshown_bare p text f words (inr (inr none)) says = absurd (subst (λ (g : CheckFault). IsCheckFaultText g words) none says)
 

@@ -21,7 +21,7 @@ accepted_with : (osil text : List ℕ) (p : Parts) (c : Claim) → IsInstanceTex
 accepted_with osil text p c instance s = record { parts = p; report = s.report; instance_text = instance; report_text = s.report_text; accepts = record { claim = c; stands = s.stands; says = s.says; accepted = s.accepted } }
 
 refused_with : (osil text : List ℕ) (p : Parts) (f : CheckFault) → IsInstanceText osil p → IsUnshownIn p text f → DocsRefuse osil text f
-refused_with osil text p f instance (inl no) = inr (inl (record { parts = p; instance_text = instance; no_report = no }))
+refused_with osil text p f instance (inl missing) = inr (inl (record { parts = p; instance_text = instance; no_report = missing }))
 refused_with osil text p f instance (inr (inl h)) = inr (inr (inl (record { parts = p; report = h.report; instance_text = instance; report_text = h.report_text; refuses = h.refuses })))
 refused_with osil text p f instance (inr (inr none)) = inr (inr (inr none))
 

@@ -1,6 +1,6 @@
 -- The documents of reports.
 use Rattle.std.proofs.Common.{◌≡◌, ◌∙◌, ℕ, ◌<◌, ◌≤◌, inl, inr, Bool, true, false, cond, Option, None, Some, Result, Ok, List, length, arith, refl, ap, sym, subst}
-use Rattle.std.specs.Prelude.{nat_le}
+use Rattle.std.specs.Prelude.{nat_le, not, is_some}
 use Rattle.std.proofs.lemmas.Bool.{leb-true, leb-false}
 use Rattle.document_tags.specs.Texts.{document_limit}
 use Rattle.certificate.specs.declared.causes.Cause.TheVariants as causes
@@ -38,6 +38,11 @@ told_plainly ns r same = same_either (nat_le (length (named_text ns r)) document
 
 told_without : (ns : NameLists) (r : Report) → ns ≡ no_names → told_text ns r ≡ report_text r
 told_without ns r none = told_plainly ns r (ap (λ (ms : NameLists). named_text ms r) none)
+
+-- there is no message
+pub is_silent : (message : Option (List ℕ)) (b : Bool) → is_some message ≡ not b → b ≡ true → message ≡ None
+is_silent None b seen is = refl
+is_silent (Some m) b seen is = let clash : true ≡ false = seen ∙ ap not is in absurd (cc)
 
 -- not too long: it is told, without names and a message
 pub fitted_short : (ns : NameLists) (note : Option (List ℕ)) (r : Report) (job : Option (List ℕ)) (c : Claim) (doc : Document) → ns ≡ no_names → note ≡ None → r ≡ claim_report job c → IsDocumentOf r doc → length doc.text ≤ document_limit → IsFittedDocument ns note job c doc

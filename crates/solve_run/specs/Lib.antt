@@ -10,8 +10,6 @@ pub use Rattle.osrl_writing.specs.Writing
 pub use Rattle.osrl_grammar.specs.Back
 pub use Rattle.cert_checker.specs.Refusals
 pub use Rattle.document_checker.specs.Documents
-pub use Rattle.document_checker.specs.Texts
-pub use Rattle.handed_results.specs.Reading
 pub mod Untils
 pub mod Judging
 pub mod Closings
