@@ -10,7 +10,6 @@ ghost use Rattle.serving.specs.StoredServing.{IsStoredServerRun, ServesOver};
 
 use crate::ending::Ending;
 use crate::lines::{tell_jobs, tell_listening};
-use crate::links::LinkServer;
 use crate::setup::Setup;
 use desk::{Desk, StoredDesk, StoredSeat};
 use disks::Disk;
@@ -20,6 +19,7 @@ use job_solver::{
 };
 use job_table::{Table, first_finish_is_kept, numbers_are_given_once};
 use os_io::{Failed, Listener, Sink};
+use os_server::Conversations;
 use server_threads::{ServeFault, ServeLimits, serve_loop};
 use std::alloc::Global;
 use std::sync::Wait;
@@ -116,12 +116,10 @@ where
     first_finish_is_kept::<SolvedJobs>();
     numbers_are_given_once::<SolvedJobs>();
     shown_documents_are_proved();
-    let service = LinkServer {
-        clock: rt,
-        with: (),
-    };
+    let solver = Solver::new(rt);
+    let service = Conversations(&solver);
     let (mut seat, served) = serve_loop(rt, alloc, &desk, seat, net, &service, setup.limits);
-    work_closing_shift(rt, alloc, &desk, &mut seat, &Solver::new(rt));
+    work_closing_shift(rt, alloc, &desk, &mut seat, &solver);
     let given = desk.close(seat).issued();
     tell_end(output, served, given)
 }
@@ -149,12 +147,10 @@ where
     first_finish_is_kept::<SolvedJobs>();
     numbers_are_given_once::<SolvedJobs>();
     shown_documents_are_proved_from_tables();
-    let service = LinkServer {
-        clock: rt,
-        with: (),
-    };
+    let solver = Solver::new(rt);
+    let service = Conversations(&solver);
     let (mut first, served) = serve_loop(rt, alloc, &desk, first, net, &service, setup.limits);
-    work_closing_shift(rt, alloc, &desk, &mut first, &Solver::new(rt));
+    work_closing_shift(rt, alloc, &desk, &mut first, &solver);
     let (table, journal) = desk.close_stored(first);
     let given = table.issued();
     let ending = tell_end(output, served, given);
