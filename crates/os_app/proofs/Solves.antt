@@ -60,6 +60,7 @@ module _ (a osil osol : List ℕ) (shows : Shows a osil) where
       by : (g.claim ≡ Unsure Memory None) ⊎ IsBestOfSearch a osol g.claim → (g.claim ≡ Unsure Memory None) ⊎ IsBestOfSearch osil osol g.claim
       by (inl unsure) = inl unsure
       by (inr b) = inr (record { given = given_file b.given; moment = b.moment; comes = b.comes; tells = b.tells })
+
       noted : IsNoteOfJob a osol g.note → IsNoteOfJob osil osol g.note
       noted (inl none) = inl none
       noted (inr (given, hands)) = inr (given_file given, hands)

@@ -74,7 +74,9 @@ fn run_named<W: Watch, T: Clock>(
 {
     match judge_handed(alloc, instance, osol) {
         Ok(Handing::Taken(claim)) => fitted(alloc, names, None, options.job, claim),
-        Ok(Handing::Passed(note)) => run_instance(alloc, instance, names, note, options, clock, watch),
+        Ok(Handing::Passed(note)) => run_instance(
+            alloc, instance, names, note, options, clock, watch,
+        ),
         Err(_) => memory_document(alloc, options.job),
     }
 }
