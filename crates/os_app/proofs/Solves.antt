@@ -10,7 +10,7 @@ use Rattle.osrl_writing.specs.declared.report.Report.{Report}
 use Rattle.osrl_writing.specs.Labels.{no_names}
 use Rattle.instance_names.specs.Reading.{GivesNames}
 use Rattle.solve_run.specs.declared.document.Document.{Document}
-use Rattle.solve_run.specs.JobAnswers.{AreJobTexts, IsBestOfSearch, AnswersJob, AskForNames, TellsReport, no_options, no_instance, solved, gave_up}
+use Rattle.solve_run.specs.JobAnswers.{AreJobTexts, IsBestOfSearch, IsNoteOfJob, AnswersJob, AskForNames, TellsReport, no_options, no_instance, handed, solved, gave_up}
 use Rattle.command_answers.specs.FileNames.{ReadsNamed}
 use Rattle.command_answers.proofs.Outputs.{held_by}
 use Rattle.os_app.specs.Safe.{IsSafeText, HasNoSafeText, TakesOptions}
@@ -40,6 +40,7 @@ module _ (a osil osol : List ℕ) (shows : Shows a osil) where
     says = h.says;
     is = h.is;
   })
+  answers_file asked r (handed h) = handed (record { given = given_file h.given; claim = h.claim; handed = h.handed; told = h.told; fitted = h.fitted; is = h.is })
   answers_file asked r (solved stop looks timed may s) = solved stop looks timed may (record {
     given = given_file s.given;
     turns = s.turns;
@@ -50,13 +51,19 @@ module _ (a osil osol : List ℕ) (shows : Shows a osil) where
     told = s.told;
     closed = s.closed;
     numbers = s.numbers;
+    note = s.note;
+    handed = s.handed;
     is = s.is;
   })
-  answers_file asked r (gave_up g) = gave_up (record { job = g.job; whose = g.whose; claim = g.claim; claims = by g.claims; is = g.is })
+  answers_file asked r (gave_up g) = gave_up (record { job = g.job; whose = g.whose; claim = g.claim; claims = by g.claims; note = g.note; noting = noted g.noting; is = g.is })
     where
       by : (g.claim ≡ Unsure Memory None) ⊎ IsBestOfSearch a osol g.claim → (g.claim ≡ Unsure Memory None) ⊎ IsBestOfSearch osil osol g.claim
       by (inl unsure) = inl unsure
       by (inr b) = inr (record { given = given_file b.given; moment = b.moment; comes = b.comes; tells = b.tells })
+
+      noted : IsNoteOfJob a osol g.note → IsNoteOfJob osil osol g.note
+      noted (inl none) = inl none
+      noted (inr (given, hands)) = inr (given_file given, hands)
 
   -- with its names
   tells_file : (r : Report) (text : List ℕ) → TellsReport a osol r text → TellsReport osil osol r text

@@ -37,8 +37,12 @@ use Rattle.osrl_writing.specs.Writing.{told_text}
 use Rattle.certificate.specs.GivenUp.{given_up}
 use Rattle.solve_run.specs.Judging.{checked, wide_check}
 use Rattle.solve_run.specs.RowForms.{claim_of_rows, IsFormed}
-use Rattle.solve_run.specs.Closings.{IsToldOf, IsFitted}
-use Rattle.solve_run.specs.JobAnswers.{AnswersJob, IsBestOfSearch, Solved, no_options, no_instance, solved, gave_up}
+use Rattle.solve_run.specs.Closings.{claim_report, IsToldOf, IsFitted}
+use Rattle.solve_run.specs.JobAnswers.{AnswersJob, IsBestOfSearch, TakesHanded, Solved, no_options, no_instance, handed, solved, gave_up}
+use Rattle.solve_run.proofs.Texts.{noted_claim}
+use Rattle.handed_results.specs.declared.handed.Handed.{Handed}
+use Rattle.handed_results.specs.declared.handed.Handed.TheVariants.{Nothing, Once}
+use Rattle.handed_results.specs.Reading.{HandsIn}
 use Rattle.solve_run.specs.Untils.{job_terms, left, renamed}
 use Rattle.no_cycles.specs.Beginning.{BeginsFeasible}
 use Rattle.no_cycles.specs.Limit.{safe_limit}
@@ -166,6 +170,7 @@ pub record Laws : Type 0 where
   pub once : (bytes : List ℕ) (p q : Parts) → IsInstanceText bytes p → IsInstanceText bytes q → p ≡ q
   pub back : (o : Options) (r : Result Options OsolFault) → ComesBack o → IfOk r (IsOptionsText (options_text o)) → IfErr r (DecodeFails (options_text o)) → r ≢ Err options_faults.Memory → r ≡ Ok o
   pub written : (bytes : List ℕ) (o : Options) → IsOptionsText bytes o → ComesBack o
+  pub nothing : (o : Options) (h : Handed) → ComesBack o → HandsIn (options_text o) h → h ≡ Nothing
   pub read_options : (bytes : List ℕ) (o : Options) (f : OsolFault) → IsOptionsText bytes o → DecodeFails bytes f → f ≡ options_faults.Memory
   pub read_instance : (bytes : List ℕ) (p : Parts) (f : OsilFault) → IsInstanceText bytes p → instances.DecodeFails bytes f → f ≡ instance_faults.Memory
 
@@ -185,11 +190,16 @@ alone_is : (p : Parts) → length p.goals ≡ 1 → problem p ≡ alone (program
 alone_is p one = ap (λ (gs : List Goal). let P : Problem = record { program = program p; later = gs } in P) (none_later (map goal p.goals) (length-map p.goals goal ∙ one))
 
 module _ (laws : Laws) (osil osol taken : List ℕ) (p : Parts) (text : IsInstanceText osil p) (single : length p.goals ≡ 1) (plain : IsPlain (program p)) (ranges : HaveOneRange (program p)) (feasible : BeginsFeasible (program p)) (few : length p.vars + length p.rows ≤ 13) where
-  -- the limit of the options that are taken
+  -- the options that are taken, which can be written
+  taken_back : (s : IsSafeText osil osol taken) → ComesBack (record s.options { turns = s.limit })
+  taken_back s =
+      let limit = limit_is (length s.parts.vars) (length s.parts.rows) s.limit s.enough in
+      with_limit s.options s.limit _ (laws.written osol s.options s.said) limit.1 limit.0
+
+  -- their limit
   turns_are : (o : Options) → IsOptionsText taken o → (s : IsSafeText osil osol taken) → o.turns ≡ s.limit
   turns_are o said s =
-      let limit = limit_is (length s.parts.vars) (length s.parts.rows) s.limit s.enough in
-      let back = laws.back (record s.options { turns = s.limit }) (Ok o) (with_limit s.options s.limit _ (laws.written osol s.options s.said) limit.1 limit.0) (subst (λ (t : List ℕ). IsOptionsText t o) s.is said) tt (ok_or_not o options_faults.Memory) in
+      let back = laws.back (record s.options { turns = s.limit }) (Ok o) (taken_back s) (subst (λ (t : List ℕ). IsOptionsText t o) s.is said) tt (ok_or_not o options_faults.Memory) in
       ap (λ (x : Options). x.turns) (same_ok o (record s.options { turns = s.limit }) back)
 
   -- where options and an instance are read, there is such a text
@@ -218,13 +228,22 @@ module _ (laws : Laws) (osil osol taken : List ℕ) (p : Parts) (text : IsInstan
       let found : is_out_of_turns s.outcome ≡ false =
       laws.within (program s.given.parts) (job_terms s.given.options stop) s.outcome _ its.limit (laws.numbers s.given.parts) (subst (λ (x : Parts). IsPlain (program x)) same plain) (subst (λ (x : Parts). HaveOneRange (program x)) same ranges) (subst (λ (x : Parts). BeginsFeasible (program x)) same feasible) enough (omega (arith, turns))
       (subst (λ (P : Problem). IsSearchAnswer P (job_terms s.given.options stop) s.outcome (record { turns = s.turns; looks = looks })) (alone_is s.given.parts (subst (λ (x : Parts). length x.goals ≡ 1) same single)) (searched s.ends)) in
-      ap (λ (x : Report). says_turn_limit x.claim) s.is ∙ closed_is s.given.parts s.given.options.job s.given.options.form s.turns s.found s.told s.closed (told_turned s.found (renamed timed s.outcome) s.tells ∙ renamed_within timed s.outcome found)
+      ap (λ (x : Report). says_turn_limit x.claim) s.is ∙ ap says_turn_limit (noted_claim s.note (claim_report s.given.options.job s.told)) ∙ closed_is s.given.parts s.given.options.job s.given.options.form s.turns s.found s.told s.closed (told_turned s.found (renamed timed s.outcome) s.tells ∙ renamed_within timed s.outcome found)
+
+  -- no result is handed in
+  handed_within : (r : Report) → TakesOptions true osil osol taken → TakesHanded osil taken r → says_turn_limit r.claim ≡ false
+  handed_within r takes h =
+      let s = is_safe h.given.options h.given.options_text takes in
+      let none = laws.nothing (record s.options { turns = s.limit }) h.handed.handed (taken_back s) (subst (λ (t : List ℕ). HandsIn t h.handed.handed) s.is h.handed.hands) in
+      let clash : Nothing ≡ Once h.handed.taken.text = sym none ∙ h.handed.taken.one in
+      absurd (cc)
 
   pub answers_within : (r : Report) → TakesOptions true osil osol taken → AnswersJob osil taken false r → says_turn_limit r.claim ≡ false
   answers_within r takes (no_options h) = ap (λ (x : Report). says_turn_limit x.claim) h.is
   answers_within r takes (no_instance h) = ap (λ (x : Report). says_turn_limit x.claim) h.is
+  answers_within r takes (handed h) = handed_within r takes h
   answers_within r takes (solved stop looks timed may s) = solved_within stop timed looks r takes s
-  answers_within r takes (gave_up g) = ap (λ (x : Report). says_turn_limit x.claim) g.is ∙ gave_up_is osil taken g.claim g.claims
+  answers_within r takes (gave_up g) = ap (λ (x : Report). says_turn_limit x.claim) g.is ∙ ap says_turn_limit (noted_claim g.note (claim_report g.job g.claim)) ∙ gave_up_is osil taken g.claim g.claims
 
 -- ---- a run
 

@@ -10,6 +10,7 @@ ghost use Rattle.command_line.specs.Words.{IsSolve};
 ghost use Rattle.os_app.specs.Runs.{ProgramRun, Runs, WritesWithinTurns, stores_run};
 
 use disks::Stores;
+use handed_results::written_options_hand_in_nothing;
 use instance::programs_have_numbers;
 use no_cycles::safe_limits_are_enough;
 use osil_grammar::{documents_are_refused_in_one_way, documents_mean_one_instance};
@@ -26,5 +27,6 @@ pub fn safe_solves_stay_within_turns<K: Stores>()
     documents_are_refused_in_one_way();
     comes_back();
     read_options_come_back();
+    written_options_hand_in_nothing();
     options_are_not_refused();
 }

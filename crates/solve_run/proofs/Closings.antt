@@ -31,7 +31,7 @@ checked_back : (c : Claim) (turns : ℕ) (width : Option ℕ) → turns < 2 ^ 64
 checked_back c turns None few node h = h
 checked_back c turns (Some n) few node h = given_back c (wide_check n turns) (node, few) h
 
-fitted_back : (job : Option (List ℕ)) (c told : Claim) → IsFitted job c told → ClaimComesBack (Some c) → ClaimComesBack (Some told)
+pub fitted_back : (job : Option (List ℕ)) (c told : Claim) → IsFitted job c told → ClaimComesBack (Some c) → ClaimComesBack (Some told)
 fitted_back job c told (inl (short, same)) h = subst (λ (d : Claim). ClaimComesBack (Some d)) (sym same) h
 fitted_back job c told (inr (long, same)) h = subst (λ (d : Claim). ClaimComesBack (Some d)) (sym same) (given_back c causes.Length tt h)
 
@@ -52,13 +52,13 @@ checked_few c turns None few = few
 checked_few c turns (Some n) few = given_few c (wide_check n turns)
 
 -- a claim that is shown, of few rounds, checked, formed and fitted is told
-pub told : (p : Parts) (ns : NameLists) (job : Option (List ℕ)) (form turns : ℕ) (found : Claim) (width : Option ℕ) (formed : Claim) (doc : Document)
+pub told : (p : Parts) (ns : NameLists) (note job : Option (List ℕ)) (form turns : ℕ) (found : Claim) (width : Option ℕ) (formed : Claim) (doc : Document)
     → IsValid p → IsShownClaim p found → HasFewRounds found → HasCauses found → turns < 2 ^ 64 → IfSome width (λ n. n < 2 ^ 32)
-    → IsJudged p found width → IsFormed p form (checked found turns width) formed → IsFittedDocument ns job formed doc → IsClaimTold p ns job form turns found doc
-told p ns job form turns found width formed doc valid shown fewer causes few node judged forms (inl (c, fitted, is)) = inl (record {
+    → IsJudged p found width → IsFormed p form (checked found turns width) formed → IsFittedDocument ns note job formed doc → IsClaimTold p ns note job form turns found doc
+told p ns note job form turns found width formed doc valid shown fewer causes few node judged forms (inl (c, fitted, is)) = inl (record {
   told = c;
   closed = record { width = width; judged = judged; formed = formed; forms = forms; fitted = fitted };
   numbers = fitted_back job formed c fitted (formed_back p form (checked found turns width) formed forms (checked_back found turns width few node (shown_back p found valid shown fewer causes)));
   is = is;
 })
-told p ns job form turns found width formed doc valid shown fewer causes few node judged forms (inr memory) = inr memory
+told p ns note job form turns found width formed doc valid shown fewer causes few node judged forms (inr memory) = inr memory

@@ -37,11 +37,12 @@ use Rattle.osrl_writing.specs.declared.report.Report.{Report}
 use Rattle.solve_run.specs.declared.document.Document.{Document}
 use Rattle.solve_run.specs.Judging.{IsShownClaim, AreFewRounds, HasFewRounds, IsFinal, IsJudged, checked}
 use Rattle.solve_run.specs.RowForms.{IsFormed}
-use Rattle.solve_run.specs.Closings.{claim_report, error_report, IsShort, IsFitted, IsToldOf}
+use Rattle.solve_run.specs.Closings.{claim_report, error_report, noted, IsShort, IsFitted, IsToldOf}
+use Rattle.solve_run.specs.Handing.{HandsInClaim, HandsInNone}
 use Rattle.solve_run.specs.Untils.{job_terms, stop_by, looks_by, is_stopped_by, MayTime, left, renamed, FindsUntil}
 use Rattle.solve_run.specs.JobAnswers.{AreJobTexts, IsJobOf, MayStop, MayEnd, AnswersJob, Right}
 use Rattle.solve_run.specs.JobAnswers as right
-use Rattle.solve_run.specs.Runs.{MayTimeOut, Reports, no_options, no_instance, solved, gave_up, TellsOutcome, TellsText, TellsDocument, IsRight, Ran, ClosesClaim, IsClaimTold, IsMemoryDocument, IsErrorDocument, AreDueNames}
+use Rattle.solve_run.specs.Runs.{MayTimeOut, Reports, no_options, no_instance, handed, solved, gave_up, TellsOutcome, TellsText, TellsDocument, IsRight, Ran, ClosesClaim, IsClaimTold, IsFittedDocument, IsMemoryDocument, IsErrorDocument, AreDueNames}
 use Rattle.solve_run.proofs.Lengths.{IsShortName, best_short, unsure_short}
 use Rattle.solve_run.proofs.Names.{short_name}
 use Rattle.solve_run.proofs.ToldNames.{nameless, named_answer}
@@ -87,7 +88,7 @@ memory_killed (Some f) = refl
 abbrev clock_after : (turns looks : ℕ) → Clock
 clock_after turns looks = record { turns = turns; looks = looks }
 
-module _ (osil osol : List ℕ) (o : Options) (p : Parts) (valid : IsValid p) (options_text : IsOptionsText osol o) (name : IsNameOrNone o.job) (instance_text : IsInstanceText osil p) (ns : NameLists) (due : AreDueNames osil o ns) where
+module _ (osil osol : List ℕ) (o : Options) (p : Parts) (valid : IsValid p) (options_text : IsOptionsText osol o) (name : IsNameOrNone o.job) (instance_text : IsInstanceText osil p) (ns : NameLists) (due : AreDueNames osil o ns) (note : Option (List ℕ)) (none_handed : HandsInNone osol p note) where
   abbrev given : AreJobTexts osil osol
   given = record { options = o; options_text = options_text; parts = p; valid = valid; instance_text = instance_text }
 
@@ -98,7 +99,7 @@ module _ (osil osol : List ℕ) (o : Options) (p : Parts) (valid : IsValid p) (o
 
   module _ (found : Claim) (turns n : ℕ) (doc : Document) (killed : Bool) where
     -- memory was wanting in the search: the claim of its moment is told
-    wanted : (timed : Option Frac) (oc : Outcome) (m : SearchMoment) → ClaimTells found (renamed timed oc) → is_killed oc ≡ is_stopped_by killed timed → IsShown (problem p) oc → ComesInSearch (problem p) (job_terms o (stop_by n killed timed)) m → early m.best Memory ≡ oc → ClosesClaim p ns o.job o.form turns found doc → TellsOutcome osil osol n killed doc
+    wanted : (timed : Option Frac) (oc : Outcome) (m : SearchMoment) → ClaimTells found (renamed timed oc) → is_killed oc ≡ is_stopped_by killed timed → IsShown (problem p) oc → ComesInSearch (problem p) (job_terms o (stop_by n killed timed)) m → early m.best Memory ≡ oc → ClosesClaim p ns note o.job o.form turns found doc → TellsOutcome osil osol n killed doc
     wanted (Some s) oc m tells stopped shown comes is closes = let went : true ≡ false = sym stopped ∙ ap is_killed (sym is) ∙ memory_killed m.best in absurd (cc)
     wanted None oc m tells stopped shown comes is closes =
         let early_told : ClaimTells found (early m.best Memory) = subst (ClaimTells found) (sym is) tells in
@@ -106,7 +107,7 @@ module _ (osil osol : List ℕ) (o : Options) (p : Parts) (valid : IsValid p) (o
         let same = kept p o.job o.form turns found closes.told other (claim_short p o.job found valid (short_name o.job name) (record { outcome = oc; tells = tells; shown = shown }) other) closes.closed in
         let went : killed ≡ false = sym stopped ∙ ap is_killed (sym is) ∙ memory_killed m.best in
         record {
-          report = claim_report o.job closes.told;
+          report = noted note (claim_report o.job closes.told);
           reports = gave_up (record {
             job = o.job;
             whose = inr (o, options_text, refl);
@@ -117,15 +118,17 @@ module _ (osil osol : List ℕ) (o : Options) (p : Parts) (valid : IsValid p) (o
               comes = subst (λ (k : Bool). ComesInSearch (problem p) (job_terms o (stop_after n k)) m) went comes;
               tells = subst (λ (c : Claim). ClaimTells c (early m.best Memory)) (sym same) early_told;
             });
+            note = note;
+            noting = inr (given, none_handed);
             is = refl;
           });
-          is = named_answer osil osol o options_text p instance_text ns due (claim_report o.job closes.told) doc closes.is;
+          is = named_answer osil osol o options_text p instance_text ns due (noted note (claim_report o.job closes.told)) doc closes.is;
         }
 
     module _ (timed : Option Frac) (may : MayTime o killed timed) where
-      ended : (oc : Outcome) → ClaimTells found (renamed timed oc) → Search (problem p) (job_terms o (stop_by n killed timed)) oc (clock_after turns (looks_by n killed timed)) → ClosesClaim p ns o.job o.form turns found doc → TellsOutcome osil osol n killed doc
+      ended : (oc : Outcome) → ClaimTells found (renamed timed oc) → Search (problem p) (job_terms o (stop_by n killed timed)) oc (clock_after turns (looks_by n killed timed)) → ClosesClaim p ns note o.job o.form turns found doc → TellsOutcome osil osol n killed doc
       ended oc tells ends closes = record {
-        report = claim_report o.job closes.told;
+        report = noted note (claim_report o.job closes.told);
         reports = solved timed (may_out killed timed may) (record {
           given = given;
           turns = turns;
@@ -136,12 +139,14 @@ module _ (osil osol : List ℕ) (o : Options) (p : Parts) (valid : IsValid p) (o
           told = closes.told;
           closed = closes.closed;
           numbers = closes.numbers;
+          note = note;
+          handed = none_handed;
           is = refl;
         });
-        is = named_answer osil osol o options_text p instance_text ns due (claim_report o.job closes.told) doc closes.is;
+        is = named_answer osil osol o options_text p instance_text ns due (noted note (claim_report o.job closes.told)) doc closes.is;
       }
 
-      answered : (oc of : Outcome) (d : Clock) → of ≡ oc → d ≡ clock_after turns (looks_by n killed timed) → ClaimTells found (renamed timed oc) → is_killed oc ≡ is_stopped_by killed timed → IsShown (problem p) oc → IsSearchAnswer (problem p) (job_terms o (stop_by n killed timed)) of d → ClosesClaim p ns o.job o.form turns found doc → TellsOutcome osil osol n killed doc
+      answered : (oc of : Outcome) (d : Clock) → of ≡ oc → d ≡ clock_after turns (looks_by n killed timed) → ClaimTells found (renamed timed oc) → is_killed oc ≡ is_stopped_by killed timed → IsShown (problem p) oc → IsSearchAnswer (problem p) (job_terms o (stop_by n killed timed)) of d → ClosesClaim p ns note o.job o.form turns found doc → TellsOutcome osil osol n killed doc
       answered oc of d e f tells stopped shown (searched s) closes =
           ended oc tells (subst (λ (x : Outcome). Search (problem p) (job_terms o (stop_by n killed timed)) x (clock_after turns (looks_by n killed timed))) e
           (subst (λ (x : Clock). Search (problem p) (job_terms o (stop_by n killed timed)) of x) f s)) closes
@@ -152,7 +157,7 @@ module _ (osil osol : List ℕ) (o : Options) (p : Parts) (valid : IsValid p) (o
 untold : (osil osol : List ℕ) (n : ℕ) (killed : Bool) (job : Option (List ℕ)) (doc : Document) → IsJobOf osol job → IsMemoryDocument job doc → TellsOutcome osil osol n killed doc
 untold osil osol n killed job doc whose is = record {
   report = claim_report job (Has.Unsure Memory None);
-  reports = gave_up (record { job = job; whose = whose; claim = Has.Unsure Memory None; claims = inl refl; is = refl });
+  reports = gave_up (record { job = job; whose = whose; claim = Has.Unsure Memory None; claims = inl refl; note = None; noting = inl refl; is = refl });
   is = nameless osil osol (claim_report job (Has.Unsure Memory None)) doc (λ ns. refl) is;
 }
 
@@ -162,20 +167,20 @@ AreFewOf n oc = All (λ (c : Certificate). length c.rounds ≤ n) (said_certific
 
 -- the run of an instance
 module _ (p : Parts) (o : Options) (Came : List Bool → Type 0) (found : Claim) (turns : ℕ) (f : FindsUntil p o Came found turns) where
-  pub ran : {E : Type 0} (osil osol : List ℕ) (ns : NameLists) (result : Result Document E)
-      → IsValid p → IsNameOrNone o.job → IsOptionsText osol o → IsInstanceText osil p → AreDueNames osil o ns → IsShown (problem p) f.outcome
-      → IfOk result (IsClaimTold p ns o.job o.form turns found) → Ran Came osil osol (TellsDocument osil osol result)
-  ran {E} osil osol ns result valid name options_text instance_text due shown told =
+  pub ran : {E : Type 0} (osil osol : List ℕ) (ns : NameLists) (note : Option (List ℕ)) (result : Result Document E)
+      → IsValid p → IsNameOrNone o.job → IsOptionsText osol o → IsInstanceText osil p → AreDueNames osil o ns → HandsInNone osol p note → IsShown (problem p) f.outcome
+      → IfOk result (IsClaimTold p ns note o.job o.form turns found) → Ran Came osil osol (TellsDocument osil osol result)
+  ran {E} osil osol ns note result valid name options_text instance_text due none_handed shown told =
       record {
         went_on = f.went_on;
         killed = f.killed;
         came = f.came;
-        looks = inr (record { given = given osil osol o p valid options_text name instance_text ns due; turns = turns; outcome = f.outcome; timed = f.timed; may = f.may; answers = f.answer });
-        tells = IfOk-weaker result (IsClaimTold p ns o.job o.form turns found) (TellsOutcome osil osol f.went_on f.killed) by told;
+        looks = inr (record { given = given osil osol o p valid options_text name instance_text ns due note none_handed; turns = turns; outcome = f.outcome; timed = f.timed; may = f.may; answers = f.answer });
+        tells = IfOk-weaker result (IsClaimTold p ns note o.job o.form turns found) (TellsOutcome osil osol f.went_on f.killed) by told;
       }
     where
-      by : (doc : Document) → IsClaimTold p ns o.job o.form turns found doc → TellsOutcome osil osol f.went_on f.killed doc
-      by doc (inl closes) = answered osil osol o p valid options_text name instance_text ns due found turns f.went_on doc f.killed f.timed f.may f.outcome f.outcome (clock_after turns (looks_by f.went_on f.killed f.timed)) refl refl f.tells f.stopped shown f.answer closes
+      by : (doc : Document) → IsClaimTold p ns note o.job o.form turns found doc → TellsOutcome osil osol f.went_on f.killed doc
+      by doc (inl closes) = answered osil osol o p valid options_text name instance_text ns due note none_handed found turns f.went_on doc f.killed f.timed f.may f.outcome f.outcome (clock_after turns (looks_by f.went_on f.killed f.timed)) refl refl f.tells f.stopped shown f.answer closes
       by doc (inr memory) = untold osil osol f.went_on f.killed o.job doc (inr (o, options_text, refl)) memory
 
   -- what was found is shown
@@ -242,6 +247,19 @@ quiet_instance {E} Came osil osol o fault message result came options_text fails
     }
     by doc (inr memory) = untold osil osol 0 false o.job doc (inr (o, options_text, refl)) memory
 
+-- the claim of a result that is handed in is told
+pub quiet_handed : {E : Type 0} (Came : List Bool → Type 0) (osil osol : List ℕ) (o : Options) (p : Parts) (ns : NameLists) (c : Claim) (result : Result Document E) → Came [] → IsValid p → IsOptionsText osol o → IsInstanceText osil p → AreDueNames osil o ns → HandsInClaim osol p c → IfOk result (IsFittedDocument ns None o.job c) → Ran Came osil osol (TellsDocument osil osol result)
+quiet_handed {E} Came osil osol o p ns c result came valid options_text instance_text due hands is =
+    quiet Came osil osol result came (IfOk-weaker result (IsFittedDocument ns None o.job c) (TellsOutcome osil osol 0 false) by is)
+  where
+    by : (doc : Document) → IsFittedDocument ns None o.job c doc → TellsOutcome osil osol 0 false doc
+    by doc (inl (told, fitted, written)) = record {
+      report = claim_report o.job told;
+      reports = handed (record { given = record { options = o; options_text = options_text; parts = p; valid = valid; instance_text = instance_text }; claim = c; handed = hands; told = told; fitted = fitted; is = refl });
+      is = named_answer osil osol o options_text p instance_text ns due (claim_report o.job told) doc written;
+    }
+    by doc (inr memory) = untold osil osol 0 false o.job doc (inr (o, options_text, refl)) memory
+
 -- ---- the verdict
 
 one_stop : (n : ℕ) → stops_of (went_on n ++ true ∷ []) ≡ 1
@@ -254,6 +272,7 @@ Asked killed asked = killed ≡ true → asked ≡ true
 answers_right : (osil osol : List ℕ) (n : ℕ) (killed asked : Bool) (r : Report) → Asked killed asked → Reports osil osol n killed r → AnswersJob osil osol asked r
 answers_right osil osol n killed asked r only (no_options h) = right.no_options h
 answers_right osil osol n killed asked r only (no_instance h) = right.no_instance h
+answers_right osil osol n killed asked r only (handed h) = right.handed h
 answers_right osil osol n killed asked r only (solved timed may h) = right.solved (stop_by n killed timed) (looks_by n killed timed) timed (ends timed may) h
   where
     stops : (k : Bool) → Asked k asked → MayStop asked (stop_after n k) (looks_after 0 n k)

@@ -22,7 +22,8 @@ use Rattle.osrl_writing.specs.Labels.{no_names}
 use Rattle.osrl_writing.specs.Writing.{told_text}
 use Rattle.instance_names.specs.Reading.{GivesNames}
 use Rattle.osrl_grammar.specs.Back.{ClaimComesBack}
-use Rattle.solve_run.specs.Closings.{error_report, claim_report, IsToldOf}
+use Rattle.solve_run.specs.Closings.{error_report, claim_report, noted, IsFitted, IsToldOf}
+use Rattle.solve_run.specs.Handing.{HandsInClaim, HandsInNone}
 use Rattle.solve_run.specs.Untils.{job_terms, renamed}
 
 -- the options are refused: the report is an error's of no job, and says why
@@ -51,7 +52,16 @@ pub record AreJobTexts (osil osol : List ℕ) : Type 0 where
   pub valid : IsValid parts
   pub instance_text : IsInstanceText osil parts
 
--- the search of the instance within the options' limits ends after so many looks, of which the given one stops it, for a time that is over, or not, and the report tells what it found, with that time as its cause; the claim's numbers are those of their types
+-- the options hand in a result whose claim is shown of the instance: the report tells it, or what is told of it where that would be too long, and there is no search
+pub record TakesHanded (osil osol : List ℕ) (r : Report) : Type 0 where
+  pub given : AreJobTexts osil osol
+  pub claim : Claim
+  pub handed : HandsInClaim osol given.parts claim
+  pub told : Claim
+  pub fitted : IsFitted given.options.job claim told
+  pub is : r ≡ claim_report given.options.job told
+
+-- no such result is handed in, the search of the instance within the options' limits ends after so many looks, of which the given one stops it, for a time that is over, or not, and the report tells what it found, with that time as its cause, and with the message about what is handed in; the claim's numbers are those of their types
 pub record Solved (osil osol : List ℕ) (stop : Option ℕ) (timed : Option Frac) (looks : ℕ) (r : Report) : Type 0 where
   pub given : AreJobTexts osil osol
   pub turns : ℕ
@@ -62,7 +72,9 @@ pub record Solved (osil osol : List ℕ) (stop : Option ℕ) (timed : Option Fra
   pub told : Claim
   pub closed : IsToldOf given.parts given.options.job given.options.form turns found told
   pub numbers : ClaimComesBack (Some told)
-  pub is : r ≡ claim_report given.options.job told
+  pub note : Option (List ℕ)
+  pub handed : HandsInNone osol given.parts note
+  pub is : r ≡ noted note (claim_report given.options.job told)
 
 -- a job's name that is told: none, or that of the options
 abbrev pub IsJobOf : List ℕ → Option (List ℕ) → Type 0
@@ -75,13 +87,19 @@ pub record IsBestOfSearch (osil osol : List ℕ) (c : Claim) : Type 0 where
   pub comes : ComesInSearch (problem given.parts) (job_terms given.options None) moment
   pub tells : ClaimTells c (early moment.best Memory)
 
+-- no message, or that about what the options hand in
+abbrev pub IsNoteOfJob : (osil osol : List ℕ) → Option (List ℕ) → Type 0
+IsNoteOfJob osil osol note = (note ≡ None) ⊎ ((g : AreJobTexts osil osol) × HandsInNone osol g.parts note)
+
 -- memory was wanting: nothing is claimed, or the best point of some moment of the search
 pub record GaveUp (osil osol : List ℕ) (r : Report) : Type 0 where
   pub job : Option (List ℕ)
   pub whose : IsJobOf osol job
   pub claim : Claim
   pub claims : (claim ≡ Unsure Memory None) ⊎ IsBestOfSearch osil osol claim
-  pub is : r ≡ claim_report job claim
+  pub note : Option (List ℕ)
+  pub noting : IsNoteOfJob osil osol note
+  pub is : r ≡ noted note (claim_report job claim)
 
 -- no look stops the search, or, only where the job was asked to stop, its last one
 abbrev pub MayStop : (asked : Bool) → (stop : Option ℕ) → (looks : ℕ) → Type 0
@@ -100,6 +118,7 @@ MayEnd osol asked stop looks (Some s) = SaysSeconds osol s × (stop ≡ Some loo
 pub data AnswersJob (osil osol : List ℕ) (asked : Bool) (r : Report) : Type 0 where
   no_options : RefusesOptions osol r → AnswersJob osil osol asked r
   no_instance : RefusesInstance osil osol r → AnswersJob osil osol asked r
+  handed : TakesHanded osil osol r → AnswersJob osil osol asked r
   solved : (stop : Option ℕ) (looks : ℕ) (timed : Option Frac) → MayEnd osol asked stop looks timed → Solved osil osol stop timed looks r → AnswersJob osil osol asked r
   gave_up : GaveUp osil osol r → AnswersJob osil osol asked r
 

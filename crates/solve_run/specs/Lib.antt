@@ -14,6 +14,7 @@ pub mod Untils
 pub mod Judging
 pub mod RowForms
 pub mod Closings
+pub mod Handing
 pub mod JobAnswers
 pub mod Runs
 pub mod Grounds

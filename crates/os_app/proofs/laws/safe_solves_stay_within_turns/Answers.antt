@@ -9,6 +9,7 @@ returns g c = λ status run stores stores_after osil_name options_name osil p se
       once = c.documents_mean_one_instance.ensures.text;
       back = c.comes_back.ensures;
       written = c.read_options_come_back.ensures;
+      nothing = c.written_options_hand_in_nothing.ensures;
       read_options = c.options_are_not_refused.ensures.text;
       read_instance = c.documents_are_refused_in_one_way.ensures.no_fault;
     }) status run osil_name options_name osil p seconds solve holds text single plain ranges feasible few g.K.Store.Disk _ runs.ends

@@ -9,6 +9,6 @@ pub found_document-requires-clause-few : goal.found_document-requires-clause-few
 found_document-requires-clause-few g c = few_by _ _ _ _ _ c.find_until-claim.ensures c.requires.rounds
 
 pub returns : goal.returns
-returns g c = λ osil osol options_text instance_text due.
-    ran _ _ _ _ _ c.find_until-claim.ensures osil osol c.args.names.now c.found_document.result c.requires.valid (c.options_have_names.ensures osol c.args.options options_text) options_text instance_text due
+returns g c = λ osil osol options_text instance_text due none_handed.
+    ran _ _ _ _ _ c.find_until-claim.ensures osil osol c.args.names.now c.args.note c.found_document.result c.requires.valid (c.options_have_names.ensures osol c.args.options options_text) options_text instance_text due none_handed
     (shown_by _ _ _ _ _ c.find_until-claim.ensures c.answers_are_shown.ensures c.problems_have_numbers.ensures.numbers) c.found_document.ensures
