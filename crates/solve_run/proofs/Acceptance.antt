@@ -31,7 +31,6 @@ use Rattle.solve_run.specs.Judging.{IsShownClaim, HasFewRounds, IsFinal, IsJudge
 use Rattle.solve_run.specs.RowForms.{claim_of_rows, IsFormed}
 use Rattle.solve_run.proofs.RowForms.{rows_given, rows_final}
 use Rattle.solve_run.specs.Closings.{error_report, claim_report, with_message, noted, IsShort, IsFitted, IsToldOf}
-use Rattle.solve_run.specs.Handing.{HandsInNone}
 use Rattle.solve_run.specs.JobAnswers.{TakesHanded, Solved, IsNoteOfJob, IsJobOf, IsBestOfSearch, AnswersJob, no_options, no_instance, handed, solved, gave_up}
 use Rattle.solve_run.specs.Untils.{job_terms, renamed}
 use Rattle.solve_run.proofs.Lengths.{IsShortName, unsure_short, error_short}
