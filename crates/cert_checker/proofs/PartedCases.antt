@@ -1,8 +1,8 @@
 -- The cases before a walk whose columns behind the variables are rows.
-use Rattle.std.proofs.Common.{◌≡◌, ℕ, zero, suc, ◌+◌, ◌-◌, ◌<◌, ◌≤◌, ℤ, pos, ◌+ℤ◌, IfSome, inl, inr, List, [], ◌∷◌, length, map, take, drop, get_or, slice_set, arith, refl, sym, ◌∙◌, ap, ap₂, subst}
+use Rattle.std.proofs.Common.{◌≡◌, ℕ, zero, suc, ◌+◌, ◌-◌, ◌<◌, ◌≤◌, ℤ, pos, ◌+ℤ◌, inl, inr, List, [], ◌∷◌, length, map, take, drop, get_or, slice_set, arith, refl, sym, ◌∙◌, ap, ap₂}
 use Rattle.std.specs.List.{All}
 use Rattle.std.proofs.lemmas.List.{length-map, length-drop, length-take-le, map-set, take-map, drop-map, take-set-le, drop-set-lt, drop-set-add, get_or-map, get_or-take, get_or-drop, take_rest}
-use Rattle.std.proofs.lemmas.List.Elements.{All-cons, All-nil, All-head, All-tail}
+use Rattle.std.proofs.lemmas.List.Elements.{All-cons, All-tail}
 use Rattle.rational.specs.Ratio.{whole}
 use Rattle.evidence.specs.Instance.{Range, Variable, Instance, IsInstance, HasNumbers, no_variable, free, width, height, variable_at, row_at}
 use Rattle.evidence.specs.Cases.{with_range, with_row_range, lesser_end, greater_end, low_case, high_case, at_zero, unless_zero, IsSplit, IsZeroBranch, row_at_most, row_at_least}
@@ -11,7 +11,7 @@ use Rattle.evidence.proofs.RowBranches.{low_variable, high_variable, low_past, h
 use Rattle.instance.proofs.Numbers.{range-numbers}
 use Rattle.case_tree.specs.declared.cuts.Cut.{Cut}
 use Rattle.case_tree.specs.declared.cuts.Division.TheVariants.{Split, Zero}
-use Rattle.case_tree.specs.Cuts.{cut, cut_at, cut_variable, no_cut, first_range, second_range, first_case, second_case, HasNext}
+use Rattle.case_tree.specs.Cuts.{cut, cut_at, cut_variable, first_range, second_range, first_case, second_case, HasNext}
 use Rattle.cert_checker.specs.Columns.{ends, over, with_ends, parted}
 
 abbrev range_of : Variable → Range

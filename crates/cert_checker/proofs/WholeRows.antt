@@ -1,5 +1,5 @@
 -- Rows whose coefficients are whole at whole variables, and 0 at the others.
-use Rattle.std.proofs.Common.{◌≡◌, ℕ, ◌+◌, ◌<◌, ◌↔◌, ◌⊎◌, inl, inr, pos, IsTrue, List, [], ◌∷◌, length, arith, refl, sym, subst}
+use Rattle.std.proofs.Common.{◌≡◌, ℕ, ◌<◌, ◌↔◌, ◌⊎◌, inl, inr, pos, IsTrue, List, [], ◌∷◌, length, arith, refl, sym, subst}
 use Rattle.std.specs.List.{All}
 use Rattle.std.proofs.lemmas.List.{get_or-map}
 use Rattle.rational.specs.Ratio.{Ratio, IsSame}

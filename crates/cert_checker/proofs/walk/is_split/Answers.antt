@@ -1,8 +1,7 @@
 use mir.Val.{SFits, of_z, to_z}
 use mir.Syntax.{w128}
-use Rattle.std.proofs.Common.{rules, ◌≡◌, ◌+◌, ◌-◌, ◌<◌, ℤ, IsTrue, inl, inr, arith, sym, subst}
+use Rattle.std.proofs.Common.{rules, ◌≡◌, ℤ, inl, arith, sym, subst}
 use Rattle.std.proofs.Math.Facts.{to_z-of_z}
-use Rattle.evidence.specs.Instance.{width, height}
 use Rattle.evidence.specs.Cases.{IsBranch}
 use Rattle.evidence.proofs.RowBranches.{variable_split}
 use Rattle.case_tree.specs.Cuts as Tree

@@ -1,8 +1,7 @@
-use Rattle.std.proofs.Common.{◌≡◌, ℕ, ◌+◌, ◌-◌, ◌<◌, ◌≤◌, length, map, take, drop, slice_set, arith, refl, sym, ◌∙◌, ap, subst}
-use Rattle.std.proofs.lemmas.List.{length-map, length-drop, length-set, get_or-map, get_or-drop, get_or-set_same, get_or-set_other, take-set-le, ext_get_or}
+use Rattle.std.proofs.Common.{◌≡◌, ℕ, ◌+◌, ◌<◌, length, map, drop, slice_set, arith, refl, ◌∙◌, ap, subst}
+use Rattle.std.proofs.lemmas.List.{length-map, length-drop, get_or-map, get_or-drop, get_or-set_same, get_or-set_other, take-set-le, ext_get_or}
 use Rattle.evidence.specs.Instance.{free, row_at}
 use Rattle.evidence.proofs.Columns.{by_lt}
-use Rattle.case_tree.specs.declared.cuts.Cut.{Cut}
 use Rattle.case_tree.specs.Cuts.{cut_at, no_cut}
 use Rattle.cert_checker.specs.Columns.{ends}
 use Rattle.cert_checker.proofs.walk.uncut_rows.Goals as goal

@@ -1,4 +1,4 @@
-use Rattle.std.proofs.Common.{◌≡◌, ◌<◌, ℕ, IsTrue, false, length, slice_index_or, arith, refl, sym, ◌∙◌, ap, subst}
+use Rattle.std.proofs.Common.{◌≡◌, ◌<◌, IsTrue, false, length, slice_index_or, arith, refl, sym, subst}
 use Rattle.std.proofs.lemmas.List.{get_or_read_under}
 use Rattle.fraction.specs.Frac.{ratio}
 use Rattle.fraction.specs.declared.ends.Entry.{Entry}

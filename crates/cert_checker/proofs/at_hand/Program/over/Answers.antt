@@ -1,4 +1,4 @@
-use Rattle.std.proofs.Common.{List, map, sym, ap, ◌∙◌, subst}
+use Rattle.std.proofs.Common.{List, map, sym, ap, ◌∙◌}
 use Rattle.evidence.specs.Instance as Of
 use Rattle.cert_checker.specs.Programs.{at_hand}
 use Rattle.cert_checker.specs.Columns.{ends}
