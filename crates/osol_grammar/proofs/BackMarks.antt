@@ -1,5 +1,5 @@
 -- The marks of a written document say the options that it was written of.
-use Rattle.std.proofs.Common.{◌≡◌, ◌∙◌, inr, inl, ℕ, zero, suc, ◌+◌, ◌≤◌, ◌==◌, Bool, true, false, not, ap, eqb-true, Option, None, Some, List, [], ◌∷◌, ◌++◌, length, leb, refl, sym, subst, arith}
+use Rattle.std.proofs.Common.{◌≡◌, ◌∙◌, inr, inl, ℕ, zero, suc, ◌+◌, ◌<◌, ◌≤◌, ◌==◌, Bool, true, false, not, ap, eqb-true, Option, None, Some, List, [], ◌∷◌, ◌++◌, length, length-append, append_assoc, append-nil, leb, refl, sym, subst, arith}
 use Rattle.std.proofs.lemmas.Bool.{not-false}
 use Rattle.std.specs.Prelude.{codes, map, filter, ◌||◌}
 use Rattle.std.specs.Fmt.{decimal}
@@ -11,6 +11,7 @@ use Rattle.fraction.specs.declared.frac.Frac.{Frac}
 use Rattle.decimal_text.specs.Count.{IsCount, most_count}
 use Rattle.decimal_text.specs.Exact.{ratio_text}
 use Rattle.decimal_text.proofs.RoundTrips.{count_read}
+use Rattle.decimal_text.proofs.OneRatio.{written_ratio}
 use Rattle.document_tags.specs.Elements.{unless_empty}
 use Rattle.tree_grammar.specs.Elements as tree
 use Rattle.document_tags.specs.Writing.{with_attribute, leaf, group, bare_root}
@@ -138,7 +139,7 @@ values_say : (vs us : List (Option Frac)) (d n j i u : ℕ) (t : List ℕ) (o q 
     → Say (at InitialValues n j i u t (with_cut q us)) (spread (nodes_events (values_nodes d vs) es)) o
 values_say [] us d n j i u t o q es e few more = subst (λ (l : List (Option Frac)). Say (at InitialValues n j i u t (with_cut q l)) (spread es) o) (append-nil us) (more n)
 values_say (None ∷ vs) us d n j i u t o q es e few more =
-    let long = length-append us (None {A = Frac} ∷ []) in
+    let long = length-append us (None ∷ []) in
     let rest = values_say vs (us ++ None ∷ []) (d + 1) n j i u t o q es (omega (arith, e, long)) (omega (arith, few, long))
     (λ k. subst (λ (l : List (Option Frac)). Say (at InitialValues k j i u t (with_cut q l)) (spread es) o) (sym (append_assoc us (None ∷ []) vs)) (more k)) in
     subst (λ (f : Option (List (Option Frac))). Say (at InitialValues n j i u t (record q { first = f })) (spread (nodes_events (values_nodes (d + 1) vs) es)) o) (cut_none us) rest

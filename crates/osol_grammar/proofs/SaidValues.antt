@@ -1,5 +1,5 @@
 -- First values: a start tag says one at most, those that are said may be written, and those that are written are read.
-use Rattle.std.proofs.Common.{◌≡◌, ◌≢◌, ◌⊎◌, ◌∙◌, inl, inr, ℕ, zero, suc, ◌+◌, ◌-◌, ◌<◌, ◌≤◌, IsTrue, false, Option, None, Some, List, [], ◌∷◌, ◌++◌, length, get_or, refl, ap, sym, subst, arith}
+use Rattle.std.proofs.Common.{◌≡◌, ◌≢◌, ◌⊎◌, ◌∙◌, inl, inr, ℕ, zero, suc, ◌+◌, ◌-◌, ◌<◌, ◌≤◌, IsTrue, false, Option, None, Some, List, [], ◌∷◌, ◌++◌, length, get_or, set, refl, ap, sym, subst, arith}
 use Rattle.std.specs.Prelude.{codes}
 use Rattle.std.specs.Option.{is_some}
 use Rattle.std.proofs.lemmas.Bool.{cases_eq}
@@ -124,16 +124,16 @@ cut_none (u ∷ us) = ap (cons_cut u) (cut_none us)
 -- no value is said behind them
 cut_short : (us ws : List (Option Frac)) → cut_values us ≡ Some ws → length ws ≤ length us
 cut_short [] ws e = absurd (cc)
-cut_short (u ∷ us) ws e = by u (cut_values us) refl e
+cut_short (u ∷ us) ws e = by (λ vs is. cut_short us vs is) u (cut_values us) refl e
   where
     inside : (a b : List (Option Frac)) → Some a ≡ Some b → a ≡ b
     inside a b e = cc
 
-    by : (u : Option Frac) (cut : Option (List (Option Frac))) → cut_values us ≡ cut → cons_cut u cut ≡ Some ws → length ws ≤ suc (length us)
-    by None None is e = absurd (cc)
-    by (Some y) None is e = let n = ap length (inside (Some y ∷ []) ws e) in omega (arith, n)
-    by None (Some vs) is e = let n = ap length (inside (None ∷ vs) ws e) in let low = cut_short us vs is in omega (arith, n, low)
-    by (Some y) (Some vs) is e = let n = ap length (inside (Some y ∷ vs) ws e) in let low = cut_short us vs is in omega (arith, n, low)
+    by : ((vs : List (Option Frac)) → cut_values us ≡ Some vs → length vs ≤ length us) → (u : Option Frac) (cut : Option (List (Option Frac))) → cut_values us ≡ cut → cons_cut u cut ≡ Some ws → length ws ≤ suc (length us)
+    by below None None is e = absurd (cc)
+    by below (Some y) None is e = let n = ap length (inside (Some y ∷ []) ws e) in omega (arith, n)
+    by below None (Some vs) is e = let n = ap length (inside (None ∷ vs) ws e) in let low = below vs is in omega (arith, n, low)
+    by below (Some y) (Some vs) is e = let n = ap length (inside (Some y ∷ vs) ws e) in let low = below vs is in omega (arith, n, low)
 
 pub not_yet : (us : List (Option Frac)) → HasFirst (cut_values us) (length us) → ⊥
 not_yet us has = by (cut_values us) refl has
@@ -142,10 +142,25 @@ not_yet us has = by (cut_values us) refl has
     by None is has = has
     by (Some ws) is has = let past = get_or_past ws (length us) None (cut_short us ws is) in let no : IsTrue false = subst (λ (o : Option Frac). IsTrue (is_some o)) past has in cc
 
+last_index : (vs : List (Option Frac)) → suc (suc (length vs)) - 1 ≡ suc (suc (length vs) - 1)
+last_index vs = omega arith
+
 -- where the last one is said they are all
 pub cut_all : (vs : List (Option Frac)) → vs ≢ [] → IsSaid vs (length vs - 1) → cut_values vs ≡ Some vs
 cut_all [] some last = absurd (some refl)
 cut_all (None ∷ []) some last = let no : IsTrue false = last in absurd (cc)
 cut_all (Some x ∷ []) some last = refl
-cut_all (None ∷ w ∷ vs) some last = ap (cons_cut None) (cut_all (w ∷ vs) (λ e. cc) last)
-cut_all (Some x ∷ w ∷ vs) some last = ap (cons_cut (Some x)) (cut_all (w ∷ vs) (λ e. cc) last)
+cut_all (None ∷ w ∷ vs) some last = ap (cons_cut None) (cut_all (w ∷ vs) (λ e. cc) (subst (λ (i : ℕ). IsSaid (None ∷ w ∷ vs) i) (last_index vs) last))
+cut_all (Some x ∷ w ∷ vs) some last = ap (cons_cut (Some x)) (cut_all (w ∷ vs) (λ e. cc) (subst (λ (i : ℕ). IsSaid (Some x ∷ w ∷ vs) i) (last_index vs) last))
+
+-- ---- the list in memory: variables without a value may stand behind those that have one
+pub padded : (vs : List (Option Frac)) (n : ℕ) (x : Frac) → length vs ≤ n → with_value (vs ++ None ∷ []) n x ≡ with_value vs n x
+padded [] zero x low = refl
+padded [] (suc n) x low = refl
+padded (v ∷ vs) zero x low = absurd (omega (arith, low))
+padded (v ∷ vs) (suc n) x low = ap (λ (l : List (Option Frac)). v ∷ l) (padded vs n x (omega (arith, low)))
+
+pub set_value : (vs : List (Option Frac)) (n : ℕ) (x : Frac) → n < length vs → set vs n (Some x) ≡ with_value vs n x
+set_value [] n x low = absurd (omega (arith, low))
+set_value (v ∷ vs) zero x low = refl
+set_value (v ∷ vs) (suc n) x low = ap (λ (l : List (Option Frac)). v ∷ l) (set_value vs n x (omega (arith, low)))
