@@ -29,7 +29,6 @@ use Rattle.document_checker.specs.Documents.{kind, IsAcceptedText}
 use Rattle.certificate.specs.GivenUp.{given_up}
 use Rattle.solve_run.specs.Judging.{IsShownClaim, HasFewRounds, IsFinal, IsJudged, checked}
 use Rattle.solve_run.specs.Closings.{error_report, claim_report, with_message, noted, IsShort, IsFitted, IsToldOf}
-use Rattle.solve_run.specs.Handing.{HandsInNone}
 use Rattle.solve_run.specs.JobAnswers.{TakesHanded, Solved, IsNoteOfJob, IsJobOf, IsBestOfSearch, AnswersJob, no_options, no_instance, handed, solved, gave_up}
 use Rattle.solve_run.specs.Untils.{job_terms, renamed}
 use Rattle.solve_run.proofs.Lengths.{IsShortName, unsure_short, error_short}

@@ -1,5 +1,5 @@
 -- What is left of an accepted claim that is given up is accepted where it claims something, and its document isn't too long.
-use Rattle.std.proofs.Common.{◌≡◌, ℕ, ◌≤◌, Option, None, Some, List, length, arith}
+use Rattle.std.proofs.Common.{◌≡◌, ℕ, Option, None, Some, List, arith}
 use Rattle.std.proofs.lemmas.List.{length-map, length-drop}
 use Rattle.fraction.specs.Frac.{ratio, ratios}
 use Rattle.fraction.specs.declared.frac.Frac.{Frac}

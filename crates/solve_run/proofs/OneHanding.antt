@@ -1,18 +1,16 @@
 -- What becomes of a result that the options hand in is one thing.
-use Rattle.std.proofs.Common.{◌≡◌, ◌∙◌, ℕ, inl, inr, Option, None, Some, Result, Err, List, refl, ap, sym, subst}
+use Rattle.std.proofs.Common.{◌≡◌, ◌∙◌, ℕ, inl, inr, Option, Some, Err, List, ap, sym, subst}
 use Rattle.instance.specs.Parts.{Parts}
 use Rattle.certificate.specs.declared.claims.Claim.{Claim}
 use Rattle.osol_grammar.specs.declared.options.Options.{Options}
 use Rattle.osol_grammar.specs.Meaning.{IsOptionsText}
 use Rattle.osil_grammar.specs.Reading.{IsInstanceText}
 use Rattle.osrl_writing.specs.declared.report.Report.{Report}
-use Rattle.document_checker.specs.declared.documents.Kind.{Kind}
 use Rattle.document_checker.specs.declared.fault.CheckFault.{CheckFault}
 use Rattle.document_checker.specs.Documents.{IsAcceptedText, DocsRefuse, IsShownIn, IsUnshownIn}
 use Rattle.document_checker.specs.Texts.{IsCheckFaultText}
 use Rattle.handed_results.specs.declared.handed.Handed.{Handed}
 use Rattle.handed_results.specs.declared.handed.Handed.TheVariants.{Nothing, Once, Twice}
-use Rattle.handed_results.specs.Reading.{HandsIn}
 use Rattle.solve_run.specs.Grounds.{HandedAreOne}
 use Rattle.solve_run.specs.Handing.{about_handed, IsTaken, IsNoteOf, HandsInClaim, HandsInNone}
 
