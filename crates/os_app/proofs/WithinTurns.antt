@@ -36,6 +36,7 @@ use Rattle.osrl_writing.specs.declared.report.Report.{Report}
 use Rattle.osrl_writing.specs.Writing.{told_text}
 use Rattle.certificate.specs.GivenUp.{given_up}
 use Rattle.solve_run.specs.Judging.{checked, wide_check}
+use Rattle.solve_run.specs.RowForms.{claim_of_rows, IsFormed}
 use Rattle.solve_run.specs.Closings.{claim_report, IsToldOf, IsFitted}
 use Rattle.solve_run.specs.JobAnswers.{AnswersJob, IsBestOfSearch, TakesHanded, Solved, no_options, no_instance, handed, solved, gave_up}
 use Rattle.solve_run.proofs.Texts.{noted_claim}
@@ -142,8 +143,20 @@ fitted_is : (job : Option (List ℕ)) (found told : Claim) → IsFitted job foun
 fitted_is job found told (inl (short, is)) within = ap claims_turn_limit is ∙ within
 fitted_is job found told (inr (long, is)) within = ap claims_turn_limit is ∙ given_up_is found _
 
-closed_is : (p : Parts) (job : Option (List ℕ)) (turns : ℕ) (found told : Claim) → IsToldOf p job turns found told → claims_turn_limit found ≡ false → claims_turn_limit told ≡ false
-closed_is p job turns found told closed within = fitted_is job _ told closed.fitted (checked_is found turns closed.width within)
+-- the same claim, of rows alone, ends for the same cause
+rows_are : (n : ℕ) (c : Claim) → claims_turn_limit (claim_of_rows n c) ≡ claims_turn_limit c
+rows_are n (Optimal x vs cs) = refl
+rows_are n (Infeasible cert) = refl
+rows_are n (Unbounded x vs cs r) = refl
+rows_are n (BestSoFar x vs k b) = refl
+rows_are n (Unsure k b) = refl
+
+formed_is : (p : Parts) (form : ℕ) (c formed : Claim) → IsFormed p form c formed → claims_turn_limit c ≡ false → claims_turn_limit formed ≡ false
+formed_is p form c formed (inl (one, fine, is)) within = ap claims_turn_limit is ∙ rows_are (length p.vars) c ∙ within
+formed_is p form c formed (inr (other_form, is)) within = ap claims_turn_limit is ∙ within
+
+closed_is : (p : Parts) (job : Option (List ℕ)) (form turns : ℕ) (found told : Claim) → IsToldOf p job form turns found told → claims_turn_limit found ≡ false → claims_turn_limit told ≡ false
+closed_is p job form turns found told closed within = fitted_is job closed.formed told closed.fitted (formed_is p form _ closed.formed closed.forms (checked_is found turns closed.width within))
 
 gave_up_is : (osil osol : List ℕ) (c : Claim) → (c ≡ Unsure Memory None) ⊎ IsBestOfSearch osil osol c → claims_turn_limit c ≡ false
 gave_up_is osil osol c (inl is) = ap claims_turn_limit is
@@ -215,7 +228,7 @@ module _ (laws : Laws) (osil osol taken : List ℕ) (p : Parts) (text : IsInstan
       let found : is_out_of_turns s.outcome ≡ false =
       laws.within (program s.given.parts) (job_terms s.given.options stop) s.outcome _ its.limit (laws.numbers s.given.parts) (subst (λ (x : Parts). IsPlain (program x)) same plain) (subst (λ (x : Parts). HaveOneRange (program x)) same ranges) (subst (λ (x : Parts). BeginsFeasible (program x)) same feasible) enough (omega (arith, turns))
       (subst (λ (P : Problem). IsSearchAnswer P (job_terms s.given.options stop) s.outcome (record { turns = s.turns; looks = looks })) (alone_is s.given.parts (subst (λ (x : Parts). length x.goals ≡ 1) same single)) (searched s.ends)) in
-      ap (λ (x : Report). says_turn_limit x.claim) s.is ∙ ap says_turn_limit (noted_claim s.note (claim_report s.given.options.job s.told)) ∙ closed_is s.given.parts s.given.options.job s.turns s.found s.told s.closed (told_turned s.found (renamed timed s.outcome) s.tells ∙ renamed_within timed s.outcome found)
+      ap (λ (x : Report). says_turn_limit x.claim) s.is ∙ ap says_turn_limit (noted_claim s.note (claim_report s.given.options.job s.told)) ∙ closed_is s.given.parts s.given.options.job s.given.options.form s.turns s.found s.told s.closed (told_turned s.found (renamed timed s.outcome) s.tells ∙ renamed_within timed s.outcome found)
 
   -- no result is handed in
   handed_within : (r : Report) → TakesOptions true osil osol taken → TakesHanded osil taken r → says_turn_limit r.claim ≡ false

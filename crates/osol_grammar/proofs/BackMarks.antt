@@ -1,14 +1,14 @@
 -- The marks of a written document say the options that it was written of.
-use Rattle.std.proofs.Common.{◌≡◌, inr, inl, ℕ, ◌+◌, ◌≤◌, ◌==◌, ◌<◌, Bool, true, false, not, ap, ap₂, eqb-true, Option, None, Some, List, [], ◌∷◌, ◌++◌, length, leb, refl, sym, subst, arith}
+use Rattle.std.proofs.Common.{◌≡◌, ◌∙◌, inr, inl, ℕ, zero, suc, ◌+◌, ◌≤◌, ◌==◌, Bool, true, false, not, ap, eqb-true, Option, None, Some, List, [], ◌∷◌, ◌++◌, length, leb, refl, sym, subst, arith}
 use Rattle.std.proofs.lemmas.Bool.{not-false}
-use Rattle.std.specs.Prelude.{codes, map}
+use Rattle.std.specs.Prelude.{codes, map, filter, ◌||◌}
 use Rattle.std.specs.Fmt.{decimal}
 use Rattle.tree_grammar.specs.Elements.{Attribute, Nodes, Event, Close, nodes_events}
 use Rattle.doc_tree.specs.Marks.{Mark, Start, Char, Finish, spread}
 use Rattle.std.proofs.lemmas.Bool.{leb-true}
 use Rattle.fraction.specs.Frac.{ratio}
 use Rattle.fraction.specs.declared.frac.Frac.{Frac}
-use Rattle.decimal_text.specs.Count.{most_count}
+use Rattle.decimal_text.specs.Count.{IsCount, most_count}
 use Rattle.decimal_text.specs.Exact.{ratio_text}
 use Rattle.decimal_text.proofs.RoundTrips.{count_read}
 use Rattle.document_tags.specs.Elements.{unless_empty}
@@ -18,16 +18,17 @@ use Rattle.tag_tests.specs.Forms.{AreTaken}
 use Rattle.tag_tests.proofs.Forms.{taken_both}
 use Rattle.tag_tests.proofs.Characters.{chars_taken}
 use Rattle.osol_grammar.specs.declared.limit.Limit.{Limit}
-use Rattle.osol_grammar.specs.declared.limit.Limit.TheVariants.{Rounds, Names}
+use Rattle.osol_grammar.specs.declared.limit.Limit.TheVariants as limits
+use Rattle.osol_grammar.specs.declared.limit.Limit.TheVariants.{Rounds, Names, Form}
 use Rattle.osol_grammar.specs.declared.options.Options.{Options}
 use Rattle.osol_grammar.specs.declared.place.Place.{Place}
 use Rattle.osol_grammar.specs.declared.place.Place.TheVariants.{Outside, Osol, General, JobId, Job, MaxTime, Optimization, SolverOptions, SolverOption}
 use Rattle.osol_grammar.specs.declared.standing.Standing.{Standing as State}
-use Rattle.osol_grammar.specs.Limits.{limit_row}
-use Rattle.osol_grammar.specs.Options.{made, amount, with_amount, no_options, IsOption, SaysAmount}
+use Rattle.osol_grammar.specs.Limits.{limit_row, amount_text}
+use Rattle.osol_grammar.specs.Options.{made, amount, with_amount, no_options, IsOption, IsAmountText, SaysAmount}
 use Rattle.osol_grammar.specs.Marked.{osol}
 use Rattle.osol_grammar.specs.Meaning.{IsOptions, IsOptionsText}
-use Rattle.osol_grammar.specs.Writing.{told_limits, option_nodes, time_nodes, options_nodes, options_text}
+use Rattle.osol_grammar.specs.Writing.{is_told, told_limits, option_nodes, time_nodes, options_nodes, options_text}
 use Rattle.osol_grammar.specs.Back.{IsJobName, IsNameOrNone, IsTimeOrNone, ComesBack}
 use Rattle.osol_grammar.specs.Times.{SaysTime}
 use Rattle.osol_grammar.proofs.SaidTimes.{time_read}
@@ -47,15 +48,24 @@ abbrev AreWithin : Options → Type 0
 AreWithin o = (l : Limit) → ((limit_row l).least ≤ amount o l) × (amount o l ≤ (limit_row l).most)
 
 abbrev option_of : Limit → ℕ → List Attribute
-option_of l n = with_attribute (codes "name") (limit_row l).name (with_attribute (codes "value") (decimal n) (with_attribute (codes "solver") (codes "os_cert") []))
+option_of l n = with_attribute (codes "name") (limit_row l).name (with_attribute (codes "value") (amount_text l n) (with_attribute (codes "solver") (codes "os_cert") []))
 
 option_is : (l : Limit) (n : ℕ) → IsOption l (option_of l n)
 option_is l n = record { named = refl; meant = refl }
 
+amount_said : (l : Limit) (n : ℕ) → n ≤ (limit_row l).most → IsCount (decimal n) n → IsAmountText l (amount_text l n) n
+amount_said Form zero few count = refl
+amount_said Form (suc zero) few count = refl
+amount_said Form (suc (suc n)) few count = omega (arith, few)
+amount_said limits.Nodes n few count = count
+amount_said limits.Turns n few count = count
+amount_said Rounds n few count = count
+amount_said Names n few count = count
+
 amount_is : (l : Limit) (n : ℕ) → (limit_row l).least ≤ n → n ≤ (limit_row l).most → SaysAmount l (option_of l n) n
 amount_is l n above below =
     let most = leb-true (limit_row l).most most_count (each_passes (λ m. leb (limit_row m).most most_count) refl l) in
-    (count_read n (omega (arith, below, most)), above, below)
+    (amount_said l n below (count_read n (omega (arith, below, most))), above, below)
 
 -- options when those of these limits were read
 abbrev with_amounts : Options → Options → List Limit → Options
@@ -74,27 +84,34 @@ limits_say (l ∷ ls) n j i u t o q es within more =
     let rest = limits_say ls (n + 1) j i u t o p es within more in
     (rest.0, (at SolverOption (n + 1) j i u t p, ((pass, tt), (p, inl (l, a, is, says, refl), refl)), (at SolverOptions (n + 1) j i u t p, (tt, refl), rest.1)), rest.2)
 
--- all that is told says the options, since a limit that isn't has the amount that it has without its option
-untold : (n : ℕ) → not (n == 0) ≡ false → 0 ≡ n
-untold n is = sym (eqb-true n 0 (not-false (n == 0) is))
-
 abbrev named : Option (List ℕ) → Options
 named job = record no_options { job = job }
 
 abbrev timed : Option (List ℕ) → Option Frac → Options
 timed job seconds = record no_options { job = job; seconds = seconds }
 
-all_said : (job : Option (List ℕ)) (seconds : Option Frac) (amounts : Limit → ℕ) → made job seconds amounts ≡ with_amounts (timed job seconds) (made job seconds amounts) (told_limits (made job seconds amounts))
-all_said job seconds amounts = by_both (not (amounts Rounds == 0)) (not (amounts Names == 0)) refl refl
-  where
-    with_rounds : ℕ → ℕ → Options
-    with_rounds r n = let o : Options = record (made job seconds amounts) { rounds = r; names = n } in o
+-- a limit whose option isn't told has the amount that it has without it
+untold : (always : Bool) (n d : ℕ) → (always || not (n == d)) ≡ false → n ≡ d
+untold true n d e = absurd (cc)
+untold false n d e = eqb-true n d (not-false (n == d) e)
 
-    by_both : (b c : Bool) → not (amounts Rounds == 0) ≡ b → not (amounts Names == 0) ≡ c → made job seconds amounts ≡ with_amounts (timed job seconds) (made job seconds amounts) (told_limits (made job seconds amounts))
-    by_both true true told names = rw (told, names) refl
-    by_both true false told none = rw (told, none) (ap (λ (n : ℕ). with_rounds (amounts Rounds) n) (sym (untold (amounts Names) none)))
-    by_both false true none names = rw (none, names) (ap (λ (r : ℕ). with_rounds r (amounts Names)) (sym (untold (amounts Rounds) none)))
-    by_both false false none bare = rw (none, bare) (ap₂ with_rounds (sym (untold (amounts Rounds) none)) (sym (untold (amounts Names) bare)))
+told_or_not : (o q : Options) (l : Limit) (ls : List Limit) → with_amount q l (limit_row l).default ≡ q → with_amounts q o (filter (is_told o) (l ∷ ls)) ≡ with_amounts (with_amount q l (amount o l)) o (filter (is_told o) ls)
+told_or_not o q l ls same = by (is_told o l) refl
+  where
+    by : (b : Bool) → is_told o l ≡ b → with_amounts q o (filter (is_told o) (l ∷ ls)) ≡ with_amounts (with_amount q l (amount o l)) o (filter (is_told o) ls)
+    by true e = rw e refl
+    by false e =
+        rw e (ap (λ (p : Options). with_amounts p o (filter (is_told o) ls))
+        (sym same ∙ ap (λ (n : ℕ). with_amount q l n) (sym (untold (limit_row l).always (amount o l) (limit_row l).default e))))
+
+-- so all that is told says the options
+all_said : (job : Option (List ℕ)) (seconds : Option Frac) (amounts : Limit → ℕ) → made job seconds amounts ≡ with_amounts (timed job seconds) (made job seconds amounts) (told_limits (made job seconds amounts))
+all_said job seconds amounts =
+    let o = made job seconds amounts in
+    let limited = with_amount (with_amount (timed job seconds) limits.Nodes o.nodes) limits.Turns o.turns in
+    let rounded = with_amount limited Rounds o.rounds in
+    let labelled = with_amount rounded Names o.names in
+    sym (told_or_not o limited Rounds (Names ∷ Form ∷ []) refl ∙ told_or_not o rounded Names (Form ∷ []) refl ∙ told_or_not o labelled Form [] refl)
 
 -- and what stands round them
 optimization_says : (n j i u : ℕ) (t : List ℕ) (o q : Options) → AreWithin o → o ≡ with_amounts q o (told_limits o) → Say (at Osol n j i u t q) (spread (nodes_events (optimization o) (Close (codes "osol") ∷ []))) o

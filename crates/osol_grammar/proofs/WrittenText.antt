@@ -1,5 +1,5 @@
 -- The text of options is a document that isn't blank.
-use Rattle.std.proofs.Common.{◌≡◌, ◌∙◌, ℕ, suc, ◌+◌, ◌*◌, ◌≤◌, ◌==◌, ℤ, pos, negsuc, Bool, true, false, cond, Option, None, Some, List, [], ◌∷◌, ◌++◌, length, length-append, drop, reverse, leb, refl, ap, sym, arith, lit≤, lit<}
+use Rattle.std.proofs.Common.{◌≡◌, ◌∙◌, ℕ, zero, suc, ◌+◌, ◌*◌, ◌≤◌, ◌==◌, ℤ, pos, negsuc, Bool, true, false, cond, Option, None, Some, List, [], ◌∷◌, ◌++◌, length, length-append, drop, reverse, leb, refl, ap, sym, arith, lit≤, lit<}
 use Rattle.std.specs.Prelude.{codes, decimal, filter}
 use Rattle.std.specs.Fmt.{signed_decimal}
 use Rattle.std.specs.List.{list_all}
@@ -19,18 +19,35 @@ use Rattle.document_tags.proofs.PrintableTexts.{fixed_text, number_text, signed_
 use Rattle.document_tags.proofs.XmlNodes.{AreFlat, none_flat, text_flat, element_flat, still_flat, root_is_document}
 use Rattle.document_tags.proofs.Lengths.{nodes_size, text_size, decimal_size, written_short}
 use Rattle.osol_grammar.specs.declared.limit.Limit.{Limit}
+use Rattle.osol_grammar.specs.declared.limit.Limit.TheVariants.{Nodes, Turns, Rounds, Names, Form}
 use Rattle.osol_grammar.specs.declared.options.Options.{Options}
-use Rattle.osol_grammar.specs.Limits.{all, limit_row}
+use Rattle.osol_grammar.specs.Limits.{all, limit_row, amount_text}
 use Rattle.osol_grammar.specs.Options.{amount}
 use Rattle.osol_grammar.specs.Writing.{is_told, told_limits, job_nodes, time_nodes, option_nodes, limit_nodes, options_nodes, options_element, options_text}
 use Rattle.osol_grammar.specs.Back.{IsNameOrNone, ComesBack}
 use Rattle.osol_grammar.proofs.LimitTable.{each_passes}
 
+amount_xml : (l : Limit) (n : ℕ) → IsXmlText (amount_text l n)
+amount_xml Form zero = fixed_text (codes "whole") refl
+amount_xml Form (suc n) = fixed_text (codes "rows") refl
+amount_xml Nodes n = number_text n
+amount_xml Turns n = number_text n
+amount_xml Rounds n = number_text n
+amount_xml Names n = number_text n
+
+amount_size : (l : Limit) (n : ℕ) → length (amount_text l n) ≤ 64
+amount_size Form zero = omega arith
+amount_size Form (suc n) = omega arith
+amount_size Nodes n = decimal_size n
+amount_size Turns n = decimal_size n
+amount_size Rounds n = decimal_size n
+amount_size Names n = decimal_size n
+
 limits_flat : (o : Options) (ls : List Limit) → AreFlat 1 (option_nodes o ls) (option_nodes o ls)
 limits_flat o [] = none_flat 1
 limits_flat o (l ∷ more) =
     let name = fixed_text (limit_row l).name (each_passes (λ k. list_all is_printable (limit_row k).name) refl l) in
-    element_flat 0 (codes "solverOption") _ none (option_nodes o more) none (option_nodes o more) refl (name, (number_text (amount o l), (fixed_text (codes "os_cert") refl, tt))) (none_flat 0) (limits_flat o more)
+    element_flat 0 (codes "solverOption") _ none (option_nodes o more) none (option_nodes o more) refl (name, (amount_xml l (amount o l), (fixed_text (codes "os_cert") refl, tt))) (none_flat 0) (limits_flat o more)
 
 -- what stands behind the job's name and the time
 abbrev pub optimization : Options → tree.Nodes
@@ -86,8 +103,8 @@ limits_size o [] = omega arith
 limits_size o (l ∷ more) =
     let rest = limits_size o more in
     let name = leb-true (length (limit_row l).name) 50 (each_passes (λ k. leb (length (limit_row k).name) 50) refl l) in
-    let digits = decimal_size (amount o l) in
-    omega (arith, rest, name, digits)
+    let said = amount_size l (amount o l) in
+    omega (arith, rest, name, said)
 
 -- no more are told than there are
 filter_few : {X : Type 0} (test : X → Bool) (xs : List X) → length (filter test xs) ≤ length xs

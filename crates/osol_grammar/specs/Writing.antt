@@ -1,6 +1,5 @@
 -- The document that options are written as (Optimization Services option language), and its text.
 use Rattle.std.specs.Prelude.{ℕ, Bool, filter, not, ◌==◌, ◌||◌, Option, None, Some, List, [], ◌∷◌, codes}
-use Rattle.std.specs.Fmt.{decimal}
 use Rattle.tree_grammar.specs.Elements as tree
 use Rattle.tree_grammar.specs.Elements.{none, element, Element}
 use Rattle.tree_grammar.specs.WrittenText.{written}
@@ -10,7 +9,7 @@ use Rattle.decimal_text.specs.Exact.{ratio_text}
 use Rattle.document_tags.specs.Writing.{with_attribute, leaf, group, rooted}
 use Rattle.osol_grammar.specs.declared.limit.Limit.{Limit}
 use Rattle.osol_grammar.specs.declared.options.Options.{Options}
-use Rattle.osol_grammar.specs.Limits.{all, limit_row}
+use Rattle.osol_grammar.specs.Limits.{all, limit_row, amount_text}
 use Rattle.osol_grammar.specs.Options.{amount}
 
 -- the job's name, if there is one, and then more
@@ -29,7 +28,7 @@ is_told o l = (limit_row l).always || not (amount o l == (limit_row l).default)
 
 -- the option of a limit, and then more
 abbrev pub limit_node : Options → Limit → tree.Nodes → tree.Nodes
-limit_node o l more = element (codes "solverOption") (with_attribute (codes "name") (limit_row l).name (with_attribute (codes "value") (decimal (amount o l)) (with_attribute (codes "solver") (codes "os_cert") []))) none more
+limit_node o l more = element (codes "solverOption") (with_attribute (codes "name") (limit_row l).name (with_attribute (codes "value") (amount_text l (amount o l)) (with_attribute (codes "solver") (codes "os_cert") []))) none more
 
 -- the options of these limits
 abbrev pub option_nodes : Options → List Limit → tree.Nodes

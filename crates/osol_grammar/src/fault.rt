@@ -18,7 +18,7 @@ pub enum Refusal {
     BadUnit,
     /// The time isn't a number from 0 on, or is past 2^63 - 1 seconds.
     BadTime,
-    /// The value of a limit's option is wanting, isn't a count, or isn't one that the limit may have.
+    /// The value of a limit's option is wanting, isn't a count, or of the form one of its words, or isn't one that the limit may have.
     BadLimit,
     /// The job's name, without the white space round it, has more than 256 bytes.
     LongJob,

@@ -6,7 +6,8 @@ use os_io::Text;
 
 /// The job's name, if it has one, for how many seconds it may be searched, if that is limited, and how much may be done for it: so many nodes of the tree of cases, 1 to 1,000,000,
 /// so many turns of the simplex method, 1 to 100,000,000, and so many rows that rounds add, 0 to 100. The values of its
-/// result are told with names where `names` is 1, and without them where it is 0.
+/// result are told with names where `names` is 1, and without them where it is 0; its certificate is told with multipliers
+/// of rows alone where `form` is 1 and the checker accepts it so, else whole.
 #[derive(Drop)]
 pub struct Options {
     pub job: Option<Text>,
@@ -15,6 +16,7 @@ pub struct Options {
     pub turns: u32,
     pub rounds: u32,
     pub names: u32,
+    pub form: u32,
 }
 
 impl Options {
@@ -22,7 +24,7 @@ impl Options {
     ghost use Rattle.osol_grammar.specs.Options as said;
     ghost use Rattle.osol_grammar.specs.Meaning.{IsNoOptions};
 
-    /// No options: no job's name, no time, 10,000 nodes, 1,000,000 turns, no rounds and no names.
+    /// No options: no job's name, no time, 10,000 nodes, 1,000,000 turns, no rounds, no names, and the whole form.
     pub fn none() -> Options
         ensures { IsNoOptions result }
     {
@@ -33,6 +35,7 @@ impl Options {
             turns: Limit::Turns.row().default,
             rounds: Limit::Rounds.row().default,
             names: Limit::Names.row().default,
+            form: Limit::Form.row().default,
         }
     }
 
@@ -45,6 +48,7 @@ impl Options {
             Limit::Turns => self.turns,
             Limit::Rounds => self.rounds,
             Limit::Names => self.names,
+            Limit::Form => self.form,
         }
     }
 
@@ -57,6 +61,7 @@ impl Options {
             Limit::Turns => self.turns = amount,
             Limit::Rounds => self.rounds = amount,
             Limit::Names => self.names = amount,
+            Limit::Form => self.form = amount,
         }
     }
 }

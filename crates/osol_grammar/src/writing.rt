@@ -3,6 +3,7 @@
 ghost use Rattle.std.specs.Prelude.{◌≡◌, [], OnOk, IfOk};
 ghost use Rattle.tree_grammar.specs.Elements.{none, nodes_events};
 ghost use Rattle.document_tags.specs.Telling.{Told, whole_element};
+ghost use Rattle.osol_grammar.specs.Limits.{form_word, amount_text};
 ghost use Rattle.osol_grammar.specs.Writing as writing;
 
 use crate::limit::{LIMITS, Limit};
@@ -51,13 +52,35 @@ fn is_told(options: &Options, limit: Limit) -> bool
     row.always || options.amount(limit) != row.default
 }
 
+/// The word that says a form.
+fn word_of(form: u32) -> &'static [u8]
+    ensures { result.now ≡ form_word form }
+{
+    match form {
+        0 => b"whole",
+        _ => b"rows",
+    }
+}
+
+/// The text that says an amount.
+fn text_of(limit: Limit, amount: u32, digits: &mut Buffer) -> &[u8]
+    ensures { result.now ≡ amount_text limit amount }
+{
+    match limit {
+        Limit::Form => word_of(amount),
+        Limit::Nodes | Limit::Turns | Limit::Rounds | Limit::Names => {
+            digits.format(amount).as_bytes()
+        }
+    }
+}
+
 /// Tells the option of a limit.
 fn tell_limit(b: &mut TreeBuilder, options: &Options, limit: Limit) -> Result<(), Memory>
     requires { b.old.attributes ≡ [] }
     ensures { OnOk result (Told b.old b.new (λ k. nodes_events (writing.limit_node options.now limit none) k)) }
 {
-    let mut amount = Buffer::new();
-    let value = amount.format(options.amount(limit)).as_bytes();
+    let mut digits = Buffer::new();
+    let value = text_of(limit, options.amount(limit), &mut digits);
     attribute(b, b"name", limit.row().name)?;
     attribute(b, b"value", value)?;
     open_after(b, b"solverOption", b"solver", b"os_cert")?;
@@ -94,7 +117,7 @@ fn tell_options(alloc: Global, b: &mut TreeBuilder, options: &Options) -> Result
 }
 
 /// The text of options: a document with the namespace of the option language, the job's name and the time where there are any, and the
-/// option of each limit, those of rounds and of names only where there may be some.
+/// option of each limit, those of rounds, of names and of the form only where they aren't as without them.
 pub fn encode(alloc: Global, options: &Options) -> Result<Text, Memory>
     ensures { IfOk result (λ text. text ≡ writing.options_text options.now) }
 {

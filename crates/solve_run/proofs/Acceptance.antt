@@ -27,7 +27,9 @@ use Rattle.osrl_grammar.specs.Back.{IsBareOrNone, CauseComesBack, ClaimComesBack
 use Rattle.document_checker.specs.declared.documents.Kind.{Kind}
 use Rattle.document_checker.specs.Documents.{kind, IsAcceptedText}
 use Rattle.certificate.specs.GivenUp.{given_up}
-use Rattle.solve_run.specs.Judging.{IsShownClaim, HasFewRounds, IsFinal, IsJudged, checked}
+use Rattle.solve_run.specs.Judging.{IsShownClaim, HasFewRounds, IsFinal, IsJudged, wide_check, checked}
+use Rattle.solve_run.specs.RowForms.{claim_of_rows, IsFormed}
+use Rattle.solve_run.proofs.RowForms.{rows_given, rows_final}
 use Rattle.solve_run.specs.Closings.{error_report, claim_report, with_message, noted, IsShort, IsFitted, IsToldOf}
 use Rattle.solve_run.specs.JobAnswers.{TakesHanded, Solved, IsNoteOfJob, IsJobOf, IsBestOfSearch, AnswersJob, no_options, no_instance, handed, solved, gave_up}
 use Rattle.solve_run.specs.Untils.{job_terms, renamed}
@@ -47,20 +49,20 @@ use Rattle.solve_run.proofs.Runs.{claim_short, wanting}
 
 -- ---- claims
 
--- what is shown, and accepted where it is final
+-- it is shown, or final and accepted
 pub record IsGood (p : Parts) (job : Option (List ℕ)) (c : Claim) : Type 0 where
-  pub shown : IsShownClaim p c
+  pub shown : (IsFinal c → ⊥) → IsShownClaim p c
   pub accepted : IsFinal c → Accepts (problem p) (Means.claim c)
   pub short : IsShort job c
 
-accepts_of : (p : Parts) (c : Claim) (k : Kind) → IsShownClaim p c → (IsFinal c → Accepts (problem p) (Means.claim c)) → kind c ≡ Some k → Accepts (problem p) (Means.claim c)
+accepts_of : (p : Parts) (c : Claim) (k : Kind) → ((IsFinal c → ⊥) → IsShownClaim p c) → (IsFinal c → Accepts (problem p) (Means.claim c)) → kind c ≡ Some k → Accepts (problem p) (Means.claim c)
 accepts_of p (Has.Optimal x vs cs) k s final is = final tt
 accepts_of p (Has.Infeasible cert) k s final is = final tt
 accepts_of p (Has.Unbounded x vs cs r) k s final is = final tt
-accepts_of p (Has.BestSoFar x vs c None) k s final is = best_accepted p x vs c s
-accepts_of p (Has.BestSoFar x vs c (Some b)) k s final is = absurd (none_bounded p (Has.BestSoFar x vs c (Some b)) b s refl)
+accepts_of p (Has.BestSoFar x vs c None) k s final is = best_accepted p x vs c (s (λ f. f))
+accepts_of p (Has.BestSoFar x vs c (Some b)) k s final is = absurd (none_bounded p (Has.BestSoFar x vs c (Some b)) b (s (λ f. f)) refl)
 accepts_of p (Has.Unsure c None) k s final is = absurd (cc)
-accepts_of p (Has.Unsure c (Some b)) k s final is = absurd (none_bounded p (Has.Unsure c (Some b)) b s refl)
+accepts_of p (Has.Unsure c (Some b)) k s final is = absurd (none_bounded p (Has.Unsure c (Some b)) b (s (λ f. f)) refl)
 
 -- a claim of a search that isn't final carries no certificate
 no_certificates : (p : Parts) (c : Claim) → IsShownClaim p c → (IsFinal c → ⊥) → HasFewRounds c
@@ -75,21 +77,33 @@ no_certificates p (Has.Unsure c (Some b)) s other = absurd (none_bounded p (Has.
 module _ (p : Parts) (job : Option (List ℕ)) (valid : IsValid p) (name : IsShortName job) where
   -- a claim that isn't final
   pub other_good : (c : Claim) → IsShownClaim p c → (IsFinal c → ⊥) → IsGood p job c
-  other_good c s other = record { shown = s; accepted = λ f. absurd (other f); short = claim_short p job c valid name s other }
+  other_good c s other = record { shown = λ g. s; accepted = λ f. absurd (other f); short = claim_short p job c valid name s other }
 
   given_good : (c : Claim) (cause : Cause) → IsShownClaim p c → IsGood p job (given_up c cause)
   given_good c cause s = other_good (given_up c cause) (given_shown p c cause s) (given_other c cause)
 
   fitted_good : (c told : Claim) → IsShownClaim p c → (IsFinal c → Accepts (problem p) (Means.claim c)) → IsFitted job c told → IsGood p job told
-  fitted_good c told s final (inl (short, same)) = subst (IsGood p job) (sym same) (record { shown = s; accepted = final; short = short })
+  fitted_good c told s final (inl (short, same)) = subst (IsGood p job) (sym same) (record { shown = λ g. s; accepted = final; short = short })
   fitted_good c told s final (inr (long, same)) = subst (IsGood p job) (sym same) (given_good c causes.Length s)
 
-  pub closed_good : (turns : ℕ) (found told : Claim) → IsShownClaim p found → IsToldOf p job turns found told → IsGood p job told
-  closed_good turns found told s c = by c.width c.judged c.fitted
+  -- with rows alone, where it is accepted so
+  rows_good : (c told : Claim) → IsShownClaim p c → IsFinal c → Accepts (problem p) (Means.claim (claim_of_rows (length p.vars) c)) → IsFitted job (claim_of_rows (length p.vars) c) told → IsGood p job told
+  rows_good c told s final fine (inl (short, same)) = subst (IsGood p job) (sym same) (record { shown = λ other. absurd (other (rows_final (length p.vars) c final)); accepted = λ f. fine; short = short })
+  rows_good c told s final fine (inr (long, same)) = subst (IsGood p job) (sym (same ∙ rows_given (length p.vars) c causes.Length)) (given_good c causes.Length s)
+
+  formed_good : (form : ℕ) (c formed told : Claim) → IsShownClaim p c → (IsFinal c → Accepts (problem p) (Means.claim c)) → IsFormed p form c formed → IsFitted job formed told → IsGood p job told
+  formed_good form c formed told s final (inl (one, fine, same)) fitted = rows_good c told s fine.0 fine.1 (subst (λ (d : Claim). IsFitted job d told) same fitted)
+  formed_good form c formed told s final (inr (other_form, same)) fitted = fitted_good c told s final (subst (λ (d : Claim). IsFitted job d told) same fitted)
+
+  pub closed_good : (form turns : ℕ) (found told : Claim) → IsShownClaim p found → IsToldOf p job form turns found told → IsGood p job told
+  closed_good form turns found told s c = by c.width c.judged c.forms
     where
-      by : (width : Option ℕ) → IsJudged p found width → IsFitted job (checked found turns width) told → IsGood p job told
-      by None judged fitted = fitted_good found told s judged fitted
-      by (Some n) judged fitted = let g = given_good found _ s in fitted_good (checked found turns (Some n)) told g.shown g.accepted fitted
+      by : (width : Option ℕ) → IsJudged p found width → IsFormed p form (checked found turns width) c.formed → IsGood p job told
+      by None judged forms = formed_good form found c.formed told s judged forms c.fitted
+      by (Some n) judged forms =
+          let cause = wide_check n turns in
+          let g = given_good found cause s in
+          formed_good form (given_up found cause) c.formed told (given_shown p found cause s) g.accepted forms c.fitted
 
 -- a claim that is taken, or what is told of it, is accepted, and not too long
 told_good : (p : Parts) (job : Option (List ℕ)) (c told : Claim) → IsValid p → IsShortName job → Accepts (problem p) (Means.claim c) → IsFitted job c told → ((k : Kind) → kind told ≡ Some k → Accepts (problem p) (Means.claim told)) × IsShort job told
@@ -122,7 +136,7 @@ module _ (names : (bytes : List ℕ) (o : Options) → IsOptionsText bytes o →
   solved_good osil osol stop timed looks r s =
       let g = s.given in
       let shown = shows (problem g.parts) (job_terms g.options stop) s.outcome _ (numbers g.parts) (searched s.ends) in
-      let good = closed_good g.parts g.options.job g.valid (short_name g.options.job (names osol g.options g.options_text)) s.turns s.found s.told (record { outcome = renamed timed s.outcome; tells = s.tells; shown = renamed_shown (problem g.parts) timed s.outcome shown }) s.closed in
+      let good = closed_good g.parts g.options.job g.valid (short_name g.options.job (names osol g.options g.options_text)) g.options.form s.turns s.found s.told (record { outcome = renamed timed s.outcome; tells = s.tells; shown = renamed_shown (problem g.parts) timed s.outcome shown }) s.closed in
       record {
         job = g.options.job;
         bare = bare_name g.options.job (names osol g.options g.options_text);

@@ -13,6 +13,7 @@ pub mod FaultMessages
 pub mod HandedMessages
 pub mod RoundLimits
 pub mod RoundTrips
+pub mod RowForms
 pub mod HandedClaims
 pub mod Closings
 pub mod Runs

@@ -21,6 +21,8 @@ use Rattle.osil_grammar.specs.Reading.{IsInstanceText}
 use Rattle.osil_grammar.specs.Reading as instances
 use Rattle.osrl_writing.specs.declared.report.Report.{Report}
 use Rattle.solve_run.specs.Judging.{IsWideAt, IsJudged, checked}
+use Rattle.solve_run.specs.RowForms.{IsFormed}
+use Rattle.solve_run.proofs.RowForms.{formed_once}
 use Rattle.solve_run.specs.Closings.{error_report, claim_report, noted, IsShort, IsFitted, IsToldOf}
 use Rattle.solve_run.specs.Handing.{HandsInClaim, HandsInNone}
 use Rattle.solve_run.specs.JobAnswers.{RefusesOptions, RefusesInstance, AreJobTexts, TakesHanded, Solved, GaveUp, MayStop, AnswersJob, no_options, no_instance, handed, solved, gave_up}
@@ -96,10 +98,11 @@ module _ (laws : SearchesAreOne) where
   fitted_once job c s t (inr (long, same)) (inl (short, same_too)) = absurd (long short)
   fitted_once job c s t (inr (long, same)) (inr (long_too, same_too)) = same ∙ sym same_too
 
-  closed_once : (p : Parts) (job : Option (List ℕ)) (turns : ℕ) (c s t : Claim) → IsToldOf p job turns c s → IsToldOf p job turns c t → s ≡ t
-  closed_once p job turns c s t a b =
+  closed_once : (p : Parts) (job : Option (List ℕ)) (form turns : ℕ) (c s t : Claim) → IsToldOf p job form turns c s → IsToldOf p job form turns c t → s ≡ t
+  closed_once p job form turns c s t a b =
       let width = judged_once p c a.width b.width a.judged b.judged in
-      fitted_once job (checked c turns b.width) s t (subst (λ (w : Option ℕ). IsFitted job (checked c turns w) s) width a.fitted) b.fitted
+      let formed = formed_once p form (checked c turns b.width) a.formed b.formed (subst (λ (w : Option ℕ). IsFormed p form (checked c turns w) a.formed) width a.forms) b.forms in
+      fitted_once job b.formed s t (subst (λ (d : Claim). IsFitted job d s) formed a.fitted) b.fitted
 
   -- a search of an instance that ended, and what is told of it
   record Ended (osol : List ℕ) (o : Options) (p : Parts) (stop : Option ℕ) (timed : Option Frac) (looks : ℕ) (r : Report) : Type 0 where
@@ -109,7 +112,7 @@ module _ (laws : SearchesAreOne) where
     found : Claim
     tells : ClaimTells found (renamed timed outcome)
     told : Claim
-    closed : IsToldOf p o.job turns found told
+    closed : IsToldOf p o.job o.form turns found told
     note : Option (List ℕ)
     none_handed : HandsInNone osol p note
     is : r ≡ noted note (claim_report o.job told)
@@ -122,8 +125,8 @@ module _ (laws : SearchesAreOne) where
       let both = laws.once (problem p) (job_terms o stop) a.outcome b.outcome _ _ (laws.numbers p) a.ends b.ends in
       let found = claim_once laws.fractions a.found b.found (renamed timed b.outcome) (subst (λ (c : Outcome). ClaimTells a.found (renamed timed c)) both.0 a.tells) b.tells in
       let turns = ap (λ (c : Clock). c.turns) both.1 in
-      let closed : IsToldOf p o.job b.turns b.found a.told = subst (λ (t : ℕ). IsToldOf p o.job t b.found a.told) turns (subst (λ (c : Claim). IsToldOf p o.job a.turns c a.told) found a.closed) in
-      let told = closed_once p o.job b.turns b.found a.told b.told closed b.closed in
+      let closed : IsToldOf p o.job o.form b.turns b.found a.told = subst (λ (t : ℕ). IsToldOf p o.job o.form t b.found a.told) turns (subst (λ (c : Claim). IsToldOf p o.job o.form a.turns c a.told) found a.closed) in
+      let told = closed_once p o.job o.form b.turns b.found a.told b.told closed b.closed in
       (a.is ∙ ap₂ noted (once a.note b.note a.none_handed b.none_handed) (ap (claim_report o.job) told) ∙ sym b.is, ap (λ (c : Clock). c.looks) both.1)
 
   module _ (options : OptionsAreOne) (instances_one : InstancesAreOne) (handed_one : HandedAreOne) where
@@ -144,34 +147,34 @@ module _ (laws : SearchesAreOne) where
         let fitted : IsFitted b.given.options.job b.claim a.told = subst (λ (c : Claim). IsFitted b.given.options.job c a.told) claim (subst (λ (j : Option (List ℕ)). IsFitted j a.claim a.told) job a.fitted) in
         a.is ∙ ap₂ claim_report job (fitted_once b.given.options.job b.claim a.told b.told fitted b.fitted) ∙ sym b.is
 
-    -- a search that ends with a claim that is refused for no width, and isn't too long, is told
-    complete : (osil osol : List ℕ) (o : Options) (p : Parts) (oc : Outcome) (found : Claim) (c : Clock) (r : Report) → IsOptionsText osol o → IsInstanceText osil p → Search (problem p) (job_terms o None) oc c → ClaimTells found oc
-        → ((q : Refused) (n : ℕ) → IsRefusedFor (problem p) (Means.claim found) q → IsWideAt q n → ⊥) → IsShort o.job found → (looks : ℕ) → Solved osil osol None None looks r → (note : Option (List ℕ)) × HandsInNone osol p note × (r ≡ noted note (claim_report o.job found))
-    complete osil osol o p oc found c r options_text instance_text ends tells fits short looks s =
+    -- a search that ends with a claim that is refused for no width, and isn't too long in its form, is told
+    complete : (osil osol : List ℕ) (o : Options) (p : Parts) (oc : Outcome) (found formed : Claim) (c : Clock) (r : Report) → IsOptionsText osol o → IsInstanceText osil p → Search (problem p) (job_terms o None) oc c → ClaimTells found oc
+        → ((q : Refused) (n : ℕ) → IsRefusedFor (problem p) (Means.claim found) q → IsWideAt q n → ⊥) → IsFormed p o.form found formed → IsShort o.job formed → (looks : ℕ) → Solved osil osol None None looks r → (note : Option (List ℕ)) × HandsInNone osol p note × (r ≡ noted note (claim_report o.job formed))
+    complete osil osol o p oc found formed c r options_text instance_text ends tells fits forms short looks s =
         let here = ended osil osol None None looks r s in
         let moved_here = subst (λ (x : Options). Ended osol x p None None looks r) (options.once osol s.given.options o s.given.options_text options_text)
         (subst (λ (q : Parts). Ended osol s.given.options q None None looks r) (instances_one.once osil s.given.parts p s.given.instance_text instance_text) here) in
         let both = laws.once (problem p) (job_terms o None) moved_here.outcome oc _ c (laws.numbers p) moved_here.ends ends in
         let same = claim_once laws.fractions moved_here.found found oc (subst (ClaimTells moved_here.found) both.0 moved_here.tells) tells in
-        let closed : IsToldOf p o.job moved_here.turns found moved_here.told = subst (λ (x : Claim). IsToldOf p o.job moved_here.turns x moved_here.told) same moved_here.closed in
-        (moved_here.note, moved_here.none_handed, moved_here.is ∙ ap (λ (c : Claim). noted moved_here.note (claim_report o.job c)) (by moved_here.turns moved_here.told closed.width closed.judged closed.fitted))
+        let closed : IsToldOf p o.job o.form moved_here.turns found moved_here.told = subst (λ (x : Claim). IsToldOf p o.job o.form moved_here.turns x moved_here.told) same moved_here.closed in
+        (moved_here.note, moved_here.none_handed, moved_here.is ∙ ap (λ (c : Claim). noted moved_here.note (claim_report o.job c)) (by moved_here.turns moved_here.told closed.width closed.formed closed.judged closed.forms closed.fitted))
       where
-        by : (turns : ℕ) (told : Claim) (width : Option ℕ) → IsJudged p found width → IsFitted o.job (checked found turns width) told → told ≡ found
-        by turns told None judged (inl (few, same)) = same
-        by turns told None judged (inr (long, same)) = absurd (long short)
-        by turns told (Some n) (final, q, refused, wide) fitted = absurd (fits q n refused wide)
+        by : (turns : ℕ) (told : Claim) (width : Option ℕ) (shaped : Claim) → IsJudged p found width → IsFormed p o.form (checked found turns width) shaped → IsFitted o.job shaped told → told ≡ formed
+        by turns told None shaped judged form (inl (few, same)) = same ∙ formed_once p o.form found shaped formed form forms
+        by turns told None shaped judged form (inr (long, same)) = absurd (long (subst (IsShort o.job) (sym (formed_once p o.form found shaped formed form forms)) short))
+        by turns told (Some n) shaped (final, q, refused, wide) form fitted = absurd (fits q n refused wide)
 
-    pub told_at_end : (osil osol : List ℕ) (o : Options) (p : Parts) (oc : Outcome) (found : Claim) (c : Clock) (r : Report) → IsOptionsText osol o → IsInstanceText osil p → Search (problem p) (job_terms o None) oc c → ClaimTells found oc → ((q : Refused) (n : ℕ) → IsRefusedFor (problem p) (Means.claim found) q → IsWideAt q n → ⊥) → IsShort o.job found → AnswersJob osil osol false r
-        → ((note : Option (List ℕ)) × HandsInNone osol p note × (r ≡ noted note (claim_report o.job found))) ⊎ TakesHanded osil osol r ⊎ GaveUp osil osol r ⊎ ((s : Frac) × (looks : ℕ) × (o.seconds ≡ Some s) × Solved osil osol (Some looks) (Some s) looks r)
-    told_at_end osil osol o p oc found c r options_text instance_text ends tells fits short (no_options a) = absurd (no_options_given options instances_one osol o r a options_text)
-    told_at_end osil osol o p oc found c r options_text instance_text ends tells fits short (no_instance a) = absurd (no_instance_given options instances_one osil osol p r a instance_text)
-    told_at_end osil osol o p oc found c r options_text instance_text ends tells fits short (handed h) = inr (inl h)
-    told_at_end osil osol o p oc found c r options_text instance_text ends tells fits short (solved stop looks None may s) = inl (complete osil osol o p oc found c r options_text instance_text ends tells fits short looks (subst (λ (x : Option ℕ). Solved osil osol x None looks r) (none may) s))
+    pub told_at_end : (osil osol : List ℕ) (o : Options) (p : Parts) (oc : Outcome) (found formed : Claim) (c : Clock) (r : Report) → IsOptionsText osol o → IsInstanceText osil p → Search (problem p) (job_terms o None) oc c → ClaimTells found oc → ((q : Refused) (n : ℕ) → IsRefusedFor (problem p) (Means.claim found) q → IsWideAt q n → ⊥) → IsFormed p o.form found formed → IsShort o.job formed → AnswersJob osil osol false r
+        → ((note : Option (List ℕ)) × HandsInNone osol p note × (r ≡ noted note (claim_report o.job formed))) ⊎ TakesHanded osil osol r ⊎ GaveUp osil osol r ⊎ ((s : Frac) × (looks : ℕ) × (o.seconds ≡ Some s) × Solved osil osol (Some looks) (Some s) looks r)
+    told_at_end osil osol o p oc found formed c r options_text instance_text ends tells fits forms short (no_options a) = absurd (no_options_given options instances_one osol o r a options_text)
+    told_at_end osil osol o p oc found formed c r options_text instance_text ends tells fits forms short (no_instance a) = absurd (no_instance_given options instances_one osil osol p r a instance_text)
+    told_at_end osil osol o p oc found formed c r options_text instance_text ends tells fits forms short (handed h) = inr (inl h)
+    told_at_end osil osol o p oc found formed c r options_text instance_text ends tells fits forms short (solved stop looks None may s) = inl (complete osil osol o p oc found formed c r options_text instance_text ends tells fits forms short looks (subst (λ (x : Option ℕ). Solved osil osol x None looks r) (none may) s))
       where
         none : MayStop false stop looks → stop ≡ None
         none (inl is) = is
         none (inr (asked, is)) = absurd (cc)
-    told_at_end osil osol o p oc found c r options_text instance_text ends tells fits short (solved stop looks (Some x) (says, at) s) =
+    told_at_end osil osol o p oc found formed c r options_text instance_text ends tells fits forms short (solved stop looks (Some x) (says, at) s) =
         let its = options.once osol says.0 o says.1 options_text in
         inr (inr (inr (x, looks, sym (ap (λ (q : Options). q.seconds) its) ∙ says.2, subst (λ (k : Option ℕ). Solved osil osol k (Some x) looks r) at s)))
-    told_at_end osil osol o p oc found c r options_text instance_text ends tells fits short (gave_up a) = inr (inr (inl a))
+    told_at_end osil osol o p oc found formed c r options_text instance_text ends tells fits forms short (gave_up a) = inr (inr (inl a))

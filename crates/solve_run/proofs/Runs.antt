@@ -36,6 +36,7 @@ use Rattle.osrl_writing.specs.declared.told_names.NameLists.{NameLists}
 use Rattle.osrl_writing.specs.declared.report.Report.{Report}
 use Rattle.solve_run.specs.declared.document.Document.{Document}
 use Rattle.solve_run.specs.Judging.{IsShownClaim, AreFewRounds, HasFewRounds, IsFinal, IsJudged, checked}
+use Rattle.solve_run.specs.RowForms.{IsFormed}
 use Rattle.solve_run.specs.Closings.{claim_report, error_report, noted, IsShort, IsFitted, IsToldOf}
 use Rattle.solve_run.specs.Handing.{HandsInClaim, HandsInNone}
 use Rattle.solve_run.specs.Untils.{job_terms, stop_by, looks_by, is_stopped_by, MayTime, left, renamed, FindsUntil}
@@ -63,13 +64,14 @@ claim_short p job (Has.Unsure c None) valid name s other = unsure_short job name
 claim_short p job (Has.Unsure c (Some b)) valid name s other = absurd (none_bounded p (Has.Unsure c (Some b)) b s refl)
 
 -- what is told of it is the claim itself
-kept : (p : Parts) (job : Option (List ℕ)) (turns : ℕ) (found told : Claim) → (IsFinal found → ⊥) → IsShort job found → IsToldOf p job turns found told → told ≡ found
-kept p job turns found told other short c = by c.width c.judged c.fitted
+kept : (p : Parts) (job : Option (List ℕ)) (form turns : ℕ) (found told : Claim) → (IsFinal found → ⊥) → IsShort job found → IsToldOf p job form turns found told → told ≡ found
+kept p job form turns found told other short c = by c.width c.judged c.forms c.fitted
   where
-    by : (width : Option ℕ) → IsJudged p found width → IsFitted job (checked found turns width) told → told ≡ found
-    by None judged (inl (s, same)) = same
-    by None judged (inr (long, same)) = absurd (long short)
-    by (Some n) judged fitted = absurd (other judged.0)
+    by : (width : Option ℕ) → IsJudged p found width → IsFormed p form (checked found turns width) c.formed → IsFitted job c.formed told → told ≡ found
+    by None judged (inl (one, fine, is)) fitted = absurd (other fine.0)
+    by None judged (inr (other_form, is)) (inl (s, same)) = same ∙ is
+    by None judged (inr (other_form, is)) (inr (long, same)) = absurd (long (subst (IsShort job) (sym is) short))
+    by (Some n) judged forms fitted = absurd (other judged.0)
 
 -- a claim for want of memory isn't final
 pub wanting : (c : Claim) (best : Option Found) → ClaimTells c (early best Memory) → IsFinal c → ⊥
@@ -97,12 +99,12 @@ module _ (osil osol : List ℕ) (o : Options) (p : Parts) (valid : IsValid p) (o
 
   module _ (found : Claim) (turns n : ℕ) (doc : Document) (killed : Bool) where
     -- memory was wanting in the search: the claim of its moment is told
-    wanted : (timed : Option Frac) (oc : Outcome) (m : SearchMoment) → ClaimTells found (renamed timed oc) → is_killed oc ≡ is_stopped_by killed timed → IsShown (problem p) oc → ComesInSearch (problem p) (job_terms o (stop_by n killed timed)) m → early m.best Memory ≡ oc → ClosesClaim p ns note o.job turns found doc → TellsOutcome osil osol n killed doc
+    wanted : (timed : Option Frac) (oc : Outcome) (m : SearchMoment) → ClaimTells found (renamed timed oc) → is_killed oc ≡ is_stopped_by killed timed → IsShown (problem p) oc → ComesInSearch (problem p) (job_terms o (stop_by n killed timed)) m → early m.best Memory ≡ oc → ClosesClaim p ns note o.job o.form turns found doc → TellsOutcome osil osol n killed doc
     wanted (Some s) oc m tells stopped shown comes is closes = let went : true ≡ false = sym stopped ∙ ap is_killed (sym is) ∙ memory_killed m.best in absurd (cc)
     wanted None oc m tells stopped shown comes is closes =
         let early_told : ClaimTells found (early m.best Memory) = subst (ClaimTells found) (sym is) tells in
         let other = wanting found m.best early_told in
-        let same = kept p o.job turns found closes.told other (claim_short p o.job found valid (short_name o.job name) (record { outcome = oc; tells = tells; shown = shown }) other) closes.closed in
+        let same = kept p o.job o.form turns found closes.told other (claim_short p o.job found valid (short_name o.job name) (record { outcome = oc; tells = tells; shown = shown }) other) closes.closed in
         let went : killed ≡ false = sym stopped ∙ ap is_killed (sym is) ∙ memory_killed m.best in
         record {
           report = noted note (claim_report o.job closes.told);
@@ -124,7 +126,7 @@ module _ (osil osol : List ℕ) (o : Options) (p : Parts) (valid : IsValid p) (o
         }
 
     module _ (timed : Option Frac) (may : MayTime o killed timed) where
-      ended : (oc : Outcome) → ClaimTells found (renamed timed oc) → Search (problem p) (job_terms o (stop_by n killed timed)) oc (clock_after turns (looks_by n killed timed)) → ClosesClaim p ns note o.job turns found doc → TellsOutcome osil osol n killed doc
+      ended : (oc : Outcome) → ClaimTells found (renamed timed oc) → Search (problem p) (job_terms o (stop_by n killed timed)) oc (clock_after turns (looks_by n killed timed)) → ClosesClaim p ns note o.job o.form turns found doc → TellsOutcome osil osol n killed doc
       ended oc tells ends closes = record {
         report = noted note (claim_report o.job closes.told);
         reports = solved timed (may_out killed timed may) (record {
@@ -144,7 +146,7 @@ module _ (osil osol : List ℕ) (o : Options) (p : Parts) (valid : IsValid p) (o
         is = named_answer osil osol o options_text p instance_text ns due (noted note (claim_report o.job closes.told)) doc closes.is;
       }
 
-      answered : (oc of : Outcome) (d : Clock) → of ≡ oc → d ≡ clock_after turns (looks_by n killed timed) → ClaimTells found (renamed timed oc) → is_killed oc ≡ is_stopped_by killed timed → IsShown (problem p) oc → IsSearchAnswer (problem p) (job_terms o (stop_by n killed timed)) of d → ClosesClaim p ns note o.job turns found doc → TellsOutcome osil osol n killed doc
+      answered : (oc of : Outcome) (d : Clock) → of ≡ oc → d ≡ clock_after turns (looks_by n killed timed) → ClaimTells found (renamed timed oc) → is_killed oc ≡ is_stopped_by killed timed → IsShown (problem p) oc → IsSearchAnswer (problem p) (job_terms o (stop_by n killed timed)) of d → ClosesClaim p ns note o.job o.form turns found doc → TellsOutcome osil osol n killed doc
       answered oc of d e f tells stopped shown (searched s) closes =
           ended oc tells (subst (λ (x : Outcome). Search (problem p) (job_terms o (stop_by n killed timed)) x (clock_after turns (looks_by n killed timed))) e
           (subst (λ (x : Clock). Search (problem p) (job_terms o (stop_by n killed timed)) of x) f s)) closes
@@ -167,17 +169,17 @@ AreFewOf n oc = All (λ (c : Certificate). length c.rounds ≤ n) (said_certific
 module _ (p : Parts) (o : Options) (Came : List Bool → Type 0) (found : Claim) (turns : ℕ) (f : FindsUntil p o Came found turns) where
   pub ran : {E : Type 0} (osil osol : List ℕ) (ns : NameLists) (note : Option (List ℕ)) (result : Result Document E)
       → IsValid p → IsNameOrNone o.job → IsOptionsText osol o → IsInstanceText osil p → AreDueNames osil o ns → HandsInNone osol p note → IsShown (problem p) f.outcome
-      → IfOk result (IsClaimTold p ns note o.job turns found) → Ran Came osil osol (TellsDocument osil osol result)
+      → IfOk result (IsClaimTold p ns note o.job o.form turns found) → Ran Came osil osol (TellsDocument osil osol result)
   ran {E} osil osol ns note result valid name options_text instance_text due none_handed shown told =
       record {
         went_on = f.went_on;
         killed = f.killed;
         came = f.came;
         looks = inr (record { given = given osil osol o p valid options_text name instance_text ns due note none_handed; turns = turns; outcome = f.outcome; timed = f.timed; may = f.may; answers = f.answer });
-        tells = IfOk-weaker result (IsClaimTold p ns note o.job turns found) (TellsOutcome osil osol f.went_on f.killed) by told;
+        tells = IfOk-weaker result (IsClaimTold p ns note o.job o.form turns found) (TellsOutcome osil osol f.went_on f.killed) by told;
       }
     where
-      by : (doc : Document) → IsClaimTold p ns note o.job turns found doc → TellsOutcome osil osol f.went_on f.killed doc
+      by : (doc : Document) → IsClaimTold p ns note o.job o.form turns found doc → TellsOutcome osil osol f.went_on f.killed doc
       by doc (inl closes) = answered osil osol o p valid options_text name instance_text ns due note none_handed found turns f.went_on doc f.killed f.timed f.may f.outcome f.outcome (clock_after turns (looks_by f.went_on f.killed f.timed)) refl refl f.tells f.stopped shown f.answer closes
       by doc (inr memory) = untold osil osol f.went_on f.killed o.job doc (inr (o, options_text, refl)) memory
 

@@ -70,7 +70,7 @@ pub record Solved (osil osol : List ℕ) (stop : Option ℕ) (timed : Option Fra
   pub found : Claim
   pub tells : ClaimTells found (renamed timed outcome)
   pub told : Claim
-  pub closed : IsToldOf given.parts given.options.job turns found told
+  pub closed : IsToldOf given.parts given.options.job given.options.form turns found told
   pub numbers : ClaimComesBack (Some told)
   pub note : Option (List ℕ)
   pub handed : HandsInNone osol given.parts note

@@ -12,6 +12,7 @@ pub use Rattle.cert_checker.specs.Refusals
 pub use Rattle.document_checker.specs.Documents
 pub mod Untils
 pub mod Judging
+pub mod RowForms
 pub mod Closings
 pub mod Handing
 pub mod JobAnswers

@@ -140,12 +140,12 @@ HasCauses (BestSoFar x vs c b) = CauseComesBack c
 HasCauses (Unsure c b) = CauseComesBack c
 
 -- what is told of a claim that was found, closed, with these names and this message
-pub record ClosesClaim (p : Parts) (ns : NameLists) (note job : Option (List ℕ)) (turns : ℕ) (found : Claim) (doc : Document) : Type 0 where
+pub record ClosesClaim (p : Parts) (ns : NameLists) (note job : Option (List ℕ)) (form turns : ℕ) (found : Claim) (doc : Document) : Type 0 where
   pub told : Claim
-  pub closed : IsToldOf p job turns found told
+  pub closed : IsToldOf p job form turns found told
   pub numbers : ClaimComesBack (Some told)
   pub is : IsNamedDocument ns (noted note (claim_report job told)) doc
 
 -- the document tells what was found, or memory was wanting
-abbrev pub IsClaimTold : (p : Parts) (ns : NameLists) (note job : Option (List ℕ)) (turns : ℕ) (found : Claim) → Document → Type 0
-IsClaimTold p ns note job turns found doc = ClosesClaim p ns note job turns found doc ⊎ IsMemoryDocument job doc
+abbrev pub IsClaimTold : (p : Parts) (ns : NameLists) (note job : Option (List ℕ)) (form turns : ℕ) (found : Claim) → Document → Type 0
+IsClaimTold p ns note job form turns found doc = ClosesClaim p ns note job form turns found doc ⊎ IsMemoryDocument job doc

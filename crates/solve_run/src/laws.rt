@@ -20,6 +20,7 @@ ghost use Rattle.cert_checker.specs.declared.refused.Refused.{Refused};
 ghost use Rattle.cert_checker.specs.Refusals.{IsRefusedFor};
 ghost use Rattle.document_checker.specs.Documents.{kind, IsAcceptedText};
 ghost use Rattle.solve_run.specs.Judging.{IsFinal, IsWideAt};
+ghost use Rattle.solve_run.specs.RowForms.{IsFormed};
 ghost use Rattle.solve_run.specs.Closings.{IsShort, claim_report, noted};
 ghost use Rattle.solve_run.specs.Handing.{HandsInNone};
 ghost use Rattle.solve_run.specs.JobAnswers.{RefusesOptions, RefusesInstance, TakesHanded, Solved, GaveUp, AnswersJob, TellsReport, Right};
@@ -119,11 +120,11 @@ pub fn found_claims_are_refused_for_width_alone()
 }
 
 /// Law: where the search of a job that isn't asked to stop ends with a claim that is refused for no width, and whose document
-/// isn't too long, the job's answer tells it, with the message about a result that is handed in and isn't taken, if there is such;
+/// isn't too long in the form that is asked for, the job's answer tells it so, with the message about a result that is handed in and isn't taken, if there is such;
 /// or such a result is taken, or memory is wanting, or a time that its options say was over at a look. Such is each claim that a point is optimal, that none is feasible or that points
 /// have no best value, and that the checker accepts.
 pub fn ended_searches_are_told()
-    ensures { (osil osol : List ℕ) (o : kinds.Options) (p : Parts) (oc : Outcome) (found : Claim) (c : Clock) (r : Report) → IsOptionsText osol o → IsInstanceText osil p → Search (problem p) (job_terms o None) oc c → ClaimTells found oc → ((q : Refused) (n : ℕ) → IsRefusedFor (problem p) (Means.claim found) q → IsWideAt q n → ⊥) → IsShort o.job found → AnswersJob osil osol false r → ((note : Option (List ℕ)) × HandsInNone osol p note × (r ≡ noted note (claim_report o.job found))) ⊎ TakesHanded osil osol r ⊎ GaveUp osil osol r ⊎ ((s : Frac) × (looks : ℕ) × (o.seconds ≡ Some s) × Solved osil osol (Some looks) (Some s) looks r) }
+    ensures { (osil osol : List ℕ) (o : kinds.Options) (p : Parts) (oc : Outcome) (found formed : Claim) (c : Clock) (r : Report) → IsOptionsText osol o → IsInstanceText osil p → Search (problem p) (job_terms o None) oc c → ClaimTells found oc → ((q : Refused) (n : ℕ) → IsRefusedFor (problem p) (Means.claim found) q → IsWideAt q n → ⊥) → IsFormed p o.form found formed → IsShort o.job formed → AnswersJob osil osol false r → ((note : Option (List ℕ)) × HandsInNone osol p note × (r ≡ noted note (claim_report o.job formed))) ⊎ TakesHanded osil osol r ⊎ GaveUp osil osol r ⊎ ((s : Frac) × (looks : ℕ) × (o.seconds ≡ Some s) × Solved osil osol (Some looks) (Some s) looks r) }
 {
     options_are_one();
     instances_are_one();

@@ -53,7 +53,17 @@ fn run_instance<W: Watch, T: Clock>(
     options_have_names();
     problems_have_numbers();
     answers_are_shown();
-    found_document(alloc, instance, names, note, options.job, claim, turns)
+    let form = options.form;
+    found_document(
+        alloc,
+        instance,
+        names,
+        note,
+        options.job,
+        form,
+        claim,
+        turns,
+    )
 }
 
 /// Runs a job whose options, instance and names are read. A result that its options hand in is its answer where it is shown of

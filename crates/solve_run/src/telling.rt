@@ -11,7 +11,7 @@ ghost use Rattle.solve_run.specs.Judging.{IsShownClaim, HasFewRounds};
 ghost use Rattle.solve_run.specs.Closings as specs;
 ghost use Rattle.solve_run.specs.Runs.{IsClaimTold, IsTextOf, IsNamedTextOf, IsNotedTextOf, IsFittedDocument, IsMemoryDocument, IsErrorDocument, HasCauses};
 
-use crate::closing::{checked, judge};
+use crate::closing::{checked, formed, judge};
 use crate::document::Document;
 use certificate::{Cause, Claim};
 use instance::Instance;
@@ -189,7 +189,7 @@ fn read_causes(claim: &Claim)
     }
 }
 
-/// The document that tells what a search found after so many turns, once it is checked and fitted, with these names and with
+/// The document that tells what a search found after so many turns, once it is checked, formed and fitted, with these names and with
 /// this message, if there is one.
 pub fn found_document(
     alloc: Global,
@@ -197,17 +197,21 @@ pub fn found_document(
     names: &NameLists,
     note: Option<Text>,
     job: Option<Text>,
+    form: u32,
     found: Claim,
     turns: u64,
 ) -> Result<Document, Memory>
     requires valid { IsValid instance.now }
     requires shown { IsShownClaim instance.now found }
     requires few { HasFewRounds found }
-    ensures { IfOk result (IsClaimTold instance.now names.now note job turns found) }
+    ensures { IfOk result (IsClaimTold instance.now names.now note job form turns found) }
 {
     read_causes(&found);
-    match judge(alloc, instance, &found) {
-        Ok(width) => fitted(alloc, names, note, job, checked(found, turns, width)),
+    let Ok(width) = judge(alloc, instance, &found) else {
+        return memory_document(alloc, job);
+    };
+    match formed(alloc, instance, checked(found, turns, width), form) {
+        Ok(claim) => fitted(alloc, names, note, job, claim),
         Err(_) => memory_document(alloc, job),
     }
 }

@@ -40,6 +40,9 @@ impl Documents for Osol {
         if options.names > 0 {
             put_amount(&mut text, b" names ", options.names)?;
         }
+        if options.form > 0 {
+            put_amount(&mut text, b" form ", options.form)?;
+        }
         if let Some(seconds) = options.seconds {
             text.extend(b" seconds ")?;
             write_ratio(seconds, &mut text)?;
