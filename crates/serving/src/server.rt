@@ -10,7 +10,6 @@ ghost use Rattle.serving.specs.StoredServing.{IsStoredServerRun, ServesOver};
 
 use crate::ending::Ending;
 use crate::lines::{tell_jobs, tell_listening};
-use crate::links::LinkServer;
 use crate::setup::Setup;
 use desk::{Desk, StoredDesk, StoredSeat};
 use disks::Disk;
@@ -20,6 +19,7 @@ use job_solver::{
 };
 use job_table::{Table, first_finish_is_kept, numbers_are_given_once};
 use os_io::{Failed, Listener, Sink};
+use os_server::Conversations;
 use server_threads::{ServeFault, ServeLimits, serve_loop};
 use std::alloc::Global;
 use std::sync::Wait;
@@ -115,7 +115,7 @@ where
     first_finish_is_kept::<SolvedJobs>();
     numbers_are_given_once::<SolvedJobs>();
     shown_documents_are_proved();
-    let service = LinkServer(());
+    let service = Conversations(&Solver);
     let (mut seat, served) = serve_loop(rt, alloc, &desk, seat, net, &service, setup.limits);
     work_closing_shift(rt, alloc, &desk, &mut seat, &Solver);
     let given = desk.close(seat).issued();
@@ -145,7 +145,7 @@ where
     first_finish_is_kept::<SolvedJobs>();
     numbers_are_given_once::<SolvedJobs>();
     shown_documents_are_proved_from_tables();
-    let service = LinkServer(());
+    let service = Conversations(&Solver);
     let (mut first, served) = serve_loop(rt, alloc, &desk, first, net, &service, setup.limits);
     work_closing_shift(rt, alloc, &desk, &mut first, &Solver);
     let (table, journal) = desk.close_stored(first);

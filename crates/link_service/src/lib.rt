@@ -1,4 +1,8 @@
-//! What serves a link: whoever has the conversation on it.
+//! What serves a link: whoever has the conversation on it, for those that accept links and give each a thread.
+//!
+//! A [`Service`] is handed a link that is open, one who makes moves of the table of jobs and a bell of workers, and gives the link back when
+//! the conversation is over.
+#![tactic(auto)]
 
 ghost use Rattle.std.specs.Prelude.{List};
 ghost use Rattle.job_table.specs.History.{MoveEntry};
