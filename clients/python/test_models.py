@@ -226,6 +226,18 @@ class Results(unittest.TestCase):
         self.assertNotIn("steel", bare.document)
         self.assertEqual((named.values, named.check()), (bare.values, "accepted optimal"))
 
+    def test_certificates_have_rows_alone_where_that_is_asked_for(self):
+        model = Model()
+        x = model.variable("x", whole=True)
+        model.row({x: 2}, high=5)
+        model.maximise({x: 1})
+        bare, whole, rows = Program().solve(model), Program().solve(model, form="whole"), Program().solve(model, form="rows")
+        self.assertEqual(whole.document, bare.document)
+        self.assertIn("<item>split 0 2</item><item>boundRows</item><item>farkasRows 1:-1</item>", rows.document)
+        self.assertEqual((rows.values, rows.check()), (bare.values, "accepted optimal"))
+        with self.assertRaises(Refused):
+            Program().solve(model, form="short")
+
     def test_certificates_are_taken_apart(self):
         model = Model()
         x = model.variable("x", whole=True)

@@ -49,6 +49,7 @@ class Program:
         turn_limit: Optional[int] = None,
         rounds: Optional[int] = None,
         names: bool = False,
+        form: Optional[str] = None,
         seconds: Optional[float] = None,
         gap: object = None,
         fast: bool = False,
@@ -63,8 +64,10 @@ class Program:
         source = source_of(instance)
         if seconds is not None:
             with self._serving() as server:
-                return server.solve(instance, node_limit=node_limit, turn_limit=turn_limit, rounds=rounds, names=names, seconds=seconds)
-        return self._solve(source, options_text(None, node_limit, turn_limit, rounds, names))
+                return server.solve(
+                    instance, node_limit=node_limit, turn_limit=turn_limit, rounds=rounds, names=names, form=form, seconds=seconds
+                )
+        return self._solve(source, options_text(None, node_limit, turn_limit, rounds, names, form))
 
     def check(self, instance: Given, document: str) -> str:
         """What the checker says of a result document: `accepted` and the kind of claim, or `refused` and the first reason."""

@@ -99,7 +99,15 @@ fn work<R: Wait + Clock>(
 )
     requires { IsSeatOf (desk_id desk.now) seat }
 {
-    work_one_by_seat(rt, alloc, desk, &mut seat, &Solver, true, &mut gate);
+    work_one_by_seat(
+        rt,
+        alloc,
+        desk,
+        &mut seat,
+        &Solver::new(rt),
+        true,
+        &mut gate,
+    );
 }
 
 /// A knock, and then a kill of the job.
