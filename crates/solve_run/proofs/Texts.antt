@@ -11,7 +11,7 @@ use Rattle.osrl_writing.specs.Writing.{report_text, named_text, told_text}
 use Rattle.solve_run.specs.declared.document.Document.{Document}
 use Rattle.certificate.specs.GivenUp.{given_up}
 use Rattle.solve_run.specs.Closings.{error_report, claim_report, IsShort, IsFitted}
-use Rattle.solve_run.specs.Runs.{IsDocumentOf, IsNamedDocument, IsTextOf, IsNamedTextOf, IsMemoryDocument, IsErrorDocument, IsFittedDocument}
+use Rattle.solve_run.specs.Runs.{IsDocumentOf, IsTextOf, IsNamedTextOf, IsMemoryDocument, IsErrorDocument, IsFittedDocument}
 
 -- of the same report
 pub same_document : (r s : Report) (doc : Document) → r ≡ s → IsDocumentOf r doc → IsDocumentOf s doc

@@ -1,5 +1,5 @@
 -- What a search found whose watch was wrapped in one that a time may stop.
-use Rattle.std.proofs.Common.{◌≡◌, ◌≢◌, ◌∙◌, ℕ, zero, suc, ◌+◌, ◌<◌, ◌⊎◌, inl, inr, Bool, true, false, Option, None, Some, List, [], ◌∷◌, ◌++◌, map, refl, sym, ap, subst, nat_lt, arith}
+use Rattle.std.proofs.Common.{◌≡◌, ◌≢◌, ◌∙◌, ℕ, zero, suc, ◌+◌, ◌⊎◌, inl, inr, Bool, true, false, Option, None, Some, List, [], ◌∷◌, map, refl, sym, ap, subst, nat_lt, arith}
 use Rattle.fraction.specs.declared.frac.Frac.{Frac}
 use Rattle.os_io.specs.Looks.{stops_of}
 use Rattle.stop_reasons.specs.Reasons.{CameUntil, says_stop, says_killed, says_time}

@@ -1,7 +1,6 @@
-use Rattle.std.proofs.Common.{rules, ◌≡◌, List, Bool, sym, subst, nat_lt}
+use Rattle.std.proofs.Common.{rules, sym, subst}
 use Rattle.certificate.specs.declared.claims.Claim.{Claim}
-use Rattle.branch_bound.specs.Claims.{is_killed}
-use Rattle.solve_run.specs.Untils.{named, FindsUntil}
+use Rattle.solve_run.specs.Untils.{FindsUntil}
 use Rattle.solve_run.proofs.Untils.{ends_until}
 use Rattle.solve_run.proofs.finding.find_until.Goals as goal
 
