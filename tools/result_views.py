@@ -11,6 +11,7 @@ CAUSES = {
     "turnLimit": ("it made as many turns of the simplex method as the option pivotLimit allows, or --safe", "give a greater limit, without --safe"),
     "wide": ("a number passes 128 bits", "use smaller numbers: whole units in place of decimals, other units where sizes differ much"),
     "length": ("the document would be longer than 4,194,304 bytes", "set tighter bounds on the whole variables, so that fewer cases are needed"),
+    "timeLimit": ("it had taken as long as the options allow, in seconds", "give it a longer time"),
     "killed": ("the job was asked to stop", ""),
     "memory": ("there was no memory", "end other programs, or give a smaller instance"),
 }
