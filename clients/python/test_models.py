@@ -33,7 +33,7 @@ from gubnatris.instances import read_instance
 from peers import ending_server
 
 ROOT = Path(__file__).resolve().parents[2]
-DIET, BUDGET = ROOT / "examples/diet.osil", ROOT / "examples/capital_budget.osil"
+DIET, BUDGET, TRANSPORT = (ROOT / f"examples/{name}.osil" for name in ("diet", "capital_budget", "transport"))
 
 
 def bread_and_milk():
@@ -156,6 +156,17 @@ class Results(unittest.TestCase):
         self.assertEqual((result.values, result.objective), ((Fraction(1, 3), Fraction(1, 6)), Fraction(4, 3)))
         self.assertEqual((result.duals, result.reduced_costs), ((2,), (1, 0)))
 
+    def test_a_leaf_of_rows_says_what_the_whole_one_says(self):
+        left_out = 0
+        for given in (bread_and_milk(), DIET, TRANSPORT):
+            result = Program().solve(given)
+            pairs = result.tree[0].split(" ")[1:]
+            rows = [pair for pair in pairs if int(pair.partition(":")[0]) >= len(result.values)]
+            left_out += len(pairs) - len(rows)
+            alone = read_result(result.document.replace(result.tree[0], " ".join(["boundRows", *rows]))).of(given)
+            self.assertEqual((alone.check(), alone.duals, alone.reduced_costs), ("accepted optimal", result.duals, result.reduced_costs))
+        self.assertGreater(left_out, 0)
+
     def test_duals_are_slopes(self):
         """Of random programs, minimised and maximised: one thousandth more of a row's end changes the objective by so many thousandths of its dual."""
         told = 0
@@ -214,6 +225,18 @@ class Results(unittest.TestCase):
         self.assertIn('<var idx="0" name="steel &amp; iron">3</var>', named.document)
         self.assertNotIn("steel", bare.document)
         self.assertEqual((named.values, named.check()), (bare.values, "accepted optimal"))
+
+    def test_certificates_have_rows_alone_where_that_is_asked_for(self):
+        model = Model()
+        x = model.variable("x", whole=True)
+        model.row({x: 2}, high=5)
+        model.maximise({x: 1})
+        bare, whole, rows = Program().solve(model), Program().solve(model, form="whole"), Program().solve(model, form="rows")
+        self.assertEqual(whole.document, bare.document)
+        self.assertIn("<item>split 0 2</item><item>boundRows</item><item>farkasRows 1:-1</item>", rows.document)
+        self.assertEqual((rows.values, rows.check()), (bare.values, "accepted optimal"))
+        with self.assertRaises(Refused):
+            Program().solve(model, form="short")
 
     def test_certificates_are_taken_apart(self):
         model = Model()

@@ -18,11 +18,12 @@ def options_text(
     turn_limit: Optional[int] = None,
     rounds: Optional[int] = None,
     names: bool = False,
+    form: Optional[str] = None,
     seconds: Optional[float] = None,
 ) -> str:
     """The options, or the empty text where there are none."""
     named = f"<general><jobID>{escaped(job)}</jobID></general>" if job is not None else ""
-    limits = [("nodeLimit", node_limit), ("pivotLimit", turn_limit), ("rounds", rounds), ("names", 1 if names else None)]
+    limits = [("nodeLimit", node_limit), ("pivotLimit", turn_limit), ("rounds", rounds), ("names", 1 if names else None), ("form", form)]
     set_ones = "".join(f"<solverOption name={quoted(name)} value={quoted(str(limit))}/>" for name, limit in limits if limit is not None)
     limited = f"<optimization><solverOptions>{set_ones}</solverOptions></optimization>" if set_ones else ""
     parts = named + _time_text(seconds) + limited

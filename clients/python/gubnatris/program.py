@@ -47,6 +47,7 @@ class Program:
         turn_limit: Optional[int] = None,
         rounds: Optional[int] = None,
         names: bool = False,
+        form: Optional[str] = None,
         seconds: Optional[float] = None,
         gap: object = None,
         fast: bool = False,
@@ -57,7 +58,7 @@ class Program:
         Raises `Refused` where the instance or a limit is, and `ProgramFailed`.
         """
         find_not_offered(gap, fast, start)
-        return self._solve(source_of(instance), options_text(None, node_limit, turn_limit, rounds, names, seconds))
+        return self._solve(source_of(instance), options_text(None, node_limit, turn_limit, rounds, names, form, seconds))
 
     def check(self, instance: Given, document: str) -> str:
         """What the checker says of a result document: `accepted` and the kind of claim, or `refused` and the first reason."""

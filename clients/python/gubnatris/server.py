@@ -78,6 +78,7 @@ class Server:
         turn_limit: Optional[int] = None,
         rounds: Optional[int] = None,
         names: bool = False,
+        form: Optional[str] = None,
         seconds: Optional[float] = None,
         gap: object = None,
         fast: bool = False,
@@ -86,14 +87,15 @@ class Server:
         """Solves an instance, and leaves nothing at the server.
 
         `node_limit`, `turn_limit`: how many cases a search may begin, and how many turns of the simplex method it may make. `rounds`: how
-        many rounding cuts it may add. `names`: whether the result document has the names of variables and rows. `seconds`: after so many
-        the search ends, and the result is what it has found by then. A job that hasn't begun when they are over is given up.
+        many rounding cuts it may add. `names`: whether the result document has the names of variables and rows. `form`: "rows" has the
+        certificate told with multipliers of rows alone, where the checker accepts it so, and "whole" as without it. `seconds`: after so
+        many the search ends, and the result is what it has found by then. A job that hasn't begun when they are over is given up.
         `gap`, `fast` and `start` are not offered yet: `NotOffered`. Raises `Refused` where the instance or a limit is, and `TimedOut`
         where the search hadn't begun by then. (The call `solve` of the server would keep the job under a number that nobody is told.)
         """
         find_not_offered(gap, fast, start)
         source = source_of(instance)
-        job = self._submit(source, (node_limit, turn_limit, rounds, names, seconds))
+        job = self._submit(source, (node_limit, turn_limit, rounds, names, form, seconds))
         try:
             return self._within(job, seconds, source)
         finally:
@@ -120,6 +122,7 @@ class Server:
         turn_limit: Optional[int] = None,
         rounds: Optional[int] = None,
         names: bool = False,
+        form: Optional[str] = None,
         seconds: Optional[float] = None,
         named: Optional[Callable[[str], object]] = None,
     ) -> str:
@@ -129,9 +132,9 @@ class Server:
         Raises `Refused` where a limit is; where the instance is, its result tells that. A server holds 10,000 jobs: give up, by `kill`,
         what was read.
         """
-        return self._submit(source_of(instance), (node_limit, turn_limit, rounds, names, seconds), named)
+        return self._submit(source_of(instance), (node_limit, turn_limit, rounds, names, form, seconds), named)
 
-    def _submit(self, source: Source, limits: tuple[Union[float, None], ...], named: Optional[Callable[[str], object]] = None) -> str:
+    def _submit(self, source: Source, limits: tuple[Union[float, str, None], ...], named: Optional[Callable[[str], object]] = None) -> str:
         job = self._call("getJobID", {"osol": options_text(None, *limits)})
         try:
             if named:
