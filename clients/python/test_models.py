@@ -226,6 +226,18 @@ class Results(unittest.TestCase):
         self.assertNotIn("steel", bare.document)
         self.assertEqual((named.values, named.check()), (bare.values, "accepted optimal"))
 
+    def test_certificates_have_rows_alone_where_that_is_asked_for(self):
+        model = Model()
+        x = model.variable("x", whole=True)
+        model.row({x: 2}, high=5)
+        model.maximise({x: 1})
+        bare, whole, rows = Program().solve(model), Program().solve(model, form="whole"), Program().solve(model, form="rows")
+        self.assertEqual(whole.document, bare.document)
+        self.assertIn("<item>split 0 2</item><item>boundRows</item><item>farkasRows 1:-1</item>", rows.document)
+        self.assertEqual((rows.values, rows.check()), (bare.values, "accepted optimal"))
+        with self.assertRaises(Refused):
+            Program().solve(model, form="short")
+
     def test_certificates_are_taken_apart(self):
         model = Model()
         x = model.variable("x", whole=True)
@@ -273,15 +285,20 @@ class Programs(unittest.TestCase):
                 begun = time.monotonic()
                 result = Program().solve(odd_sums(), node_limit=1_000_000, turn_limit=100_000_000, seconds=0.5)
                 self.assertLess(time.monotonic() - begun, 30)  # a machine may have much else to do
-                self.assertEqual(result.cause, "killed")
-                with self.assertRaises(Refused):
-                    Program().solve("<osil/>", seconds=5)
+                self.assertEqual(result.cause, "timeLimit 1/2")
+                for instance, seconds in (("<osil/>", 5), (DIET, -1), (DIET, 1e30)):
+                    with self.assertRaises(Refused):
+                        Program().solve(instance, seconds=seconds)
+                with self.assertRaisesRegex(BadModel, "seconds: nan"):
+                    Program().solve(DIET, seconds=math.nan)
                 with self.assertRaises(ProgramFailed):
                     Program("/bin/false").solve(DIET)
             finally:
                 tempfile.tempdir = before
             self.assertEqual(os.listdir(folder), [])
-        self.assertEqual(Program().solve(DIET, seconds=20).objective, Fraction(552, 275))
+        for seconds in (20, 20.5, math.inf):
+            self.assertEqual(Program().solve(DIET, seconds=seconds).objective, Fraction(552, 275))
+        self.assertEqual(Program().solve(DIET, seconds=0).cause, "timeLimit 0")
 
     def test_what_is_not_offered(self):
         for options in ({"gap": 0.1}, {"fast": True}, {"start": [1]}):

@@ -18,7 +18,8 @@ const STATUSES = {
   503: "the server is down", 504: "the server didn't answer in time",
 };
 const CAUSES = {
-  nodeLimit: "it began as many cases as were allowed", turnLimit: "it made as many turns as were allowed", wide: "a number passes 128 bits",
+  nodeLimit: "it began as many cases as were allowed", turnLimit: "it made as many turns as were allowed",
+  timeLimit: "it took as long as was allowed", wide: "a number passes 128 bits",
   length: "the document would be longer than 4,194,304 bytes", killed: "it was asked to stop", memory: "there was no memory",
 };
 

@@ -8,12 +8,12 @@ use Rattle.job_table.specs.History.{MoveEntry}
 use Rattle.os_server.specs.declared.reply.HttpReply.TheVariants.{NoMemory}
 use Rattle.os_server.specs.declared.serve.Served.{Served}
 use Rattle.os_server.specs.declared.serve.Served.TheVariants.{WriteFault, Memory}
-use Rattle.os_server.specs.Talk.{text_of_reply, ServesWhole, both_ends}
+use Rattle.os_server.specs.Talk.{text_of_reply, Serves, both_ends}
 use Rattle.os_server.specs.Serving.{ComesOnLink, ServesOne}
 use Rattle.os_server.proofs.Steps.{read_none}
 use Rattle.job_runs.proofs.Judgements.{Made}
 use Rattle.os_server.proofs.Pieces.{Wakes}
-use Rattle.os_server.proofs.Rounds.{followed, unwritten, sends_between, none_yet, last_whole}
+use Rattle.os_server.proofs.Rounds.{followed, unwritten, sends_between, none_yet, last_one}
 
 -- no move was made
 abbrev None : List MoveEntry → Type 0
@@ -41,17 +41,17 @@ nothing_came made wakes i o = record {
 }
 
 module _ (made : Made) (wakes : Wakes) (i o p : Tells) where
-  alone : (end : Served) → ServesOne made wakes None (Some end) (both_ends i o) (both_ends i p) → ServesWhole made wakes None end (both_ends i o) (both_ends i p)
+  alone : (end : Served) → ServesOne made wakes None (Some end) (both_ends i o) (both_ends i p) → Serves made wakes None end (both_ends i o) (both_ends i p)
   alone end one =
-      last_whole made wakes None None None end 0 (both_ends i o) (both_ends i o) (both_ends i p) none_then (omega arith) (none_yet made wakes None (both_ends i o) refl) one
+      last_one made wakes None None None end 0 (both_ends i o) (both_ends i o) (both_ends i p) none_then (omega arith) (none_yet made wakes None (both_ends i o) refl) one
 
   -- 503 was sent
-  pub turned : (x : Unit {0}) → Sends {X = Unit {0}} {E = Failed} (Ok x) (text_of_reply NoMemory) o p → ServesWhole made wakes None Memory (both_ends i o) (both_ends i p)
+  pub turned : (x : Unit {0}) → Sends {X = Unit {0}} {E = Failed} (Ok x) (text_of_reply NoMemory) o p → Serves made wakes None Memory (both_ends i o) (both_ends i p)
   turned x sent = alone Memory
       (followed made wakes None None None NoMemory (Some Memory) x (both_ends i o) (both_ends i o) (both_ends i p) none_then (nothing_came made wakes i o)
       (sends_between _ _ i o p sent) ([], refl, (refl, refl)))
 
   -- or a first part of it
-  pub cut_off : (e : Failed) → Sends {X = Unit {0}} {E = Failed} (Err e) (text_of_reply NoMemory) o p → ServesWhole made wakes None WriteFault (both_ends i o) (both_ends i p)
+  pub cut_off : (e : Failed) → Sends {X = Unit {0}} {E = Failed} (Err e) (text_of_reply NoMemory) o p → Serves made wakes None WriteFault (both_ends i o) (both_ends i p)
   cut_off e sent = alone WriteFault
       (unwritten made wakes None NoMemory e (both_ends i o) (both_ends i o) (both_ends i p) (nothing_came made wakes i o) (sends_between _ _ i o p sent))

@@ -39,7 +39,7 @@ use Rattle.os_server.specs.declared.saying.Said.{Said}
 use Rattle.os_server.specs.declared.serve.Served.{Served}
 use Rattle.ospl_grammar.specs.Table.{text_or_none}
 use Rattle.os_server.specs.Orders.{Names, order_of, SaysProcess, IsAsked, Orders, Asks, SaysOptionsRefused, RefusesProcess, Faults}
-use Rattle.os_server.specs.Answers.{said_by, fault_said, Doing, Moves, RunsAtOnce, doing_of, DoesSo, Does}
+use Rattle.os_server.specs.Answers.{said_by, fault_said, number_for, Doing, Moves, RunsAtOnce, doing_of, DoesSo, Does}
 use Rattle.os_server.specs.Talk.{Part, all_of, IsBodyAnswered, IsRefusedAs, IsExchange, response_text, Talk}
 use Rattle.os_server.specs.Laws.{HasNoFault, takens, replies}
 use Rattle.os_server.specs.OneReading.{Requests, Bodies}
@@ -49,16 +49,16 @@ use Rattle.os_server.proofs.RequestCuts.{Front, Whole, Refuses, Between, Inside,
 
 -- what a body asks
 
-names_once : (id : List ℕ) (n m : ℕ) → Names id n → Names id m → n ≡ m
-names_once id n m (inl (small, is)) (inl (small', is')) =
-    decimal_injective n m small small' (append_cancel_left (codes "os-") (decimal n) (decimal m) (sym is ∙ is'))
-names_once id n m (inl (small, is)) (inr (none, unnamed)) = absurd (unnamed n small is)
-names_once id n m (inr (none, unnamed)) (inl (small, is)) = absurd (unnamed m small is)
-names_once id n m (inr (none, unnamed)) (inr (none', unnamed')) = none ∙ sym none'
+names_once : (id : List ℕ) (a b : Option ℕ) → Names id a → Names id b → a ≡ b
+names_once id (Some n) (Some m) (small, is) (small', is') =
+    ap Some (decimal_injective n m small small' (append_cancel_left (codes "os-") (decimal n) (decimal m) (sym is ∙ is')))
+names_once id (Some n) None (small, is) unnamed = absurd (unnamed n small is)
+names_once id None (Some m) unnamed (small, is) = absurd (unnamed m small is)
+names_once id None None unnamed unnamed' = refl
 
 asked_once : (call : SoapCall) (o p : Options) (x y : Order) → p ≡ o → IsAsked call o x → IsAsked call p y → x ≡ y
-asked_once call o p x y same (n, named, is) (m, named', is') =
-    is ∙ ap (order_of call) (names_once (text_or_none o.job) n m named (subst (λ (q : Options). Names (text_or_none q.job) m) same named')) ∙ sym is'
+asked_once call o p x y same (job, named, is) (other, named', is') =
+    is ∙ ap (order_of call) (names_once (text_or_none o.job) job other named (subst (λ (q : Options). Names (text_or_none q.job) other) same named')) ∙ sym is'
 
 -- why a body asks nothing: it is refused as a call, or its call is refused
 abbrev said_of : SoapFault → FaultCode × List ℕ
@@ -301,8 +301,8 @@ module _ (made : Made) (wakes : Wakes) (by : Requests) (says : Bodies) where
       let same = asks_once says body q.order p.order q.asks p.asks in
       let past = past_doing made (doing_of p.order) p.last q.last own again x y p.does
       (subst (λ (o : Order). Does made o q.last again) same q.does) e in (
-        some_once s t (sym p.says ∙ ap (λ r. said_by p.order.kind p.order.number r) past.0
-            ∙ subst (λ (o : Order). said_by o.kind o.number q.last ≡ Some t) same q.says),
+        some_once s t (sym p.says ∙ ap (λ r. said_by p.order.kind (number_for p.order.job) r) past.0
+            ∙ subst (λ (o : Order). said_by o.kind (number_for o.job) q.last ≡ Some t) same q.says),
         past.1,
       )
   past_answer body own again s t w v x y (inl p) (inr q) e =
@@ -377,19 +377,19 @@ module _ (made : Made) (wakes : Wakes) (by : Requests) (says : Bodies) where
       (subst (λ (c : ℕ). ShowsLast made wakes end c l x) (omega arith) s) (subst (λ (c : ℕ). ShowsLast made wakes other c m y) (omega arith) t) there e past.1)
       ∙ sym (append_assoc q.out (all_of qs).out m.out)
 
-  pub written_once : (end other : Served) (bytes past behind left rest : List ℕ) (p q : Part)
-      (t : Talk made wakes end (past ++ left ≡ []) p) (u : Talk made wakes other (behind ++ rest ≡ []) q)
-      → HasNoFault end → HasNoFault other → bytes ≡ (p.taken ++ past) ++ left → bytes ≡ (q.taken ++ behind) ++ rest
+  pub written_once : (end other : Served) (bytes left rest : List ℕ) (p q : Part)
+      (t : Talk made wakes end (left ≡ []) p) (u : Talk made wakes other (rest ≡ []) q)
+      → HasNoFault end → HasNoFault other → bytes ≡ p.taken ++ left → bytes ≡ q.taken ++ rest
       → replies p.entries ≡ replies q.entries → p.out ≡ q.out
-  written_once end other bytes past behind left rest p q t u free free' e f h =
-      let cut = cut_one_way made wakes by says end other bytes past behind left rest p q t u free free' e f in
+  written_once end other bytes left rest p q t u free free' e f h =
+      let cut = cut_one_way made wakes by says end other bytes left rest p q t u free free' e f in
       ap (λ k. k.out) t.whole
-      ∙ outs_once 0 t.done u.done end other t.last u.last (past ++ left) (behind ++ rest) t.exchanges u.exchanges
-      (subst (λ (c : ℕ). ShowsLast made wakes end c t.last (past ++ left)) (omega arith) (last_shows made wakes by says end (length t.done) t.last (past ++ left) free t.ends))
-      (subst (λ (c : ℕ). ShowsLast made wakes other c u.last (behind ++ rest)) (omega arith) (last_shows made wakes by says other (length u.done) u.last (behind ++ rest) free' u.ends))
+      ∙ outs_once 0 t.done u.done end other t.last u.last left rest t.exchanges u.exchanges
+      (subst (λ (c : ℕ). ShowsLast made wakes end c t.last left) (omega arith) (last_shows made wakes by says end (length t.done) t.last left free t.ends))
+      (subst (λ (c : ℕ). ShowsLast made wakes other c u.last rest) (omega arith) (last_shows made wakes by says other (length u.done) u.last rest free' u.ends))
       cut.1
-      (append_cancel_left (all_of t.done).taken (t.last.taken ++ (past ++ left)) (u.last.taken ++ (behind ++ rest))
-      (sym (whole_bytes made wakes by says bytes past left p (all_of t.done) t.last t.whole e) ∙ whole_bytes made wakes by says bytes behind rest q (all_of u.done) u.last u.whole f
-      ∙ ap (λ a. a ++ (u.last.taken ++ (behind ++ rest))) (sym (all_taken_once t.done u.done cut.1))))
+      (append_cancel_left (all_of t.done).taken (t.last.taken ++ left) (u.last.taken ++ rest)
+      (sym (whole_bytes made wakes by says bytes left p (all_of t.done) t.last t.whole e) ∙ whole_bytes made wakes by says bytes rest q (all_of u.done) u.last u.whole f
+      ∙ ap (λ a. a ++ (u.last.taken ++ rest)) (sym (all_taken_once t.done u.done cut.1))))
       (ap (λ k. replies k.entries) (sym t.whole) ∙ h ∙ ap (λ k. replies k.entries) u.whole)
       ∙ sym (ap (λ k. k.out) u.whole)

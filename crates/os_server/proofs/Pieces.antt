@@ -20,7 +20,7 @@ use Rattle.os_server.specs.declared.reply.HttpReply.{HttpReply}
 use Rattle.os_server.specs.declared.reply.HttpReply.TheVariants.{Answer, Refused, NoMemory}
 use Rattle.os_server.specs.declared.serve.Served.{Served}
 use Rattle.os_server.specs.declared.serve.Served.TheVariants.{Ended, CutShort, ReadFault, WriteFault, Memory}
-use Rattle.os_server.specs.Answers.{Doing, Moves, RunsAtOnce, doing, doing_of, DoesSo, Does, BeginsSo}
+use Rattle.os_server.specs.Answers.{Doing, Moves, RunsAtOnce, number_for, doing, doing_of, DoesSo, Does, BeginsSo}
 use Rattle.os_server.specs.Talk.{Part, all_of, IsBodyAnswered, IsReplyDue, IsExchange, EndsTalk, IsLastPart, Talk}
 
 abbrev pub Wakes : Type 1
@@ -103,7 +103,7 @@ module _ (made : Made) (Holds : List MoveEntry → Type 0) (b : Builds made Hold
       subst Holds (sym r.are) (shown_so o p r.job last r.later r.shows)
 
   does_so : (order : Order) (last : tables.Reply) (own : List MoveEntry) → Does made order last own → Holds own
-  does_so order last own does = doing_so (doing_of order) last own (done_plainly order.kind order.number order.osil order.osol) does
+  does_so order last own does = doing_so (doing_of order) last own (done_plainly order.kind (number_for order.job) order.osil order.osol) does
 
   begun_so : (d : Doing) (own : List MoveEntry) → BeginsSo made d own → Holds own
   begun_so (Moves move) own none = no_moves own none

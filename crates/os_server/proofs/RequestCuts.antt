@@ -210,17 +210,17 @@ module _ (made : Made) (wakes : Wakes) (by : Requests) (says : Bodies) where
       (more.0, (λ i. once.1 i ∷ more.1 i), more.2)
 
   -- the bytes of a conversation, and what is left
-  pub whole_bytes : (bytes past left : List ℕ) (p d l : Part) → p ≡ then d l → bytes ≡ (p.taken ++ past) ++ left
-      → bytes ≡ d.taken ++ (l.taken ++ (past ++ left))
-  whole_bytes bytes past left p d l is e =
-      e ∙ ap (λ q. (q.taken ++ past) ++ left) is ∙ append_assoc (d.taken ++ l.taken) past left ∙ append_assoc d.taken l.taken (past ++ left)
+  pub whole_bytes : (bytes left : List ℕ) (p d l : Part) → p ≡ then d l → bytes ≡ p.taken ++ left
+      → bytes ≡ d.taken ++ (l.taken ++ left)
+  whole_bytes bytes left p d l is e =
+      e ∙ ap (λ q. q.taken ++ left) is ∙ append_assoc d.taken l.taken left
 
-  pub cut_one_way : (end other : Served) (bytes past behind left rest : List ℕ) (p q : Part)
-      (t : Talk made wakes end (past ++ left ≡ []) p) (u : Talk made wakes other (behind ++ rest ≡ []) q)
-      → HasNoFault end → HasNoFault other → bytes ≡ (p.taken ++ past) ++ left → bytes ≡ (q.taken ++ behind) ++ rest
+  pub cut_one_way : (end other : Served) (bytes left rest : List ℕ) (p q : Part)
+      (t : Talk made wakes end (left ≡ []) p) (u : Talk made wakes other (rest ≡ []) q)
+      → HasNoFault end → HasNoFault other → bytes ≡ p.taken ++ left → bytes ≡ q.taken ++ rest
       → (end ≡ other) × (takens t.done ≡ takens u.done) × (t.last.taken ≡ u.last.taken)
-  cut_one_way end other bytes past behind left rest p q t u free free' e f =
-      cut_once 0 t.done u.done end other t.last u.last (past ++ left) (behind ++ rest) t.exchanges u.exchanges
-      (subst (λ (c : ℕ). ShowsLast made wakes end c t.last (past ++ left)) (omega arith) (last_shows end (length t.done) t.last (past ++ left) free t.ends))
-      (subst (λ (c : ℕ). ShowsLast made wakes other c u.last (behind ++ rest)) (omega arith) (last_shows other (length u.done) u.last (behind ++ rest) free' u.ends))
-      (sym (whole_bytes bytes past left p (all_of t.done) t.last t.whole e) ∙ whole_bytes bytes behind rest q (all_of u.done) u.last u.whole f)
+  cut_one_way end other bytes left rest p q t u free free' e f =
+      cut_once 0 t.done u.done end other t.last u.last left rest t.exchanges u.exchanges
+      (subst (λ (c : ℕ). ShowsLast made wakes end c t.last left) (omega arith) (last_shows end (length t.done) t.last left free t.ends))
+      (subst (λ (c : ℕ). ShowsLast made wakes other c u.last rest) (omega arith) (last_shows other (length u.done) u.last rest free' u.ends))
+      (sym (whole_bytes bytes left p (all_of t.done) t.last t.whole e) ∙ whole_bytes bytes rest q (all_of u.done) u.last u.whole f)

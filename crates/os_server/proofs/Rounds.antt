@@ -21,11 +21,11 @@ use Rattle.os_server.specs.declared.reply.HttpReply.{HttpReply}
 use Rattle.os_server.specs.declared.reply.HttpReply.TheVariants.{Answer, Refused, NoMemory}
 use Rattle.os_server.specs.declared.serve.Served.{Served}
 use Rattle.os_server.specs.declared.serve.Served.TheVariants.{Ended, CutShort, ReadFault, WriteFault, Memory}
-use Rattle.os_server.specs.Talk.{Part, part, then, all_of, ReadsBytes, AtEnd, most_requests, text_of_reply, IsReplyDue, IsExchange, EndsTalk, HandsOnAll, Accounts, Serves, ServesWhole, both_ends}
+use Rattle.os_server.specs.Talk.{Part, part, then, all_of, ReadsBytes, AtEnd, most_requests, text_of_reply, IsReplyDue, IsExchange, EndsTalk, HandsOnAll, Accounts, Serves, both_ends}
 use Rattle.os_server.specs.Serving.{IsReplied, AnswersCame, IsFinished, AnswersOne, FollowsReply, CameWithDue, CountsCame, ComesOnLink, AccountsOne, ServesOne}
 use Rattle.job_runs.proofs.Judgements.{Made, Joins}
 use Rattle.os_server.proofs.Pieces.{Wakes}
-use Rattle.os_server.proofs.Steps.{read_then, wrote_then, at_end_then, read_none, wrote_none, read_whole, read_of, hands_then, then_none, all_more}
+use Rattle.os_server.proofs.Steps.{read_then, wrote_then, at_end_then, read_none, wrote_none, read_of, hands_then, then_none, all_more}
 use Rattle.os_server.proofs.Replies.{due}
 
 abbrev Bytes : Type 0
@@ -61,7 +61,7 @@ end_of came (Some x) (Some y) taken p = p.1
 -- what asks nothing, and how it is answered
 quiet_comes : (made : Made) (wakes : Wakes) (did : List MoveEntry → Type 0) (To : List ℕ → Type 0) (came : Result Incoming LinkFault) (quiet answer : Result HttpReply Served)
     (old new : Tells) → did [] × (answer ≡ quiet) → Reading To came old.left new.left → SameOutput old new → CountsCame quiet old.read_faults new.read_faults
-    → ((taken : List ℕ) → ShowsTaken To came taken → BothTold old.left new.left (λ before after. EndsWith came after) → CameWithDue made wakes quiet (AtEnd [] old.left new.left) taken [])
+    → ((taken : List ℕ) → ShowsTaken To came taken → BothTold old.left new.left (λ before after. EndsWith came after) → CameWithDue made wakes quiet (AtEnd old.left new.left) taken [])
     → ComesOnLink made wakes did answer old new
 quiet_comes made wakes did To came quiet answer old new (stays, is) got output counted shows =
     subst (λ (r : Result HttpReply Served). ComesOnLink made wakes did r old new) (sym is)
@@ -160,7 +160,7 @@ pub followed : (made : Made) (wakes : Wakes) (did did' both : List MoveEntry →
     → ((after : List MoveEntry) × did' after × FollowsReply made wakes reply after end) → ServesOne made wakes both end old new
 followed made wakes did did' both reply end x old mid new joins came sent (after, moves, follows) = record {
   part = part came.taken (came.own ++ after) (text_of_reply reply);
-  answers = answered made wakes (AtEnd [] old.left new.left) reply end came.taken came.own after came.shows follows;
+  answers = answered made wakes (AtEnd old.left new.left) reply end came.taken came.own after came.shows follows;
   moves = joins came.own after came.moves moves;
   read = subst (λ (b : Bytes). ReadsBytes came.taken old.left b) (sym sent.writes.input.left) came.read;
   wrote = subst (λ (b : Bytes). BothTold b new.written (Appends (text_of_reply reply))) came.output.written sent.writes.written;
@@ -217,7 +217,7 @@ silent : (made : Made) (wakes : Wakes) (did : List MoveEntry → Type 0) (end : 
     → ServesOne made wakes did (Some end) old new
 silent made wakes did end old new came = record {
   part = part came.taken came.own [];
-  answers = ended_with made wakes end (AtEnd [] old.left new.left) came.taken came.own came.shows;
+  answers = ended_with made wakes end (AtEnd old.left new.left) came.taken came.own came.shows;
   moves = came.moves;
   read = came.read;
   wrote = subst (λ (b : Bytes). BothTold old.written b (Appends [])) (sym came.output.written) (wrote_none old.written);
@@ -367,70 +367,49 @@ accounts_then WriteFault a b c w grew q = (
 )
 accounts_then Memory a b c w grew q = well_then a b c w q
 
-pub last_whole : (made : Made) (wakes : Wakes) (did did' both : List MoveEntry → Type 0) (end : Served) (count : ℕ) (a b c : Tells)
-    → Joins did did' both → count < most_requests
-    → SoFar made wakes did count a b → ServesOne made wakes did' (Some end) b c → ServesWhole made wakes both end a c
-last_whole made wakes did did' both end count a b c joins most s r = (
-  record {
-    part = then (all_of s.done) r.part;
-    past = [];
-    none_past = λ _. refl;
-    talk = record {
-      done = s.done;
-      last = r.part;
-      exchanges = s.exchanges;
-      ends = inl (
-        subst (λ (n : ℕ). n < most_requests) (sym s.length_is) most,
-        ends_at made wakes end _ _ r.part (at_end_then a.left b.left c.left _ s.read) r.answers,
-      );
-      whole = refl;
-    };
-    moves = joins _ _ s.moves r.moves;
-    read = read_whole a.left c.left _ (read_then a.left b.left c.left _ _ s.read r.read);
-    wrote = wrote_then a.written b.written c.written _ _ s.wrote r.wrote;
-    accounts = accounts_then end a b c s.accounts s.grew r.accounts;
-  },
-  refl,
-)
-
-pub done_whole : (made : Made) (wakes : Wakes) (did : List MoveEntry → Type 0) (count : ℕ) (a b : Tells) → count ≡ most_requests
-    → SoFar made wakes did count a b → ServesWhole made wakes did Ended a b
-done_whole made wakes did count a b full s = (
-  record {
-    part = all_of s.done;
-    past = [];
-    none_past = λ _. refl;
-    talk = record {
-      done = s.done;
-      last = part [] [] [];
-      exchanges = s.exchanges;
-      ends = inr (refl, s.length_is ∙ full, refl);
-      whole = sym (then_none (all_of s.done));
-    };
-    moves = s.moves;
-    read = read_whole a.left b.left _ s.read;
-    wrote = s.wrote;
-    accounts = s.accounts;
-  },
-  refl,
-)
-
 pub last_one : (made : Made) (wakes : Wakes) (did did' both : List MoveEntry → Type 0) (end : Served) (count : ℕ) (a b c : Tells)
     → Joins did did' both → count < most_requests
     → SoFar made wakes did count a b → ServesOne made wakes did' (Some end) b c → Serves made wakes both end a c
-last_one made wakes did did' both end count a b c joins most s r = (last_whole made wakes did did' both end count a b c joins most s r).0
+last_one made wakes did did' both end count a b c joins most s r = record {
+  part = then (all_of s.done) r.part;
+  talk = record {
+    done = s.done;
+    last = r.part;
+    exchanges = s.exchanges;
+    ends = inl (
+      subst (λ (n : ℕ). n < most_requests) (sym s.length_is) most,
+      ends_at made wakes end _ _ r.part (at_end_then a.left b.left c.left _ s.read) r.answers,
+    );
+    whole = refl;
+  };
+  moves = joins _ _ s.moves r.moves;
+  read = read_then a.left b.left c.left _ _ s.read r.read;
+  wrote = wrote_then a.written b.written c.written _ _ s.wrote r.wrote;
+  accounts = accounts_then end a b c s.accounts s.grew r.accounts;
+}
 
 pub all_done : (made : Made) (wakes : Wakes) (did : List MoveEntry → Type 0) (count : ℕ) (a b : Tells) → count ≡ most_requests
     → SoFar made wakes did count a b → Serves made wakes did Ended a b
-all_done made wakes did count a b full s = (done_whole made wakes did count a b full s).0
+all_done made wakes did count a b full s = record {
+  part = all_of s.done;
+  talk = record {
+    done = s.done;
+    last = part [] [] [];
+    exchanges = s.exchanges;
+    ends = inr (refl, s.length_is ∙ full, refl);
+    whole = sym (then_none (all_of s.done));
+  };
+  moves = s.moves;
+  read = s.read;
+  wrote = s.wrote;
+  accounts = s.accounts;
+}
 
 -- of the moves of a conversation something else may be said
 abbrev pub serves_so : (made : Made) (wakes : Wakes) (did said : List MoveEntry → Type 0) (end : Served) (old new : Tells) → (s : Serves made wakes did end old new)
     → said s.part.entries → Serves made wakes said end old new
 serves_so made wakes did said end old new s is = record {
   part = s.part;
-  past = s.past;
-  none_past = s.none_past;
   talk = s.talk;
   moves = is;
   read = s.read;

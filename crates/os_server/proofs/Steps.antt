@@ -18,7 +18,7 @@ wrote_then (Some x) None z a b p q = absurd p
 wrote_then (Some x) (Some y) None a b p q = absurd q
 wrote_then (Some x) (Some y) (Some z) a b p q = q ∙ ap (λ s. s ++ b) p ∙ append_assoc x a b
 
-pub at_end_then : (x y z : Bytes) (a : List ℕ) → ReadsBytes a x y → AtEnd [] y z → AtEnd [] x z
+pub at_end_then : (x y z : Bytes) (a : List ℕ) → ReadsBytes a x y → AtEnd y z → AtEnd x z
 at_end_then None y z a p q = tt
 at_end_then (Some x) None z a p q = absurd p
 at_end_then (Some x) (Some y) None a p q = absurd q
@@ -32,12 +32,6 @@ pub wrote_none : (x : Bytes) → BothTold x x (Appends [])
 wrote_none None = tt
 wrote_none (Some x) = sym (append-nil x)
 
--- nothing was read past a part
-pub read_whole : (x y : Bytes) (a : List ℕ) → ReadsBytes a x y → ReadsBytes (a ++ []) x y
-read_whole None y a p = tt
-read_whole (Some x) None a p = absurd p
-read_whole (Some x) (Some y) a p = p ∙ ap (λ s. s ++ y) (sym (append-nil a))
-
 -- the read bytes, of which more was known
 pub read_of : (P : List ℕ → Type 0) (x y : Bytes) (taken : List ℕ) → BothTold x y (λ before after. (before ≡ taken ++ after) × P after)
     → ReadsBytes taken x y
@@ -47,7 +41,7 @@ read_of P (Some x) (Some y) taken p = p.0
 
 -- and of which the end of the input was known
 pub end_of : (x y : Bytes) (taken : List ℕ) → BothTold x y (λ before after. (before ≡ taken ++ after) × (after ≡ []))
-    → AtEnd [] x y
+    → AtEnd x y
 end_of None y taken p = tt
 end_of (Some x) None taken p = absurd p
 end_of (Some x) (Some y) taken p = p.1

@@ -136,8 +136,13 @@ doing kinds.Retrieve n osil osol = Moves (tables.Retrieve n)
 doing kinds.Knock n osil osol = Moves tables.Knock
 doing kinds.Kill n osil osol = Moves (tables.Kill n)
 
+-- the number by which moves of the table say what is named: 0, which no job has, for none
+abbrev pub number_for : Option ℕ → ℕ
+number_for None = 0
+number_for (Some n) = n
+
 abbrev pub doing_of : Order → Doing
-doing_of order = doing order.kind order.number order.osil order.osol
+doing_of order = doing order.kind (number_for order.job) order.osil order.osol
 
 module _ (made : List ℕ → List ℕ → List Bool → Option (List ℕ) → Type 0) where
   abbrev pub DoesSo : Doing → Reply → List MoveEntry → Type 0

@@ -1,5 +1,5 @@
 -- What the body of a request asks of the table of jobs, or why it asks nothing (SOAP 1.1, sections 4 and 4.4, and the calls of the Optimization Services).
-use Rattle.std.specs.Prelude.{◌≡◌, ◌≢◌, ◌⊎◌, ℕ, ◌<◌, ◌^◌, List, [], ◌++◌, codes}
+use Rattle.std.specs.Prelude.{◌≡◌, ◌≢◌, ◌⊎◌, ℕ, ◌<◌, ◌^◌, List, [], ◌++◌, Option, None, Some, codes}
 use Rattle.job_table.specs.Ids.{id_text}
 use Rattle.six_calls.specs.declared.part.Part as given
 use Rattle.soap_calls.specs.declared.call.SoapCall.{SoapCall}
@@ -24,22 +24,22 @@ use Rattle.os_server.specs.declared.fault.FaultCode.TheVariants as codes_of
 use Rattle.os_server.specs.declared.fault.NoOrder.{NoOrder}
 use Rattle.os_server.specs.declared.fault.NoOrder.TheVariants as no
 
--- a text names the job with this number; one that names none stands for 0, which is no job's number
-abbrev pub Names : List ℕ → ℕ → Type 0
-Names id n =
-    ((n < 2 ^ 64) × (id ≡ id_text n)) ⊎ ((n ≡ 0) × ((m : ℕ) → m < 2 ^ 64 → id ≡ id_text m → ⊥))
+-- a text names the job with this number, or none
+abbrev pub Names : List ℕ → Option ℕ → Type 0
+Names id (Some n) = (n < 2 ^ 64) × (id ≡ id_text n)
+Names id None = (m : ℕ) → m < 2 ^ 64 → id ≡ id_text m → ⊥
 
 -- the job that options name, whose name is empty where they have none
-abbrev pub NamesJob : Options → ℕ → Type 0
-NamesJob o n = Names (text_or_none o.job) n
+abbrev pub NamesJob : Options → Option ℕ → Type 0
+NamesJob o job = Names (text_or_none o.job) job
 
--- what a call asks of the job with this number
-abbrev pub order_of : SoapCall → ℕ → Order
-order_of call n = record { kind = call.kind; number = n; osil = call.parts.osil; osol = call.parts.osol }
+-- what a call asks of this job, or of none
+abbrev pub order_of : SoapCall → Option ℕ → Order
+order_of call job = record { kind = call.kind; job = job; osil = call.parts.osil; osol = call.parts.osol }
 
 -- a call with these options asks this, of the job that they name
 abbrev pub IsAsked : SoapCall → Options → Order → Type 0
-IsAsked call o order = (n : ℕ) × NamesJob o n × (order ≡ order_of call n)
+IsAsked call o order = (job : Option ℕ) × NamesJob o job × (order ≡ order_of call job)
 
 -- the text of a process is empty, as that of each call is that has none, or says one, whatever it asks
 abbrev pub SaysProcess : List ℕ → Type 0

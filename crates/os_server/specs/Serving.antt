@@ -21,14 +21,14 @@ use Rattle.os_server.specs.declared.reply.HttpReply.{HttpReply}
 use Rattle.os_server.specs.declared.reply.HttpReply.TheVariants.{Answer, Refused, NoMemory}
 use Rattle.os_server.specs.declared.serve.Served.{Served}
 use Rattle.os_server.specs.declared.serve.Served.TheVariants.{Ended, CutShort, ReadFault, WriteFault, Memory}
-use Rattle.os_server.specs.Answers.{said_by, Does, BeginsToDo}
+use Rattle.os_server.specs.Answers.{said_by, number_for, Does, BeginsToDo}
 use Rattle.os_server.specs.Talk.{Part, was_taken, text_of_reply, IsRung, AtEnd, ReadsBytes, IsBodyAnswered, LacksMemory, IsReplyDue, IsExchange, EndsTalk, HandsOnAll, Accounts}
 
 module _ (made : List ℕ → List ℕ → List Bool → Option (List ℕ) → Type 0) (wakes : Bool → Type 0) where
   -- the moves that do what is asked, and the reply that says the last one's
   abbrev pub DoesOrder : Order → Bool → List MoveEntry → HttpReply → Type 0
   DoesOrder order close own (Answer said closes as_worker) =
-      (closes ≡ close) × (last : tables.Reply) × Does made order last own × (said_by order.kind order.number last ≡ Some said)
+      (closes ≡ close) × (last : tables.Reply) × Does made order last own × (said_by order.kind (number_for order.job) last ≡ Some said)
       × IsRung wakes (was_taken last) as_worker
   DoesOrder order close own (Refused refusal) = ⊥
   DoesOrder order close own NoMemory = BeginsToDo made order own ⊎ ((last : tables.Reply) × Does made order last own)
@@ -93,7 +93,7 @@ CountsCame (Err Memory) before after = ⊥
 pub record ComesOnLink (made : List ℕ → List ℕ → List Bool → Option (List ℕ) → Type 0) (wakes : Bool → Type 0) (did : List MoveEntry → Type 0) (came : Result HttpReply Served) (old new : Tells) : Type 0 where
   pub taken : List ℕ
   pub own : List MoveEntry
-  pub shows : CameWithDue made wakes came (AtEnd [] old.left new.left) taken own
+  pub shows : CameWithDue made wakes came (AtEnd old.left new.left) taken own
   pub moves : did own
   pub read : ReadsBytes taken old.left new.left
   pub counted : CountsCame came old.read_faults new.read_faults
@@ -108,7 +108,7 @@ AccountsOne (Some end) old new = Accounts end old new
 -- one request of a link and of one who makes moves, and what follows
 pub record ServesOne (made : List ℕ → List ℕ → List Bool → Option (List ℕ) → Type 0) (wakes : Bool → Type 0) (did : List MoveEntry → Type 0) (end : Option Served) (old new : Tells) : Type 0 where
   pub part : Part
-  pub answers : AnswersOne made wakes end (AtEnd [] old.left new.left) part
+  pub answers : AnswersOne made wakes end (AtEnd old.left new.left) part
   pub moves : did part.entries
   pub read : ReadsBytes part.taken old.left new.left
   pub wrote : BothTold old.written new.written (Appends part.out)

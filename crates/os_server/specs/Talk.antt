@@ -21,7 +21,7 @@ use Rattle.os_server.specs.declared.reply.HttpReply.TheVariants.{Answer, Refused
 use Rattle.os_server.specs.declared.serve.Served.{Served}
 use Rattle.os_server.specs.declared.serve.Served.TheVariants.{Ended, CutShort, ReadFault, WriteFault, Memory}
 use Rattle.os_server.specs.Orders.{Asks, Faults}
-use Rattle.os_server.specs.Answers.{said_by, fault_said, Does, BeginsToDo}
+use Rattle.os_server.specs.Answers.{said_by, fault_said, number_for, Does, BeginsToDo}
 
 -- most requests of one connection
 abbrev pub most_requests : ℕ
@@ -84,7 +84,7 @@ module _ (made : List ℕ → List ℕ → List Bool → Option (List ℕ) → T
     pub last : tables.Reply
     pub asks : Asks body order
     pub does : Does made order last own
-    pub says : said_by order.kind order.number last ≡ Some said
+    pub says : said_by order.kind (number_for order.job) last ≡ Some said
     pub woken : IsRung wakes (was_taken last) as_worker
 
   -- a body is an envelope whose call is refused, no move of the table is made, and the fault is said
@@ -167,9 +167,9 @@ module _ (made : List ℕ → List ℕ → List Bool → Option (List ℕ) → T
     pub ends : IsLastPart end (length done) AtEnd last
     pub whole : p ≡ then (all_of done) last
 
--- the input was at its end then: nothing is left, and nothing was read past what was taken
-abbrev pub AtEnd : List ℕ → Option (List ℕ) → Option (List ℕ) → Type 0
-AtEnd past left left' = BothTold left left' (λ before after. past ++ after ≡ [])
+-- the input was at its end then: nothing is left
+abbrev pub AtEnd : Option (List ℕ) → Option (List ℕ) → Type 0
+AtEnd left left' = BothTold left left' (λ before after. after ≡ [])
 
 -- these bytes were read
 abbrev pub ReadsBytes : List ℕ → Option (List ℕ) → Option (List ℕ) → Type 0
@@ -203,18 +203,11 @@ Accounts WriteFault old new =
 Accounts Memory old new =
     (new.read_faults ≡ old.read_faults) × (new.write_faults ≡ old.write_faults) × HandsOnAll old new
 
--- a conversation of a link and of one who makes moves, from before to after. More may have been read than it has, but where a read failed: there
--- all that was read are requests that were answered and less than a whole one
+-- a conversation of a link and of one who makes moves, from before to after. The bytes that were read are its own, and no others
 pub record Serves (made : List ℕ → List ℕ → List Bool → Option (List ℕ) → Type 0) (wakes : Bool → Type 0) (did : List MoveEntry → Type 0) (end : Served) (old new : Tells) : Type 0 where
   pub part : Part
-  pub past : List ℕ
-  pub none_past : end ≡ ReadFault → past ≡ []
-  pub talk : Talk made wakes end (AtEnd past old.left new.left) part
+  pub talk : Talk made wakes end (AtEnd old.left new.left) part
   pub moves : did part.entries
-  pub read : ReadsBytes (part.taken ++ past) old.left new.left
+  pub read : ReadsBytes part.taken old.left new.left
   pub wrote : BothTold old.written new.written (Appends part.out)
   pub accounts : Accounts end old new
-
--- the same, and no byte past it was read
-abbrev pub ServesWhole : (List ℕ → List ℕ → List Bool → Option (List ℕ) → Type 0) → (Bool → Type 0) → (List MoveEntry → Type 0) → Served → Tells → Tells → Type 0
-ServesWhole made wakes did end old new = (s : Serves made wakes did end old new) × (s.past ≡ [])

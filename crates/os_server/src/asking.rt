@@ -7,7 +7,7 @@ ghost use Rattle.osol_grammar.specs.declared.options.Options as options_types;
 ghost use Rattle.osol_grammar.specs.Reading.{DecodeFails};
 ghost use Rattle.ospl_grammar.specs.Refusals as ospl;
 ghost use Rattle.osol_grammar.specs.Meaning.{IsOptionsText};
-ghost use Rattle.os_server.specs.Orders.{NamesJob, Names, SaysProcess, Orders, Asks, AsksNothing, OrdersNothing, IsAsked};
+ghost use Rattle.os_server.specs.Orders.{NamesJob, SaysProcess, Orders, Asks, AsksNothing, OrdersNothing, IsAsked};
 
 use crate::fault::{FaultCode, NoOrder};
 use crate::order::Order;
@@ -77,23 +77,13 @@ fn refused_process(alloc: Global, fault: OsplFault) -> NoOrder
     }
 }
 
-/// The number of the job that options name, and 0 where they name none.
-fn number_in(options: &Options) -> u64
+/// The number of the job that options name, if they name one.
+fn job_in(options: &Options) -> Option<u64>
     ensures { NamesJob options.now result }
 {
     match &options.job {
-        Some(id) => number_of_id(id.as_slice()),
-        None => number_of_id(b""),
-    }
-}
-
-/// The number of the job that a text names, and 0 where it names none.
-fn number_of_id(id: &[u8]) -> u64
-    ensures { Names id.now result }
-{
-    match read_id(id) {
-        Some(number) => number,
-        None => 0,
+        Some(id) => read_id(id.as_slice()),
+        None => read_id(b""),
     }
 }
 
@@ -136,7 +126,7 @@ fn asked_by(call: SoapCall, options: &Options) -> Order
     } = parts;
     Order {
         kind,
-        number: number_in(options),
+        job: job_in(options),
         osil,
         osol,
     }

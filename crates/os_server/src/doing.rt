@@ -3,7 +3,7 @@ ghost use Rattle.std.specs.Prelude.{List, IfOk, OnErr};
 ghost use Rattle.job_table.specs.History.{MoveEntry};
 ghost use Rattle.os_server.specs.Answers.{reply_of, Does, BeginsToDo};
 
-use crate::order::Order;
+use crate::order::{Order, number_for};
 use effects::NotStored;
 use job_runs::{Runner, solve};
 use job_table::{IssueFault, Killing, Mover, Retrieved, Statistics, Twin, Verdicts};
@@ -44,10 +44,11 @@ pub(crate) fn do_order<V: Verdicts, C: Mover<V>, R: Runner<V>>(
 {
     let Order {
         kind,
-        number,
+        job,
         osil,
         osol,
     } = order;
+    let number = number_for(job);
     match kind {
         CallKind::GetJobId => match mover.issue() {
             Ok(Ok(number)) => Ok(LastReply::Issued(number)),

@@ -10,7 +10,7 @@ ghost use Rattle.os_server.specs.Serving.{IsReplied, DoesOrder, AnswersCame};
 use crate::asking::read_order;
 use crate::doing::{LastReply, do_order};
 use crate::fault::NoOrder;
-use crate::order::Order;
+use crate::order::{Order, number_for};
 use crate::saying::{Said, said_fault, say};
 use crate::serve::Served;
 use crate::server::Server;
@@ -64,7 +64,7 @@ fn answer_order<V: Verdicts, C: Mover<V>, S: Server<V>>(
     ensures { (own : List MoveEntry) × C.did mover.old mover.new own × DoesOrder S.ran S.wakes order close own result }
 {
     let kind = order.kind;
-    let number = order.number;
+    let number = number_for(order.job);
     match do_order(alloc, mover, server, order) {
         Ok(last) => match say(alloc, kind, number, &last) {
             Ok(said) => {

@@ -2,7 +2,7 @@
 ghost use Rattle.std.specs.Prelude.{◌≡◌, List, []};
 ghost use Rattle.job_table.specs.History.{MoveEntry};
 ghost use Rattle.os_io.specs.Streams.{SameInput, SameOutput};
-ghost use Rattle.os_server.specs.Talk.{Serves, ServesWhole, both_ends};
+ghost use Rattle.os_server.specs.Talk.{Serves, both_ends};
 ghost use Rattle.os_server.specs.Serving.{FollowsReply, IsFinished};
 
 use crate::reply::{HttpReply, answer_request, send_reply};
@@ -85,7 +85,7 @@ pub fn serve_ends<I: Source, O: Sink, V: Verdicts, C: Mover<V>, S: Server<V>>(
     mover: &mut C,
     server: &S,
 ) -> Served
-    ensures serves { ServesWhole S.ran S.wakes (C.did mover.old mover.new) result (both_ends (I.tells input.old) (O.tells output.old)) (both_ends (I.tells input.new) (O.tells output.new)) }
+    ensures serves { Serves S.ran S.wakes (C.did mover.old mover.new) result (both_ends (I.tells input.old) (O.tells output.old)) (both_ends (I.tells input.new) (O.tells output.new)) }
     ensures output_of_input { SameOutput (I.tells input.old) (I.tells input.new) }
     ensures input_of_output { SameInput (O.tells output.old) (O.tells output.new) }
 {
@@ -108,7 +108,7 @@ pub fn turn_away<I: Source, O: Sink, V: Verdicts, S: Server<V>>(
     output: &mut O,
     _server: &S,
 ) -> Served
-    ensures serves { ServesWhole S.ran S.wakes (λ made. made ≡ []) result (both_ends (I.tells _input.now) (O.tells output.old)) (both_ends (I.tells _input.now) (O.tells output.new)) }
+    ensures serves { Serves S.ran S.wakes (λ made. made ≡ []) result (both_ends (I.tells _input.now) (O.tells output.old)) (both_ends (I.tells _input.now) (O.tells output.new)) }
     ensures input_of_output { SameInput (O.tells output.old) (O.tells output.new) }
 {
     match send_reply(output, &HttpReply::NoMemory) {
@@ -119,7 +119,8 @@ pub fn turn_away<I: Source, O: Sink, V: Verdicts, S: Server<V>>(
 
 /// Serves a link, and gives it back: its requests are read and answered one after another, each by the moves that it asks, and
 /// behind each answer that is 200 or 500 a claim is made, and a job that it gives is run. Where a read fails, every whole request that
-/// had come before it was answered. A head is read byte by byte, so a link whose reads cost much reads ahead itself.
+/// had come before it was answered. Nothing is read past the conversation, and of a head one byte after another, so a link whose reads
+/// cost much reads ahead itself.
 pub fn serve_one<L: Link, V: Verdicts, C: Mover<V>, S: Server<V>>(
     alloc: Global,
     mut link: L,

@@ -1,4 +1,6 @@
 pub mod LimitTable
+pub mod SaidAmounts
+pub mod SaidTimes
 pub mod OneState
 pub mod OneAnswer
 pub mod WrittenLimits

@@ -6,7 +6,7 @@ use Rattle.std.proofs.lemmas.List.Sums.{AllPass-from_list_all}
 use Rattle.std.proofs.lemmas.Slice.Eq.{bytes_eq-Decides}
 use Rattle.tree_grammar.specs.Elements.{Attribute}
 use Rattle.osol_grammar.specs.declared.limit.Limit.{Limit}
-use Rattle.osol_grammar.specs.declared.limit.Limit.TheVariants.{Nodes, Turns, Rounds, Names}
+use Rattle.osol_grammar.specs.declared.limit.Limit.TheVariants.{Nodes, Turns, Rounds, Names, Form}
 use Rattle.osol_grammar.specs.declared.options.Options.{Options}
 use Rattle.osol_grammar.specs.Limits.{all, limit_row}
 use Rattle.osol_grammar.specs.Options.{IsOption, amount, with_amount}
@@ -23,6 +23,7 @@ listed Nodes = (0, lit< tt, refl)
 listed Turns = (1, lit< tt, refl)
 listed Rounds = (2, lit< tt, refl)
 listed Names = (3, lit< tt, refl)
+listed Form = (4, lit< tt, refl)
 
 -- two limits are one, or have other names
 named_apart : (l k : Limit) → (l ≡ k) ⊎ ((limit_row l).name ≡ (limit_row k).name → ⊥)
@@ -30,6 +31,7 @@ named_apart Nodes Nodes = inl refl
 named_apart Turns Turns = inl refl
 named_apart Rounds Rounds = inl refl
 named_apart Names Names = inl refl
+named_apart Form Form = inl refl
 named_apart l k = inr (other_name (limit_row l).name (limit_row k).name refl)
 
 -- where one limit has another amount, it has that one, and the others have their own
@@ -38,6 +40,7 @@ amount_with o Nodes n Nodes = inl (refl, refl)
 amount_with o Turns n Turns = inl (refl, refl)
 amount_with o Rounds n Rounds = inl (refl, refl)
 amount_with o Names n Names = inl (refl, refl)
+amount_with o Form n Form = inl (refl, refl)
 amount_with o l n k = inr refl
 
 -- and the job's name stays
@@ -46,6 +49,15 @@ job_with o Nodes n = refl
 job_with o Turns n = refl
 job_with o Rounds n = refl
 job_with o Names n = refl
+job_with o Form n = refl
+
+-- and the time stays
+pub time_with : (o : Options) (l : Limit) (n : ℕ) → (with_amount o l n).seconds ≡ o.seconds
+time_with o Nodes n = refl
+time_with o Turns n = refl
+time_with o Rounds n = refl
+time_with o Names n = refl
+time_with o Form n = refl
 
 -- ---- for all of them
 

@@ -1,17 +1,17 @@
 -- The options of limits, told.
 use Rattle.std.proofs.Common.{◌≡◌, ◌∙◌, ℕ, Option, None, Some, Result, List, [], ◌++◌, refl, ap, subst}
 use Rattle.std.specs.Prelude.{OnOk, codes}
-use Rattle.std.specs.Fmt.{decimal}
 use Rattle.tree_grammar.specs.Elements.{Attribute, Nodes, none, Event, nodes_events}
 use Rattle.element_tree.specs.Building.{Building}
 use Rattle.document_tags.specs.Writing.{with_attribute}
 use Rattle.document_tags.specs.Telling.{Told, ToldAttributes, opening, closing}
 use Rattle.document_tags.proofs.Tellings.{told_after, ends_told, attributes_then}
+use Rattle.fraction.specs.declared.frac.Frac.{Frac}
 use Rattle.osol_grammar.specs.declared.limit.Limit.{Limit}
 use Rattle.osol_grammar.specs.declared.options.Options.{Options}
-use Rattle.osol_grammar.specs.Limits.{limit_row}
+use Rattle.osol_grammar.specs.Limits.{limit_row, amount_text}
 use Rattle.osol_grammar.specs.Options.{amount}
-use Rattle.osol_grammar.specs.Writing.{limit_node, job_nodes}
+use Rattle.osol_grammar.specs.Writing.{limit_node, job_nodes, time_nodes}
 
 abbrev three : (name value : List ℕ) → List Attribute
 three name value = with_attribute (codes "name") name (with_attribute (codes "value") value (with_attribute (codes "solver") (codes "os_cert") []))
@@ -20,15 +20,20 @@ waiting : (a b c : Building) (name value : List ℕ) → a.attributes ≡ [] →
 waiting a b c name value no_wait first second =
     ap (λ (l : List Attribute). l ++ with_attribute (codes "solver") (codes "os_cert") []) (second.waiting ∙ ap (λ (l : List Attribute). l ++ with_attribute (codes "value") value []) (first.waiting ∙ ap (λ (l : List Attribute). l ++ with_attribute (codes "name") name []) no_wait))
 
-pub limit_told : {X E : Type 0} (r : Result X E) (a b c d e : Building) (o : Options) (l : Limit) (name value : List ℕ) → a.attributes ≡ [] → name ≡ (limit_row l).name → value ≡ decimal (amount o l)
+pub limit_told : {X E : Type 0} (r : Result X E) (a b c d e : Building) (o : Options) (l : Limit) (name value : List ℕ) → a.attributes ≡ [] → name ≡ (limit_row l).name → value ≡ amount_text l (amount o l)
     → ToldAttributes a b (with_attribute (codes "name") name []) → ToldAttributes b c (with_attribute (codes "value") value [])
     → Told c d (opening (codes "solverOption") (c.attributes ++ with_attribute (codes "solver") (codes "os_cert") [])) → OnOk r (Told d e (closing (codes "solverOption"))) → OnOk r (Told a e (λ k. nodes_events (limit_node o l none) k))
 limit_told {X} {E} r a b c d e o l name value no_wait is_name is_value first second begins ends =
-    let attributes : c.attributes ++ with_attribute (codes "solver") (codes "os_cert") [] ≡ three (limit_row l).name (decimal (amount o l)) = waiting a b c name value no_wait first second ∙ ap (λ (n : List ℕ). three n value) is_name ∙ ap (λ (v : List ℕ). three (limit_row l).name v) is_value in
-    let opened : Told c d (opening (codes "solverOption") (three (limit_row l).name (decimal (amount o l)))) = subst (λ (as' : List Attribute). Told c d (opening (codes "solverOption") as')) attributes begins in
-    ends_told r a d e (opening (codes "solverOption") (three (limit_row l).name (decimal (amount o l)))) (closing (codes "solverOption")) (told_after a c d _ (attributes_then a b c _ _ first second) opened) ends
+    let attributes : c.attributes ++ with_attribute (codes "solver") (codes "os_cert") [] ≡ three (limit_row l).name (amount_text l (amount o l)) = waiting a b c name value no_wait first second ∙ ap (λ (n : List ℕ). three n value) is_name ∙ ap (λ (v : List ℕ). three (limit_row l).name v) is_value in
+    let opened : Told c d (opening (codes "solverOption") (three (limit_row l).name (amount_text l (amount o l)))) = subst (λ (as' : List Attribute). Told c d (opening (codes "solverOption") as')) attributes begins in
+    ends_told r a d e (opening (codes "solverOption") (three (limit_row l).name (amount_text l (amount o l)))) (closing (codes "solverOption")) (told_after a c d _ (attributes_then a b c _ _ first second) opened) ends
 
 -- the job's name, and then more
 pub job_then : (job : Option (List ℕ)) (more : Nodes) (k : List Event) → nodes_events (job_nodes job none) (nodes_events more k) ≡ nodes_events (job_nodes job more) k
 job_then None more k = refl
 job_then (Some name) more k = refl
+
+-- the time, and then more
+pub time_then : (seconds : Option Frac) (more : Nodes) (k : List Event) → nodes_events (time_nodes seconds none) (nodes_events more k) ≡ nodes_events (time_nodes seconds more) k
+time_then None more k = refl
+time_then (Some s) more k = refl

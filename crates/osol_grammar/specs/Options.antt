@@ -2,15 +2,16 @@
 use Rattle.std.specs.Prelude.{◌≡◌, ◌⊎◌, ℕ, ◌≤◌, Option, None, Some, IfSome, IsSomeAnd, List, codes}
 use Rattle.tree_grammar.specs.Elements.{Attribute}
 use Rattle.document_tags.specs.Elements.{value_of}
+use Rattle.fraction.specs.declared.frac.Frac.{Frac}
 use Rattle.decimal_text.specs.Count.{IsCount}
 use Rattle.osol_grammar.specs.declared.limit.Limit.{Limit}
-use Rattle.osol_grammar.specs.declared.limit.Limit.TheVariants.{Nodes, Turns, Rounds, Names}
+use Rattle.osol_grammar.specs.declared.limit.Limit.TheVariants.{Nodes, Turns, Rounds, Names, Form}
 use Rattle.osol_grammar.specs.declared.options.Options.{Options}
-use Rattle.osol_grammar.specs.Limits.{limit_row}
+use Rattle.osol_grammar.specs.Limits.{limit_row, IsFormWord}
 
--- the options of a job's name and an amount for each limit
-abbrev pub made : Option (List ℕ) → (Limit → ℕ) → Options
-made job amounts = record { job = job; nodes = amounts Nodes; turns = amounts Turns; rounds = amounts Rounds; names = amounts Names }
+-- the options of a job's name, of seconds, and of an amount for each limit
+abbrev pub made : Option (List ℕ) → Option Frac → (Limit → ℕ) → Options
+made job seconds amounts = record { job = job; seconds = seconds; nodes = amounts Nodes; turns = amounts Turns; rounds = amounts Rounds; names = amounts Names; form = amounts Form }
 
 -- what options say of a limit, and the options that say another amount of it
 abbrev pub amount : Options → Limit → ℕ
@@ -18,25 +19,32 @@ amount o Nodes = o.nodes
 amount o Turns = o.turns
 amount o Rounds = o.rounds
 amount o Names = o.names
+amount o Form = o.form
 
 abbrev pub with_amount : Options → Limit → ℕ → Options
 with_amount o Nodes n = record o { nodes = n }
 with_amount o Turns n = record o { turns = n }
 with_amount o Rounds n = record o { rounds = n }
 with_amount o Names n = record o { names = n }
+with_amount o Form n = record o { form = n }
 
--- no options: no job's name, and each limit by default
+-- no options: no job's name, no time, and each limit by default
 abbrev pub no_options : Options
-no_options = made None (λ l. (limit_row l).default)
+no_options = made None None (λ l. (limit_row l).default)
 
 -- the attributes of an option of this limit: it has its name, and is meant for each solver or for this one
 pub record IsOption (l : Limit) (as' : List Attribute) : Type 0 where
   pub named : value_of (codes "name") as' ≡ Some (limit_row l).name
   pub meant : IfSome (value_of (codes "solver") as') (λ s. s ≡ codes "os_cert")
 
--- its value is this amount, which is one that the limit may have
+-- the text says an amount of the limit: of the form by a word, of the others by a count
+abbrev pub IsAmountText : Limit → List ℕ → ℕ → Type 0
+IsAmountText Form text n = IsFormWord text n
+IsAmountText l text n = IsCount text n
+
+-- its value says this amount, which is one that the limit may have
 abbrev pub SaysAmount : Limit → List Attribute → ℕ → Type 0
-SaysAmount l as' n = IsSomeAnd (value_of (codes "value") as') (λ text. IsCount text n) × ((limit_row l).least ≤ n) × (n ≤ (limit_row l).most)
+SaysAmount l as' n = IsSomeAnd (value_of (codes "value") as') (λ text. IsAmountText l text n) × ((limit_row l).least ≤ n) × (n ≤ (limit_row l).most)
 
 -- an option says the amount of its limit, and one of no limit says nothing
 abbrev pub SaysOption : List Attribute → Options → Options → Type 0

@@ -1,13 +1,15 @@
 -- The document that options are written as (Optimization Services option language), and its text.
 use Rattle.std.specs.Prelude.{ℕ, Bool, filter, not, ◌==◌, ◌||◌, Option, None, Some, List, [], ◌∷◌, codes}
-use Rattle.std.specs.Fmt.{decimal}
 use Rattle.tree_grammar.specs.Elements as tree
 use Rattle.tree_grammar.specs.Elements.{none, element, Element}
 use Rattle.tree_grammar.specs.WrittenText.{written}
+use Rattle.fraction.specs.Frac.{ratio}
+use Rattle.fraction.specs.declared.frac.Frac.{Frac}
+use Rattle.decimal_text.specs.Exact.{ratio_text}
 use Rattle.document_tags.specs.Writing.{with_attribute, leaf, group, rooted}
 use Rattle.osol_grammar.specs.declared.limit.Limit.{Limit}
 use Rattle.osol_grammar.specs.declared.options.Options.{Options}
-use Rattle.osol_grammar.specs.Limits.{all, limit_row}
+use Rattle.osol_grammar.specs.Limits.{all, limit_row, amount_text}
 use Rattle.osol_grammar.specs.Options.{amount}
 
 -- the job's name, if there is one, and then more
@@ -15,13 +17,18 @@ abbrev pub job_nodes : Option (List ℕ) → tree.Nodes → tree.Nodes
 job_nodes None more = more
 job_nodes (Some job) more = group (codes "general") (leaf (codes "jobID") job none) more
 
+-- the time, if there is one, in seconds, and then more
+abbrev pub time_nodes : Option Frac → tree.Nodes → tree.Nodes
+time_nodes None more = more
+time_nodes (Some s) more = group (codes "job") (leaf (codes "maxTime") (ratio_text (ratio s)) none) more
+
 -- the option of a limit is written always, or where the amount isn't the one that the limit has without it
 abbrev pub is_told : Options → Limit → Bool
 is_told o l = (limit_row l).always || not (amount o l == (limit_row l).default)
 
 -- the option of a limit, and then more
 abbrev pub limit_node : Options → Limit → tree.Nodes → tree.Nodes
-limit_node o l more = element (codes "solverOption") (with_attribute (codes "name") (limit_row l).name (with_attribute (codes "value") (decimal (amount o l)) (with_attribute (codes "solver") (codes "os_cert") []))) none more
+limit_node o l more = element (codes "solverOption") (with_attribute (codes "name") (limit_row l).name (with_attribute (codes "value") (amount_text l (amount o l)) (with_attribute (codes "solver") (codes "os_cert") []))) none more
 
 -- the options of these limits
 abbrev pub option_nodes : Options → List Limit → tree.Nodes
@@ -36,7 +43,7 @@ abbrev pub limit_nodes : Options → tree.Nodes
 limit_nodes o = option_nodes o (told_limits o)
 
 abbrev pub options_nodes : Options → tree.Nodes
-options_nodes o = job_nodes o.job (group (codes "optimization") (group (codes "solverOptions") (limit_nodes o) none) none)
+options_nodes o = job_nodes o.job (time_nodes o.seconds (group (codes "optimization") (group (codes "solverOptions") (limit_nodes o) none) none))
 
 -- the root that options are written as
 abbrev pub options_element : Options → Element

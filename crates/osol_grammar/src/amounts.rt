@@ -1,10 +1,11 @@
 //! The options of limits, as start tags say them.
 
-ghost use Rattle.std.specs.Prelude.{◌≡◌, ◌↔◌, ℕ, IsTrue, IfSome, MatchOption, codes};
+ghost use Rattle.std.specs.Prelude.{◌≡◌, ◌≤◌, ◌↔◌, ℕ, IsTrue, IfSome, MatchOption, codes};
 ghost use Rattle.document_tags.specs.Elements.{value_of};
 ghost use Rattle.osol_grammar.specs.declared.limit.Limit as kinds;
 ghost use Rattle.osol_grammar.specs.Limits as table;
 ghost use Rattle.osol_grammar.specs.Options.{IsOption, SaysAmount};
+ghost use Rattle.decimal_text.specs.Count.{IsCount};
 
 use crate::limit::{LIMITS, Limit};
 use decimal_text::read_count;
@@ -46,15 +47,38 @@ pub(crate) fn limit_of(attributes: &Attributes<'_>) -> Option<Limit>
     }
 }
 
-/// The amount that an option says, if it says one that the limit may have.
-pub(crate) fn amount_of(attributes: &Attributes<'_>, limit: Limit) -> Option<u32>
-    ensures { MatchOption result ((n : ℕ) → SaysAmount limit attributes.now n → ⊥) (λ n. SaysAmount limit attributes.now n) }
+/// The form that a word says, if it says one.
+fn form_of(word: &[u8]) -> Option<u32>
+    ensures { MatchOption result ((n : ℕ) → table.IsFormWord word.now n → ⊥) (λ n. table.IsFormWord word.now n × (n ≤ 1)) }
 {
-    let text = value(attributes, b"value")?;
+    if word == b"whole".as_slice() {
+        return Some(0);
+    }
+    if word == b"rows".as_slice() {
+        return Some(1);
+    }
+    None
+}
+
+/// The count that a text is, if it is one that the limit may have.
+fn count_of(text: &[u8], limit: Limit) -> Option<u32>
+    ensures { MatchOption result ((n : ℕ) → IsCount text.now n → (table.limit_row limit).least ≤ n → n ≤ (table.limit_row limit).most → ⊥) (λ n. IsCount text.now n × ((table.limit_row limit).least ≤ n) × (n ≤ (table.limit_row limit).most)) }
+{
     let amount = read_count(text).ok()?;
     let row = limit.row();
     if amount < u64::from(row.least) || amount > u64::from(row.most) {
         return None;
     }
     Some(amount as u32)
+}
+
+/// The amount that an option says, if it says one that the limit may have.
+pub(crate) fn amount_of(attributes: &Attributes<'_>, limit: Limit) -> Option<u32>
+    ensures { MatchOption result ((n : ℕ) → SaysAmount limit attributes.now n → ⊥) (λ n. SaysAmount limit attributes.now n) }
+{
+    let text = value(attributes, b"value")?;
+    match limit {
+        Limit::Form => form_of(text),
+        Limit::Nodes | Limit::Turns | Limit::Rounds | Limit::Names => count_of(text, limit),
+    }
 }

@@ -11,10 +11,18 @@ pub(crate) enum Limit {
     Rounds,
     /// Whether a result's values are told with names.
     Names,
+    /// Whether its certificate is told with multipliers of rows alone.
+    Form,
 }
 
 /// All limits, in the order in which their options are written.
-pub(crate) const LIMITS: [Limit; 4] = [Limit::Nodes, Limit::Turns, Limit::Rounds, Limit::Names];
+pub(crate) const LIMITS: [Limit; 5] = [
+    Limit::Nodes,
+    Limit::Turns,
+    Limit::Rounds,
+    Limit::Names,
+    Limit::Form,
+];
 
 /// What is known of a limit: the name of its option, the least and the greatest amount that it may have, the amount that it
 /// has where no option says one, and whether its option is also written where it has that amount.
@@ -63,6 +71,13 @@ impl Limit {
             },
             Limit::Names => LimitRow {
                 name: b"names",
+                least: 0,
+                most: 1,
+                default: 0,
+                always: false,
+            },
+            Limit::Form => LimitRow {
+                name: b"form",
                 least: 0,
                 most: 1,
                 default: 0,

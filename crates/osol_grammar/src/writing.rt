@@ -3,12 +3,15 @@
 ghost use Rattle.std.specs.Prelude.{◌≡◌, [], OnOk, IfOk};
 ghost use Rattle.tree_grammar.specs.Elements.{none, nodes_events};
 ghost use Rattle.document_tags.specs.Telling.{Told, whole_element};
+ghost use Rattle.osol_grammar.specs.Limits.{form_word, amount_text};
 ghost use Rattle.osol_grammar.specs.Writing as writing;
 
 use crate::limit::{LIMITS, Limit};
 use crate::options::Options;
+use decimal_text::write_ratio;
 use document_tags::{attribute, close, leaf, open, open_after, open_with, told_text};
 use element_tree::TreeBuilder;
+use fraction::Frac;
 use itoa::Buffer;
 use os_io::{Memory, Text};
 use std::alloc::Global;
@@ -26,6 +29,21 @@ fn tell_job(b: &mut TreeBuilder, job: &Option<Text>) -> Result<(), Memory>
     close(b, b"general")
 }
 
+/// Tells the time, if there is one.
+fn tell_time(alloc: Global, b: &mut TreeBuilder, seconds: Option<Frac>) -> Result<(), Memory>
+    requires { b.old.attributes ≡ [] }
+    ensures { OnOk result (Told b.old b.new (λ k. nodes_events (writing.time_nodes seconds none) k)) }
+{
+    let Some(seconds) = seconds else {
+        return Ok(());
+    };
+    let mut text = Text::new(alloc);
+    write_ratio(seconds, &mut text)?;
+    open(b, b"job")?;
+    leaf(b, b"maxTime", text.as_slice())?;
+    close(b, b"job")
+}
+
 /// Whether the option of a limit is written.
 fn is_told(options: &Options, limit: Limit) -> bool
     ensures { result ≡ writing.is_told options.now limit }
@@ -34,13 +52,35 @@ fn is_told(options: &Options, limit: Limit) -> bool
     row.always || options.amount(limit) != row.default
 }
 
+/// The word that says a form.
+fn word_of(form: u32) -> &'static [u8]
+    ensures { result.now ≡ form_word form }
+{
+    match form {
+        0 => b"whole",
+        _ => b"rows",
+    }
+}
+
+/// The text that says an amount.
+fn text_of(limit: Limit, amount: u32, digits: &mut Buffer) -> &[u8]
+    ensures { result.now ≡ amount_text limit amount }
+{
+    match limit {
+        Limit::Form => word_of(amount),
+        Limit::Nodes | Limit::Turns | Limit::Rounds | Limit::Names => {
+            digits.format(amount).as_bytes()
+        }
+    }
+}
+
 /// Tells the option of a limit.
 fn tell_limit(b: &mut TreeBuilder, options: &Options, limit: Limit) -> Result<(), Memory>
     requires { b.old.attributes ≡ [] }
     ensures { OnOk result (Told b.old b.new (λ k. nodes_events (writing.limit_node options.now limit none) k)) }
 {
-    let mut amount = Buffer::new();
-    let value = amount.format(options.amount(limit)).as_bytes();
+    let mut digits = Buffer::new();
+    let value = text_of(limit, options.amount(limit), &mut digits);
     attribute(b, b"name", limit.row().name)?;
     attribute(b, b"value", value)?;
     open_after(b, b"solverOption", b"solver", b"os_cert")?;
@@ -61,12 +101,13 @@ fn tell_limits(b: &mut TreeBuilder, options: &Options) -> Result<(), Memory>
 }
 
 /// Tells a whole document.
-fn tell_options(b: &mut TreeBuilder, options: &Options) -> Result<(), Memory>
+fn tell_options(alloc: Global, b: &mut TreeBuilder, options: &Options) -> Result<(), Memory>
     requires { b.old.attributes ≡ [] }
     ensures { OnOk result (Told b.old b.new (whole_element (writing.options_element options.now))) }
 {
     open_with(b, b"osol", b"xmlns", b"os.optimizationservices.org")?;
     tell_job(b, &options.job)?;
+    tell_time(alloc, b, options.seconds)?;
     open(b, b"optimization")?;
     open(b, b"solverOptions")?;
     tell_limits(b, options)?;
@@ -75,12 +116,12 @@ fn tell_options(b: &mut TreeBuilder, options: &Options) -> Result<(), Memory>
     close(b, b"osol")
 }
 
-/// The text of options: a document with the namespace of the option language, the job's name where there is one, and the
-/// option of each limit, those of rounds and of names only where there may be some.
+/// The text of options: a document with the namespace of the option language, the job's name and the time where there are any, and the
+/// option of each limit, those of rounds, of names and of the form only where they aren't as without them.
 pub fn encode(alloc: Global, options: &Options) -> Result<Text, Memory>
     ensures { IfOk result (λ text. text ≡ writing.options_text options.now) }
 {
     let mut b = TreeBuilder::new(alloc);
-    tell_options(&mut b, options)?;
+    tell_options(alloc, &mut b, options)?;
     told_text(alloc, b)
 }

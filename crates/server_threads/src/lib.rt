@@ -22,10 +22,9 @@ mod means;
 mod places;
 mod promise;
 mod serve;
-mod service;
 mod staff;
 
+pub use link_service::Service;
 pub use means::{ServeFault, ServeLimits};
 pub use open_links::OpenLink;
 pub use serve::serve_loop;
-pub use service::Service;

@@ -11,10 +11,10 @@ ghost use Rattle.server_threads.specs.OpenLinks.{GoesOn, Goes, Stays, KeepsMeans
 use crate::means::{Means, ServeFault};
 use crate::places::{Started, put_in, take_out};
 use crate::promise::{Finished, ToServe};
-use crate::service::Service;
 use crossbeam_channel::{Receiver, Sender};
 use desk::{DeskOf, LentSeatOf, SeatOf, Slotted};
 use job_table::Verdicts;
+use link_service::Service;
 use open_links::OpenLink;
 use os_io::{Close, Failed, Link, Listener};
 use std::alloc::Global;

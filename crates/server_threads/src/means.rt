@@ -5,11 +5,11 @@ ghost use Rattle.server_threads.specs.Serving.{taken};
 ghost use Rattle.server_threads.specs.OpenLinks.{MayServe};
 
 use crate::links::{Places, Running};
-use crate::service::Service;
 use crate::staff::Shifts;
 use crossbeam_channel::{Sender, bounded};
 use desk::{DeskOf, Slotted};
 use job_table::Verdicts;
+use link_service::Service;
 use os_io::{Link, Memory};
 use std::alloc::Global;
 use std::collections::VecDeque;

@@ -2,9 +2,9 @@
 
 ghost use Rattle.std.specs.Prelude.{◌≡◌};
 
-use crate::service::Service;
 use desk::{SeatOf, Slotted};
 use job_table::Verdicts;
+use link_service::Service;
 use os_io::Link;
 use std::marker::PhantomData;
 use std::snapshot::Snapshot;

@@ -8,10 +8,10 @@ ghost use Rattle.server_threads.specs.OpenLinks.{HasServedLinks, MayServe};
 
 use crate::links::{LinkHost, ending};
 use crate::means::{Means, Room, ServeFault, ServeLimits};
-use crate::service::Service;
 use crate::staff::{join_workers, start_workers};
 use desk::{DeskOf, SeatOf, Slotted};
 use job_table::Verdicts;
+use link_service::Service;
 use os_io::{Link, Listener};
 use std::alloc::Global;
 use std::snapshot::Snapshot;

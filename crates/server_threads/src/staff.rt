@@ -12,9 +12,9 @@ ghost use Rattle.server_threads.specs.OpenLinks.{Hired, Staffed, HaveLeft, worke
 use crate::means::Means;
 use crate::places::Started;
 use crate::promise::ToWork;
-use crate::service::Service;
 use desk::{DeskOf, SeatOf, Slotted};
 use job_table::Verdicts;
+use link_service::Service;
 use std::alloc::Global;
 use std::collections::VecDeque;
 use std::marker::PhantomData;

@@ -18,9 +18,7 @@ use Rattle.server_threads.specs.declared.means.ServeFault.{ServeFault}
 use Rattle.server_threads.specs.declared.means.ServeFault.TheVariants.{Failed, Memory}
 use Rattle.server_threads.specs.Talks.{LinkTalk, Shift, talk_met, shift_met, short_of, Came, GivenBack, AllTalked, AllWorked}
 use Rattle.server_threads.specs.Serving.{AtOnce}
-use Rattle.os_server.specs.declared.serve.Served.{Served}
-use Rattle.os_server.specs.declared.serve.Served.TheVariants as served
-use Rattle.os_server.specs.Talk.{Serves}
+use Rattle.os_server.specs.Conversations.{Converses as ConversesBy}
 use Rattle.solve_run.specs.JobAnswers.{Right}
 use Rattle.job_solver.specs.Runs.{MakesDocument}
 use Rattle.job_solver.specs.ProvedDocuments.{AreProved}
@@ -32,19 +30,10 @@ use Rattle.serving.specs.Lines.{listening, jobs_line}
 
 -- ---- conversations beside each other
 
--- so ended, there was no memory
-abbrev pub lacks_memory : Served → Bool
-lacks_memory served.Ended = false
-lacks_memory served.CutShort = false
-lacks_memory served.ReadFault = false
-lacks_memory served.WriteFault = false
-lacks_memory served.Memory = true
-
 -- a conversation, by what a ring of the bell may answer, what its link told before it, the moves that were made for it, what its link told
 -- after it, and whether it ended for want of memory
 abbrev pub Converses : (Bool → Type 0) → Tells → List Said → Tells → Bool → Type 0
-Converses rang came said back short =
-    (end : Served) × Serves MakesDocument rang (λ made. made ≡ said) end came back × (short ≡ lacks_memory end)
+Converses = ConversesBy MakesDocument
 
 -- who made moves: the links that came, and the workers, each with its number and its moves
 abbrev pub movers : List LinkTalk → List Shift → List Met

@@ -17,7 +17,6 @@
 
 mod ending;
 mod lines;
-mod links;
 mod server;
 mod setup;
 

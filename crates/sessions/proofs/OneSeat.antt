@@ -19,7 +19,7 @@ use Rattle.job_journal.specs.declared.journal.Journal.{Journal}
 use Rattle.job_journal.specs.Stores.{keeps_these, passes_between, too_long_behind}
 use Rattle.os_server.specs.declared.serve.Served.{Served}
 use Rattle.os_server.specs.Laws.{ConversationsAreKept}
-use Rattle.os_server.specs.Talk.{ServesWhole}
+use Rattle.os_server.specs.Talk.{Serves}
 use Rattle.os_server.proofs.Rounds.{serves_so}
 use Rattle.solve_run.specs.JobAnswers.{Right}
 use Rattle.job_solver.specs.Runs.{MakesDocument, WakesNobody}
@@ -44,31 +44,31 @@ closed_runs first v fresh said asked table c begins =
     subst (λ (z : ℕ × List MoveEntry). LeadsStepwise Right (beginning z.0) z.1 table) (λ i. (begins i, moves_by_one 0 said i)) (closed_with_all first v fresh said asked c)
 
 -- a conversation by moves of a new desk, which was closed
-pub served_alone : (did : List MoveEntry → Type 0) (end : Served) (old new : Tells) (table : Register) → (s : ServesWhole MakesDocument WakesNobody did end old new)
-    → LeadsStepwise Right (beginning 1) s.0.part.entries table → ServesAlone end old new
-served_alone did end old new table (s, whole) runs = (table, (serves_so MakesDocument WakesNobody did (λ made. LeadsStepwise Right (beginning 1) made table) end old new s runs, whole))
+pub served_alone : (did : List MoveEntry → Type 0) (end : Served) (old new : Tells) (table : Register) → (s : Serves MakesDocument WakesNobody did end old new)
+    → LeadsStepwise Right (beginning 1) s.part.entries table → ServesAlone end old new
+served_alone did end old new table s runs = (table, serves_so MakesDocument WakesNobody did (λ made. LeadsStepwise Right (beginning 1) made table) end old new s runs)
 
 -- a conversation without a move
-pub served_without : (end : Served) (old new : Tells) → ServesWhole MakesDocument WakesNobody (λ made. made ≡ []) end old new → ServesAlone end old new
+pub served_without : (end : Served) (old new : Tells) → Serves MakesDocument WakesNobody (λ made. made ≡ []) end old new → ServesAlone end old new
 served_without end old new s =
-    served_alone (λ made. made ≡ []) end old new (beginning 1) s (subst (λ (es : List MoveEntry). LeadsStepwise Right (beginning 1) es (beginning 1)) (sym s.0.moves) refl)
+    served_alone (λ made. made ≡ []) end old new (beginning 1) s (subst (λ (es : List MoveEntry). LeadsStepwise Right (beginning 1) es (beginning 1)) (sym s.moves) refl)
 
 -- a conversation whose moves were all that were made is a session
 pub session_of : ConversationsAreKept MakesDocument WakesNobody Right → ShownAreProved → (end : Served) (old new : Tells) → ServesAlone end old new → IsSession end old new
-session_of kept shown end old new (table, (s, whole)) =
+session_of kept shown end old new (table, s) =
     let runs : LeadsTo Right s.part.entries table = subst (λ (k : ℕ). LeadsStepwise Right (beginning k) s.part.entries table) (sym (first_led Right 1 s.part.entries table s.moves)) s.moves in record {
       entries = s.part.entries;
       table = table;
       runs = s.moves;
-      serves = (serves_so MakesDocument WakesNobody (λ made. LeadsStepwise Right (beginning 1) made table) (λ made. made ≡ s.part.entries) end old new s refl, whole);
+      serves = serves_so MakesDocument WakesNobody (λ made. LeadsStepwise Right (beginning 1) made table) (λ made. made ≡ s.part.entries) end old new s refl;
       kept = kept_stepwise Right (beginning 1) table s.part.entries s.moves
-          (kept end s.past old.left new.left s.part (beginning 1) [] table (omega arith) s.talk (on_stepwise Right (beginning 1) table s.part.entries s.moves));
+          (kept end old.left new.left s.part (beginning 1) [] table (omega arith) s.talk (on_stepwise Right (beginning 1) table s.part.entries s.moves));
       proved = shown s.part.entries table runs;
     }
 
 -- a conversation without a move, over a journal
 pub stored_without : {D : Type 0} {g : _} (told : D → Bool) (seen : D → List ℕ) (may_leave : D → List ℕ → Type 0) (moment : D → ℕ) (left_since : D → ℕ → List ℕ → Type 0) (faults : D → ℕ) (first : Register) (journal : Journal D g) (end : Served) (disk : D) (old new : Tells)
-    → disk ≡ journal.disk → ServesWhole MakesDocument WakesNobody (λ made. made ≡ []) end old new → ServesStored told seen may_leave moment left_since faults first journal end disk old new
+    → disk ≡ journal.disk → Serves MakesDocument WakesNobody (λ made. made ≡ []) end old new → ServesStored told seen may_leave moment left_since faults first journal end disk old new
 stored_without told seen may_leave moment left_since faults first journal end disk old new left serves =
     ([], first, journal, left, closes_nothing Right (keeps_these told seen may_leave) (passes_between told moment left_since) too_long_behind (λ j. j.broken) (λ j. faults j.disk) first journal, serves)
 
@@ -77,15 +77,15 @@ pub stored_session_of : {D : Type 0} {g : _} (told : D → Bool) (seen : D → L
     → held ≡ first → store ≡ journal → Rises first → NobodyRuns first → ConversationsAreKept MakesDocument WakesNobody Right → ShownAreProvedFrom
     → ServesStored told seen may_leave moment left_since faults held store end disk old new → IsStoredSession told seen may_leave moment left_since faults first journal end disk old new
 stored_session_of {D} {g} told seen may_leave moment left_since faults first held journal store end disk old new same kept_in rises nobody kept shown serves =
-    let (own, table, after, left, closes, (s, whole)) = subst (λ (z : Register × Journal D g). ServesStored told seen may_leave moment left_since faults z.0 z.1 end disk old new) (λ i. (same i, kept_in i)) serves in
+    let (own, table, after, left, closes, s) = subst (λ (z : Register × Journal D g). ServesStored told seen may_leave moment left_since faults z.0 z.1 end disk old new) (λ i. (same i, kept_in i)) serves in
     let moves : LeadsOn Right first own table = subst (λ (es : List MoveEntry). LeadsOn Right first es table) (moves_by_one 0 own) closes.moves in record {
       own = own;
       table = table;
       after = after;
       left_is = left;
       closes = closes;
-      serves = (s, whole);
+      serves = s;
       kept = subst (λ (es : List MoveEntry). AreKeptIfStored es) s.moves
-          (kept end s.past old.left new.left s.part first [] table rises s.talk (subst (λ (es : List MoveEntry). LeadsOn Right first es table) (sym s.moves) moves));
+          (kept end old.left new.left s.part first [] table rises s.talk (subst (λ (es : List MoveEntry). LeadsOn Right first es table) (sym s.moves) moves));
       shown = shown first own table rises nobody moves;
     }

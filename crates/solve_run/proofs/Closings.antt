@@ -1,7 +1,9 @@
 -- What is told of a claim has numbers of its types.
 use Rattle.std.proofs.Common.{ℕ, ◌^◌, ◌<◌, inl, inr, Option, None, Some, List, sym, subst}
-use Rattle.std.specs.Prelude.{IfSome}
+use Rattle.std.specs.Prelude.{IfSome, length}
+use Rattle.std.proofs.lemmas.List.Elements.{All-nil}
 use Rattle.instance.specs.Parts.{Parts, IsValid}
+use Rattle.certificate.specs.declared.nodes.Cert.{Cert}
 use Rattle.certificate.specs.declared.causes.Cause.{Cause}
 use Rattle.certificate.specs.declared.causes.Cause.TheVariants as causes
 use Rattle.certificate.specs.declared.claims.Claim.{Claim}
@@ -10,10 +12,13 @@ use Rattle.osrl_writing.specs.declared.told_names.NameLists.{NameLists}
 use Rattle.osrl_grammar.specs.Back.{CauseComesBack, ClaimComesBack}
 use Rattle.solve_run.specs.declared.document.Document.{Document}
 use Rattle.certificate.specs.GivenUp.{given_up}
-use Rattle.solve_run.specs.Judging.{IsShownClaim, HasFewRounds, wide_check, IsJudged, checked}
+use Rattle.solve_run.specs.Judging.{IsShownClaim, AreFewRounds, HasFewRounds, wide_check, IsJudged, checked}
 use Rattle.solve_run.specs.Closings.{IsFitted}
 use Rattle.solve_run.specs.Runs.{HasCauses, IsFittedDocument, IsClaimTold}
+use Rattle.solve_run.specs.RowForms.{IsFormed}
+use Rattle.solve_run.proofs.PartialClaims.{given_shown}
 use Rattle.solve_run.proofs.RoundTrips.{shown_back}
+use Rattle.solve_run.proofs.RowForms.{formed_back}
 
 given_back : (c : Claim) (cause : Cause) → CauseComesBack cause → ClaimComesBack (Some c) → ClaimComesBack (Some (given_up c cause))
 given_back (Optimal x vs cs) cause h back = (back.0, h, tt)
@@ -26,18 +31,34 @@ checked_back : (c : Claim) (turns : ℕ) (width : Option ℕ) → turns < 2 ^ 64
 checked_back c turns None few node h = h
 checked_back c turns (Some n) few node h = given_back c (wide_check n turns) (node, few) h
 
-fitted_back : (job : Option (List ℕ)) (c told : Claim) → IsFitted job c told → ClaimComesBack (Some c) → ClaimComesBack (Some told)
+pub fitted_back : (job : Option (List ℕ)) (c told : Claim) → IsFitted job c told → ClaimComesBack (Some c) → ClaimComesBack (Some told)
 fitted_back job c told (inl (short, same)) h = subst (λ (d : Claim). ClaimComesBack (Some d)) (sym same) h
 fitted_back job c told (inr (long, same)) h = subst (λ (d : Claim). ClaimComesBack (Some d)) (sym same) (given_back c causes.Length tt h)
 
--- a claim that is shown, of few rounds, checked and fitted is told
-pub told : (p : Parts) (ns : NameLists) (job : Option (List ℕ)) (turns : ℕ) (found : Claim) (width : Option ℕ) (doc : Document)
+-- what is checked of a claim that is shown is shown, and of few rounds where it is
+pub checked_shown : (p : Parts) (c : Claim) (turns : ℕ) (width : Option ℕ) → IsShownClaim p c → IsShownClaim p (checked c turns width)
+checked_shown p c turns None s = s
+checked_shown p c turns (Some n) s = given_shown p c (wide_check n turns) s
+
+given_few : (c : Claim) (cause : Cause) → HasFewRounds (given_up c cause)
+given_few (Optimal x vs cs) cause = All-nil (λ (cert : Cert). AreFewRounds (length cert.rounds))
+given_few (Infeasible cert) cause = All-nil (λ (cert : Cert). AreFewRounds (length cert.rounds))
+given_few (Unbounded x vs cs r) cause = All-nil (λ (cert : Cert). AreFewRounds (length cert.rounds))
+given_few (BestSoFar x vs old b) cause = All-nil (λ (cert : Cert). AreFewRounds (length cert.rounds))
+given_few (Unsure old b) cause = All-nil (λ (cert : Cert). AreFewRounds (length cert.rounds))
+
+pub checked_few : (c : Claim) (turns : ℕ) (width : Option ℕ) → HasFewRounds c → HasFewRounds (checked c turns width)
+checked_few c turns None few = few
+checked_few c turns (Some n) few = given_few c (wide_check n turns)
+
+-- a claim that is shown, of few rounds, checked, formed and fitted is told
+pub told : (p : Parts) (ns : NameLists) (note job : Option (List ℕ)) (form turns : ℕ) (found : Claim) (width : Option ℕ) (formed : Claim) (doc : Document)
     → IsValid p → IsShownClaim p found → HasFewRounds found → HasCauses found → turns < 2 ^ 64 → IfSome width (λ n. n < 2 ^ 32)
-    → IsJudged p found width → IsFittedDocument ns job (checked found turns width) doc → IsClaimTold p ns job turns found doc
-told p ns job turns found width doc valid shown fewer causes few node judged (inl (c, fitted, is)) = inl (record {
+    → IsJudged p found width → IsFormed p form (checked found turns width) formed → IsFittedDocument ns note job formed doc → IsClaimTold p ns note job form turns found doc
+told p ns note job form turns found width formed doc valid shown fewer causes few node judged forms (inl (c, fitted, is)) = inl (record {
   told = c;
-  closed = record { width = width; judged = judged; fitted = fitted };
-  numbers = fitted_back job (checked found turns width) c fitted (checked_back found turns width few node (shown_back p found valid shown fewer causes));
+  closed = record { width = width; judged = judged; formed = formed; forms = forms; fitted = fitted };
+  numbers = fitted_back job formed c fitted (formed_back p form (checked found turns width) formed forms (checked_back found turns width few node (shown_back p found valid shown fewer causes)));
   is = is;
 })
-told p ns job turns found width doc valid shown fewer causes few node judged (inr memory) = inr memory
+told p ns note job form turns found width formed doc valid shown fewer causes few node judged forms (inr memory) = inr memory

@@ -1,5 +1,5 @@
 -- Answers and the names that they are told with.
-use Rattle.std.proofs.Common.{◌≡◌, ◌∙◌, ℕ, inl, inr, ◌⊎◌, Bool, true, false, Option, List, eqb-true, refl, ap, sym, subst}
+use Rattle.std.proofs.Common.{◌≡◌, ◌∙◌, ℕ, inl, inr, ◌⊎◌, Bool, true, false, List, eqb-true, refl, ap, sym, subst}
 use Rattle.std.specs.Prelude.{nat_eq}
 use Rattle.std.proofs.lemmas.Bool.{false≢true}
 use Rattle.osol_grammar.specs.declared.options.Options.{Options}
@@ -12,7 +12,7 @@ use Rattle.osrl_writing.specs.declared.report.Report.{Report}
 use Rattle.osrl_writing.specs.Labels.{AreXmlNames, no_names}
 use Rattle.osrl_writing.specs.Writing.{report_text, named_text, told_text}
 use Rattle.osrl_grammar.specs.Reading.{IsReportText}
-use Rattle.instance_names.specs.Reading.{GivesNames, MayGiveNames}
+use Rattle.instance_names.specs.Reading.{GivesNames}
 use Rattle.solve_run.specs.declared.document.Document.{Document}
 use Rattle.solve_run.specs.JobAnswers.{AskForNames, TellsReport}
 use Rattle.solve_run.specs.Runs.{IsDocumentOf, IsNamedDocument, IsAnswer, AreDueNames}

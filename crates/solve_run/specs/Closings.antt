@@ -1,5 +1,5 @@
--- What a search's claim becomes before it is told: where a sum by which it is checked doesn't fit, or its document would be too long, it is given up, but for its point.
-use Rattle.std.specs.Prelude.{◌≡◌, ◌⊎◌, ℕ, ◌≤◌, Option, None, Some, true, false, List, length}
+-- What a search's claim becomes before it is told: where a sum by which it is checked doesn't fit, or its document would be too long, it is given up, but for its point; and its certificate may be told with multipliers of rows alone.
+use Rattle.std.specs.Prelude.{◌≡◌, ◌⊎◌, ℕ, ◌≤◌, Option, None, Some, true, false, cond, nat_le, List, length}
 use Rattle.instance.specs.Parts.{Parts}
 use Rattle.document_tags.specs.Texts.{document_limit}
 use Rattle.certificate.specs.declared.causes.Cause.TheVariants as causes
@@ -9,6 +9,7 @@ use Rattle.osrl_writing.specs.declared.report.Report.{Report}
 use Rattle.osrl_writing.specs.Writing.{report_text}
 use Rattle.certificate.specs.GivenUp.{given_up}
 use Rattle.solve_run.specs.Judging.{IsJudged, checked}
+use Rattle.solve_run.specs.RowForms.{IsFormed}
 
 -- the report of an error of a finished job, with this message
 abbrev pub error_report : (job : Option (List ℕ)) → (message : List ℕ) → Report
@@ -18,6 +19,19 @@ error_report job message = record { error = true; job = job; message = Some mess
 abbrev pub claim_report : (job : Option (List ℕ)) → Claim → Report
 claim_report job c = record { error = false; job = job; message = None; status = Finished; claim = Some c }
 
+-- the first report, if its document isn't too long, or else the second
+abbrev pub unless_long : (wanted instead : Report) → Report
+unless_long r s = cond (nat_le (length (report_text r)) document_limit) r s
+
+-- the report with this message
+abbrev pub with_message : List ℕ → Report → Report
+with_message m r = record r { message = Some m }
+
+-- the report with this message, if there is one; without it where its document would be too long with it
+abbrev pub noted : (note : Option (List ℕ)) → Report → Report
+noted None r = r
+noted (Some m) r = unless_long (with_message m r) r
+
 -- the document of the claim, under this job's name, isn't too long
 abbrev pub IsShort : (job : Option (List ℕ)) → Claim → Type 0
 IsShort job c = length (report_text (claim_report job c)) ≤ document_limit
@@ -26,8 +40,10 @@ IsShort job c = length (report_text (claim_report job c)) ≤ document_limit
 abbrev pub IsFitted : (job : Option (List ℕ)) → (checked told : Claim) → Type 0
 IsFitted job c told = (IsShort job c × (told ≡ c)) ⊎ ((IsShort job c → ⊥) × (told ≡ given_up c causes.Length))
 
--- what is told of what a search found after so many turns: it is checked first, and then fitted
-pub record IsToldOf (p : Parts) (job : Option (List ℕ)) (turns : ℕ) (found told : Claim) : Type 0 where
+-- what is told of what a search found after so many turns: it is checked first, then formed, and then fitted
+pub record IsToldOf (p : Parts) (job : Option (List ℕ)) (form turns : ℕ) (found told : Claim) : Type 0 where
   pub width : Option ℕ
   pub judged : IsJudged p found width
-  pub fitted : IsFitted job (checked found turns width) told
+  pub formed : Claim
+  pub forms : IsFormed p form (checked found turns width) formed
+  pub fitted : IsFitted job formed told

@@ -1,10 +1,19 @@
 //! The check of a claim before it is told.
 ghost use Rattle.std.specs.Prelude.{◌≡◌, ℕ, ◌<◌, ◌^◌, true, false, IfOk, IfSome};
+ghost use Rattle.std.specs.List.{All};
+ghost use Rattle.evidence.specs.Claim.{Accepts};
+ghost use Rattle.instance.specs.Program.{problem};
+ghost use Rattle.certificate.specs.Meanings as Means;
+ghost use Rattle.certificate.specs.Nodes.{nodes_of, IsInRange};
 ghost use Rattle.instance.specs.Parts.{IsValid};
 ghost use Rattle.cert_checker.specs.Cuts.{HasRoom};
 ghost use Rattle.solve_run.specs.Judging as specs;
+ghost use Rattle.solve_run.specs.RowForms.{IsAcceptedOfRows, IsFormed, claim_of_rows};
 
-use cert_checker::{Refused, Scratch, Unshown, check, shown_is_refused_for_width_alone};
+use crate::row_forms::claim_of_rows;
+use cert_checker::{
+    Refused, Scratch, Unshown, check, refused_is_not_accepted, shown_is_refused_for_width_alone,
+};
 use certificate::{Cause, Claim, Place, Step};
 use instance::{Instance, problems_have_numbers};
 use os_io::Memory;
@@ -84,4 +93,35 @@ pub fn checked(claim: Claim, turns: u64, width: Option<u32>) -> Claim
         }
         None => claim,
     }
+}
+
+/// Whether a claim that a search has shown is accepted in this form, with multipliers of rows alone.
+fn is_accepted(instance: &Instance, rows: &Claim, scratch: &mut Scratch) -> bool
+    requires range { All IsInRange (nodes_of rows.now) }
+    requires room { HasRoom instance.now rows.now scratch.old }
+    ensures yes { result ≡ true → Accepts (problem instance.now) (Means.claim rows.now) }
+    ensures no { result ≡ false → Accepts (problem instance.now) (Means.claim rows.now) → ⊥ }
+{
+    refused_is_not_accepted();
+    problems_have_numbers();
+    check(instance, rows, scratch).is_ok()
+}
+
+/// A claim that a search has shown, in the form that is asked for: with multipliers of rows alone, by 1, where the checker accepts
+/// it so, and else as it is.
+pub fn formed(alloc: Global, instance: &Instance, claim: Claim, form: u32) -> Result<Claim, Memory>
+    requires valid { IsValid instance.now }
+    requires shown { specs.IsShownClaim instance.now claim }
+    requires few { specs.HasFewRounds claim }
+    ensures { IfOk result (IsFormed instance.now form claim) }
+{
+    if form != 1 || !is_final(&claim) {
+        return Ok(claim);
+    }
+    let rows = claim_of_rows(alloc, instance.vars().len() as u32, &claim)?;
+    let mut scratch = Scratch::for_claim(alloc, instance, &rows)?;
+    if is_accepted(instance, &rows, &mut scratch) {
+        return Ok(rows);
+    }
+    Ok(claim)
 }

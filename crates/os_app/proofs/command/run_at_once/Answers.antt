@@ -1,15 +1,13 @@
 use Rattle.std.proofs.lemmas.Result.{IfOk-weaker}
-use Rattle.std.proofs.Common.{◌∙◌, ◌≤◌, Some, None, ap, refl}
-use Rattle.effects.specs.Limits.{most_first}
+use Rattle.std.proofs.Common.{◌∙◌, Some, ap, refl}
 use Rattle.command_line.proofs.Meanings.{asks_it, asks_none}
 use Rattle.os_app.proofs.OtherWords.{other_told}
-use Rattle.os_app.proofs.Words.{serve_runs}
-use Rattle.os_app.proofs.Words.{links_none, names_none, session_runs, unheard_runs}
+use Rattle.os_app.proofs.Words.{links_none, names_none, unheard_runs}
 use Rattle.os_app.proofs.Calls.{call_runs, none_named}
 use Rattle.os_app.proofs.Checks.{check_runs}
 use Rattle.os_app.proofs.CompactRuns.{compact_runs}
 use Rattle.os_app.proofs.Summaries.{generate_runs}
-use Rattle.os_app.proofs.JournalRuns.{hosted_runs, journal_none, kept_runs, serve_named, session_named, set_within}
+use Rattle.os_app.proofs.JournalRuns.{journal_none}
 use Rattle.os_app.proofs.Solves.{about_named, solve_runs}
 use Rattle.os_app.proofs.Ends.{ends_of, made_ends, told_from}
 use Rattle.os_app.proofs.command.run_at_once.Goals as goal
@@ -22,9 +20,9 @@ returns-in-Ok-Some-Check-clause-runs g c = λ input.
 pub returns-in-Ok-Some-Solve-clause-runs : goal.returns-in-Ok-Some-Solve-clause-runs
 returns-in-Ok-Some-Solve-clause-runs g c = λ input.
     let solve = asks_it _ _ _ (c.in-Ok-Some-Solve.field-0-is ∙ ap Some c.in-Ok-Some-Solve.field-0-0-is) c.in-Ok-Some-Solve.ensures in
-    solve_runs refl _ _ _ _ _ solve
+    solve_runs refl _ _ _ _ _ _ solve
     (ends_of _ _ _ _ c.solve_files.result _ _
-    (IfOk-weaker c.solve_files.result _ _ (λ a about. about_named (g.F.Files.held c.args.files.now) _ _ _ a.status a.text about) c.solve_files.ensures.ok)
+    (IfOk-weaker c.solve_files.result _ _ (λ a about. about_named (g.F.Files.held c.args.files.now) _ _ _ _ a.status a.text about) c.solve_files.ensures.ok)
     c.solve_files.ensures.counted c.tell-in-Ok-Some-Solve.ensures.told) (refl, refl)
 
 pub returns-in-Ok-None-clause-runs : goal.returns-in-Ok-None-clause-runs

@@ -9,8 +9,6 @@ pub returns-clause-serves : goal.returns-clause-serves
 returns-clause-serves g c =
     let served = c.serve_ends-served in
     let s = served.ensures.serves in
-    let back : c.seat-1.given.0 ≡ served.new.mover.seat.now = c.seat-1.given.1 (sym s.0.moves.0) in (
-      serves_so MakesDocument WakesNobody _ _ _ _ _ s.0
-          (subst (λ seat. AskedBy (g.T.Slotted.legal (told_of c.args.desk.now)) c.args.seat.now.me.0 seat.me.0 s.0.part.entries) (sym back) s.0.moves.2),
-      s.1,
-    )
+    let back : c.seat-1.given.0 ≡ served.new.mover.seat.now = c.seat-1.given.1 (sym s.moves.0) in
+    serves_so MakesDocument WakesNobody _ _ _ _ _ s
+    (subst (λ seat. AskedBy (g.T.Slotted.legal (told_of c.args.desk.now)) c.args.seat.now.me.0 seat.me.0 s.part.entries) (sym back) s.moves.2)

@@ -7,4 +7,4 @@ returns-clause-serves g c =
     let served = c.serve_by_seat-served in
     let closed = c.close-closed in
     served_alone _ served.result _ _ closed.result served.ensures.serves
-    (closed_runs c.args.seat.me.0 served.new.seat.me.0 c.requires.fresh _ served.ensures.serves.0.moves closed.result closed.ensures.closes (closed.ensures.first ∙ c.requires.begins))
+    (closed_runs c.args.seat.me.0 served.new.seat.me.0 c.requires.fresh _ served.ensures.serves.moves closed.result closed.ensures.closes (closed.ensures.first ∙ c.requires.begins))

@@ -8,12 +8,12 @@ pub returns-clause-serves : goal.returns-clause-serves
 returns-clause-serves g c =
     let served = c.serve_by_seat-served in
     let s = served.ensures.serves in
-    let own = s.0.part.entries in
+    let own = s.part.entries in
     let closed = c.close_stored-table in (
       own,
       closed.result.0,
       closed.result.1,
       c.into_disk.ensures,
-      closed_with_all c.args.seat.me.0 served.new.seat.me.0 c.requires.fresh own s.0.moves closed.ensures,
-      (serves_so MakesDocument WakesNobody _ (λ made. made ≡ own) _ _ _ s.0 refl, s.1),
+      closed_with_all c.args.seat.me.0 served.new.seat.me.0 c.requires.fresh own s.moves closed.ensures,
+      serves_so MakesDocument WakesNobody _ (λ made. made ≡ own) _ _ _ s refl,
     )
