@@ -48,8 +48,11 @@ fn is_point(instance: &Instance, point: &[Frac]) -> bool
     ensures no { result ≡ false → IsFeasible (program instance.now) (ratios point.now) → PointFits (problem instance.now) (ratios point.now) → ⊥ }
 {
     match instance.feasible(point) {
-        Ok(Feas::Yes) => true,
-        _ => false,
+        Ok(feas) => match feas {
+            Feas::Yes => true,
+            Feas::No { col: _ } => false,
+        },
+        Err(_) => false,
     }
 }
 
