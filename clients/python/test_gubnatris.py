@@ -403,8 +403,8 @@ class Served(unittest.TestCase):
                 program.solve(path, node_limit=1, turn_limit=1, result=found),
             ):
                 with self.subTest(path.stem):
-                    self.assertEqual(answer, found)
-                    self.assertEqual(answer.message, "")
+                    self.assertEqual(*(re.sub("<jobID>.*?</jobID>", "", it.document) for it in (answer, found)))
+                    self.assertEqual((answer.values, answer.certificate, answer.message), (found.values, found.certificate, ""))
 
     def test_what_is_handed_in_is_checked(self):
         program = gubnatris.Program(PROGRAM)
