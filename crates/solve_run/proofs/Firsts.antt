@@ -1,5 +1,5 @@
 -- The first point of a job's search has a value for each goal.
-use Rattle.std.proofs.Common.{◌≡◌, ◌∙◌, ℕ, Option, None, Some, List, length, refl, sym, ap, arith}
+use Rattle.std.proofs.Common.{◌≡◌, ◌∙◌, Option, None, Some, List, length, sym, ap, arith}
 use Rattle.std.specs.Prelude.{option_map, map}
 use Rattle.std.proofs.lemmas.List.{length-map, length-drop}
 use Rattle.rational.specs.Ratio.{Ratio}
