@@ -3,10 +3,10 @@
     python3 tools/certify_tables.py [random N] [models | peers] [bench] [inputs] [vipr]
 
 Without words it tries all but *peers*, with 1,000 programs of each kind. *Random* compares what `check` accepts of small programs with what
-`solve` says of them. *Models* are GLPK's own, of those within the limits; *peers* times `solve`, `glpsol` and `cbc` beside. *Bench* are those
-of `bench/programs.py`, random linear programs of 500 and 1,000 rows among them. *Inputs* are bad
-ones, and solvers that lie, write rubbish, hang or aren't there. *Vipr* reads the files of certificates by a checker that knows nothing of
-this project.
+`solve` says of them. *Models* are GLPK's own, of those within the limits; *peers* times `solve`, `glpsol` and `cbc` beside, and says how many
+models keep to the aims, which judges nothing but on a quiet machine. *Bench* are those of `bench/programs.py`, random linear programs of 500
+and 1,000 rows among them. *Inputs* are bad ones, and solvers that lie, write rubbish, hang or aren't there. *Vipr* reads the files of
+certificates by a checker that knows nothing of this project.
 """
 
 import concurrent.futures
@@ -42,6 +42,7 @@ EXAMPLES = f"{TOOLS}/../examples"
 SEED = 7
 DEFINITE = ("accepted optimal", "accepted infeasible", "accepted unbounded")
 MODEL_SECONDS, LEAST_MODELS = 60, 57
+AIM_SECONDS, AIM_TIMES, LONG_SECONDS = 20, 3, 1.0  # of a model; of the faster peer's seconds, where it needs so many
 failures, tried = [], [0]
 
 
@@ -109,7 +110,7 @@ def processor_seconds():
 
 
 def peer_seconds(osil, file, dialect, sense, folder):
-    """The processor seconds of `solve`, of `glpsol` and of `cbc`, as cells."""
+    """The processor seconds of `solve`, of `glpsol` and of `cbc`, none where one is past the limit."""
     instance = job_documents.instance_of(osil)
     put(folder, "peer.mps", float_solvers.mps(instance))
     runs = (
@@ -118,15 +119,31 @@ def peer_seconds(osil, file, dialect, sense, folder):
         ["cbc", f"{folder}/peer.mps", "solve"],
     )
     ends = [convert_peers.run(words, f"{folder}/peer.out") for words in runs]
-    return [f"{seconds:.2f}" if status >= 0 else f"> {convert_peers.LIMIT}" for status, seconds, _ in ends]
+    return [seconds if status >= 0 else None for status, seconds, _ in ends]
 
 
 def nodes_of(text):
-    return len(re.findall("<item>(?:split|zero|clash|farkas|bound)", text))
+    return len(re.findall("<item>(?:split|zero|clash|farkas|bound|grid)", text))
+
+
+class Timed:
+    """A model that was tried: whether its answer is shown, in how many seconds of all that was started, and those of the peers."""
+
+    def __init__(self, is_shown, seconds, peers):
+        self.is_shown, self.seconds, self.peers = is_shown, seconds, peers
+        self.faster = min((each for each in peers[1:] if each is not None), default=None)
+
+    def times(self):
+        """How many times the faster peer's seconds it took, where that peer needs long."""
+        return self.seconds / self.faster if self.is_shown and self.faster and self.faster >= LONG_SECONDS else None
+
+    def cells(self):
+        times = self.times()
+        return [f"> {convert_peers.LIMIT}" if each is None else f"{each:.2f}" for each in self.peers] + ["" if times is None else f"{times:.1f}"]
 
 
 def try_model(example, has_peers):
-    """Whether a model's answer is shown, none where it isn't within the limits; its row, with the seconds of all that was started."""
+    """A model as it was tried, none where it isn't within the limits; prints its row."""
     with tempfile.TemporaryDirectory() as folder:
         files, sense = example.translate(folder)
         end = next(iter(files), None)
@@ -137,18 +154,31 @@ def try_model(example, has_peers):
         answer, text, _ = certified(osil, folder, MODEL_SECONDS)
         seconds = processor_seconds() - before
         cells = [example.name, answer or "nothing", ", ".join(said(text)[1]), f"{seconds:.2f}", nodes_of(text), text.count("<item>round"), len(text)]
-        cells += peer_seconds(osil, files[end], convert_peers.DIALECTS[end][2], sense, folder) if has_peers else []
+        timed = Timed(answer in DEFINITE, seconds, peer_seconds(osil, files[end], convert_peers.DIALECTS[end][2], sense, folder) if has_peers else [])
+        cells += timed.cells() if has_peers else []
         print("| " + " | ".join(map(str, cells)) + " |", flush=True)
         check(answer is None or answer.startswith("accepted"), example.name, str(answer))
-        return answer in DEFINITE
+        return timed
 
 
 def try_models(has_peers=False):
     """The table of GLPK's models that are within the limits, beside other solvers where that is wanted."""
-    head = ["model", "answer", "value", "seconds", "nodes", "rounds", "bytes"] + ["solve", "glpsol", "cbc"] * has_peers
+    head = ["model", "answer", "value", "seconds", "nodes", "rounds", "bytes"] + ["solve", "glpsol", "cbc", "times the faster peer"] * has_peers
     print("| " + " | ".join(head) + " |\n" + "|---" * len(head) + "|")
-    shown = sum(try_model(example, has_peers) is True for example in convert_peers.examples())
-    check(shown >= LEAST_MODELS, f"{shown} models are shown, and {LEAST_MODELS} are wanted")
+    tried_ones = [timed for example in convert_peers.examples() if (timed := try_model(example, has_peers))]
+    shown = [timed for timed in tried_ones if timed.is_shown]
+    check(len(shown) >= LEAST_MODELS, f"{len(shown)} models are shown, and {LEAST_MODELS} are wanted")
+    if has_peers:
+        tell_aims(tried_ones, shown)
+
+
+def tell_aims(tried_ones, shown):
+    """How many models keep to the aims."""
+    quick = sum(timed.seconds <= AIM_SECONDS for timed in shown)
+    long_ones = [timed for timed in tried_ones if timed.faster is None or timed.faster >= LONG_SECONDS]
+    near = sum(timed.times() is not None and timed.times() <= AIM_TIMES for timed in long_ones)
+    print(f"\n{len(shown)} of {len(tried_ones)} are shown, {quick} of them within {AIM_SECONDS} s of a processor (the aim: {LEAST_MODELS})")
+    print(f"of {len(long_ones)} that both glpsol and cbc need {LONG_SECONDS:g} s or more for, {near} take at most {AIM_TIMES} times the faster one (the aim: all)")
 
 
 def try_bench():
@@ -438,19 +468,23 @@ def try_made_vipr(folder):
     """Files of certificates that the tool makes, each of whose levels has its own."""
     made = [certify_programs.program(kind, number) for kind in ("infeasible", "degenerate", "free", "goals") for number in range(20)]
     made += [programs.knapsack(20, 2), programs.fixed_charge(4, 5), programs.general_assignment(4, 12), programs.cover(30), programs.transport(10, 20)]
+    words = set()
     for program in made:
         osil = put(folder, "osil", programs.osil(program))
         answer, text, _ = certified(osil, folder)
+        words |= set(re.findall("<item>([a-zA-Z]+)", text))
         if answer == "accepted unbounded" or program.zeros:
             continue
         osrl = put(folder, "osrl", text)
         for level in range(max(1, text.count("<item>level ") + 1)):
             verdict = vipr_checking.verdict(vipr_of(osil, osrl, level))
             check(verdict.startswith("verified infeasible" if answer == "accepted infeasible" else "verified range"), f"VIPR of {program.name}, level {level + 1}", verdict)
+    wanted = {"split", "farkas", "bound", "grid", "farkasRows", "boundRows", "gridRows"}
+    check(wanted <= words, "each kind of node that is checked as a derivation is among those certificates", f"there are {sorted(words)}")
 
 
 def try_bounds(folder):
-    """The bound of a search that is ended early is shown by its rounds and its tree, which are read as those of an optimum."""
+    """The bound of a search that is ended early is shown by its rounds and its tree, with a point and without one."""
     for program in (programs.knapsack(30, 3), programs.cover(40), programs.fixed_charge(6, 8), programs.general_assignment(5, 25)):
         osil = put(folder, "osil", programs.osil(program))
         run = certifying.Certifying(osil, 20, SEED, set(), None)
@@ -459,13 +493,15 @@ def try_bounds(folder):
         if "bound" not in parts:
             check(claim != "bestSoFar", f"{program.name} has a bound", claim)
             continue
-        (bound,) = parts.pop("bound")
-        osrl = put(folder, "osrl", result_text.osrl("optimal", parts))
-        promise = f"RTP range -inf {bound}" if program.maximise else f"RTP range {bound} inf"
-        text = vipr_of(osil, osrl).replace(f" {parts['value'][0]} OBJ ", f" {bound} OBJ ")
-        answer = vipr_checking.verdict(re.sub("^RTP .*$", promise, text, count=1, flags=re.M))
-        check(answer == promise.replace("RTP", "verified"), f"the bound of {program.name}", answer)
-        print(f"{program.name}: {parts['value'][0]}, and none beyond {bound}", flush=True)
+        (bound,), (value,) = parts["bound"], parts["value"]
+        alone = {name: items for name, items in parts.items() if name not in ("point", "value")}
+        for claim, some, reached in (("bestSoFar", parts, value), ("unsure", alone, "-inf" if program.maximise else "inf")):
+            low, high = (reached, bound) if program.maximise else (bound, reached)
+            answer = run.checked(claim, some)
+            check(answer == f"accepted {claim} within {bound}", f"the bound of {program.name}, {claim}", answer)
+            answer = vipr_checking.verdict(vipr_of(osil, put(folder, "osrl", run.text)))
+            check(answer == f"verified range {low} {high}", f"VIPR of the bound of {program.name}, {claim}", answer)
+        print(f"{program.name}: {value}, and none beyond {bound}", flush=True)
 
 
 def main():

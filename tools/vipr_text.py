@@ -1,8 +1,9 @@
 """Writes the certificate of a result as a VIPR 1.1 file, which checkers of others read (Cheung, Gleixner, Steffy, *Verifying integer
 programming results*, 2017; the format is that of https://github.com/ambros-gleixner/VIPR).
 
-Each end of a variable and of a row is a constraint there. A round is a combination that is rounded (`rnd`), a leaf a combination (`lin`),
-and a split two assumptions (`asm`), of which the node is freed (`uns`) behind both of its cases.
+Each end of a variable and of a row is a constraint there. A round is a combination that is rounded (`rnd`), a leaf a combination (`lin`), on
+a grid one of a combination that counts steps and is rounded, and a split two assumptions (`asm`), of which the node is freed (`uns`) behind
+both of its cases.
 """
 
 import fractions
@@ -90,9 +91,22 @@ class Writing:
         return self.add(Constraint(self.next_name(), "G", low, {}, f"lin {counted(used)}", used)), True
 
     def bound_leaf(self, pairs):
-        sense, sign = ("L", -1) if self.goal.maximise else ("G", 1)
-        used, _, _ = self.combination(pairs, sign)
-        return self.add(Constraint(self.next_name(), sense, self.value(), "OBJ", f"lin {counted(used)}", used)), False
+        used, _, _ = self.combination(pairs, self.sign())
+        return self.of_goal(used), False
+
+    def grid_leaf(self, step, pairs):
+        """How many steps the goal has at least, and what that makes of the goal."""
+        used, form, low = self.combination([(column, multiplier / step) for column, multiplier in pairs], 1)
+        steps = fractions.Fraction(-(-low.numerator // low.denominator))
+        index = self.add(Constraint(self.next_name(), "G", steps, form, f"rnd {counted(used)}", used))
+        return self.of_goal({index: self.sign() * step}), False
+
+    def sign(self):
+        return -1 if self.goal.maximise else 1
+
+    def of_goal(self, used):
+        """A combination by which the goal reaches what is shown of it."""
+        return self.add(Constraint(self.next_name(), "L" if self.goal.maximise else "G", self.shown(), "OBJ", f"lin {counted(used)}", used))
 
     def next_name(self):
         return f"d{len(self.constraints)}"
@@ -100,6 +114,10 @@ class Writing:
     def value(self):
         """The claimed value of the goal without its constant, which the format hasn't."""
         return self.result.values[self.level] - self.goal.constant
+
+    def shown(self):
+        """What no point's goal is beyond, without its constant: the value, or the bound of a search that ended early."""
+        return self.value() if self.result.bound is None else self.result.bound - self.goal.constant
 
     def add_tree(self, nodes):
         """A tree in preorder. Open splits wait for their cases; each has its column, its k, the assumptions, what its cases derived, and
@@ -115,7 +133,7 @@ class Writing:
             elif node.kind in ("farkas", "bound"):
                 derived = self.false_leaf(node.multipliers) if node.kind == "farkas" else self.bound_leaf(node.multipliers)
             elif node.kind == "grid":
-                raise Complaint("its tree has a leaf on a grid, which isn't written in the format")
+                derived = self.grid_leaf(node.step, node.multipliers)
             else:
                 raise Complaint("the format has no variables that may be 0 besides their range")
             while open_splits:
@@ -146,7 +164,7 @@ class Writing:
         below, above = split["assumed"]
         is_false = first_false and second_false
         sense = "L" if self.goal.maximise and not is_false else "G"
-        right, factors = (fractions.Fraction(1), {}) if is_false else (self.value(), "OBJ")
+        right, factors = (fractions.Fraction(1), {}) if is_false else (self.shown(), "OBJ")
         reason = f"uns {first} {below} {second} {above}"
         return self.add(Constraint(self.next_name(), sense, right, factors, reason, [first, below, second, above])), is_false
 
@@ -177,14 +195,15 @@ class Writing:
     def promise(self):
         if self.result.claim == "infeasible":
             return "infeas"
-        value, is_shown = self.value(), self.result.claim == "optimal"
-        low, high = (value, value) if is_shown else (value, "inf") if self.goal.maximise else ("-inf", value)
-        return f"range {low} {high}"
+        reached = self.value() if self.result.values else None
+        shown = self.shown() if self.result.trees else None
+        low, high = (reached, shown) if self.goal.maximise else (shown, reached)
+        return f"range {'-inf' if low is None else low} {'inf' if high is None else high}"
 
 
 def vipr(instance, result, level=0):
     """The text of the file of a level, counted from 0."""
-    if result.claim not in CLASSES:
+    if result.claim not in CLASSES and result.bound is None:
         raise Complaint(f"the format has no claim that is {result.claim or 'none'}")
     if any(variable.zero for variable in instance.variables):
         raise Complaint("the format has no variables that may be 0 besides their range")

@@ -240,7 +240,7 @@ class Solved(unittest.TestCase):
             room.run("-AMPL", "timelimit=1")
             self.assertLess(time.monotonic() - begun, 30)  # a machine may have much else to do
             self.assertEqual(room.sol()[5], 400)
-            self.assertIn("killed", room.sol()[0])
+            self.assertIn("for timeLimit 1", room.sol()[0])
             Path(room.folder, "tmp").mkdir()
             given = {**os.environ, "TMPDIR": f"{room.folder}/tmp"}
             process = subprocess.Popen([DRIVER, f"{room.folder}/p", "-AMPL"], stdout=subprocess.PIPE, stderr=subprocess.PIPE, env=given)

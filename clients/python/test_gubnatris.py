@@ -427,7 +427,7 @@ class Served(unittest.TestCase):
         before, begun = self.server.jobs().states, time.monotonic()
         result = self.server.solve(text, node_limit=1_000_000, turn_limit=100_000_000, seconds=0.3)
         self.assertLess(time.monotonic() - begun, 20)
-        self.assertEqual(result.cause, "killed")
+        self.assertEqual(result.cause, "timeLimit 3/10")
         self.assertIn(result.status, ("bestSoFar", "unsure"))
         self.assertEqual(self.server.jobs().states, before)
 

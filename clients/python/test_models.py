@@ -285,15 +285,20 @@ class Programs(unittest.TestCase):
                 begun = time.monotonic()
                 result = Program().solve(odd_sums(), node_limit=1_000_000, turn_limit=100_000_000, seconds=0.5)
                 self.assertLess(time.monotonic() - begun, 30)  # a machine may have much else to do
-                self.assertEqual(result.cause, "killed")
-                with self.assertRaises(Refused):
-                    Program().solve("<osil/>", seconds=5)
+                self.assertEqual(result.cause, "timeLimit 1/2")
+                for instance, seconds in (("<osil/>", 5), (DIET, -1), (DIET, 1e30)):
+                    with self.assertRaises(Refused):
+                        Program().solve(instance, seconds=seconds)
+                with self.assertRaisesRegex(BadModel, "seconds: nan"):
+                    Program().solve(DIET, seconds=math.nan)
                 with self.assertRaises(ProgramFailed):
                     Program("/bin/false").solve(DIET)
             finally:
                 tempfile.tempdir = before
             self.assertEqual(os.listdir(folder), [])
-        self.assertEqual(Program().solve(DIET, seconds=20).objective, Fraction(552, 275))
+        for seconds in (20, 20.5, math.inf):
+            self.assertEqual(Program().solve(DIET, seconds=seconds).objective, Fraction(552, 275))
+        self.assertEqual(Program().solve(DIET, seconds=0).cause, "timeLimit 0")
 
     def test_what_is_not_offered(self):
         for options in ({"gap": 0.1}, {"fast": True}, {"start": [1]}):

@@ -50,7 +50,7 @@ class Certifying {
             row.find_whole(program_);
             relaxation_.rows.push_back(row);
         }
-        relaxation_.ask(program_.goals[level].costs, program_.goals[level].constant);
+        relaxation_.ask(program_.goals[level].costs, program_.goals[level].constant, program_.goals[level].step);
         return true;
     }
 
@@ -145,7 +145,7 @@ class Certifying {
         claim_.point = best_;
         claim_.trees.clear();
         claim_.rounds.clear();
-        if (!best_ || !bound_) return claim_;
+        if (!bound_) return claim_;
         claim_.bound = program_.goals[0].is_maximum ? Ratio(-*bound_) : *bound_;
         claim_.rounds = bound_rounds_;
         claim_.trees = {bound_tree_};

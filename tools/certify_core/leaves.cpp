@@ -32,12 +32,15 @@ std::vector<Pair> rounded_pairs(const std::vector<Row>& rows, const std::vector<
 
 }  // namespace
 
-void Relaxation::ask(const std::vector<Ratio>& wanted, const Ratio& start) {
+void Relaxation::ask(const std::vector<Ratio>& wanted, const Ratio& start, const Ratio& apart) {
     costs = wanted;
     constant = start;
+    step = apart;
     near_costs.clear();
     for (const Ratio& cost : costs) near_costs.push_back(cost.get_d());
 }
+
+double near_enough(double value, double step, double tolerance) { return std::min(value - tolerance, value - step + tolerance); }
 
 Target Target::farkas(int size) {
     Target target;
@@ -52,6 +55,7 @@ Target Target::bound(const Relaxation& relaxation, const Ratio* least) {
     target.costs = relaxation.costs;
     target.near_costs = relaxation.near_costs;
     target.start = relaxation.constant;
+    target.step = relaxation.step;
     target.has_least = least != nullptr;
     if (least) target.least = *least;
     return target;
@@ -59,7 +63,7 @@ Target Target::bound(const Relaxation& relaxation, const Ratio* least) {
 
 double Target::near_least() const {
     if (!has_least) return std::numeric_limits<double>::lowest();
-    return has_to_pass ? least.get_d() + tiny : least.get_d() - tiny * (1 + std::fabs(least.get_d()));
+    return has_to_pass ? least.get_d() + tiny : near_enough(least.get_d(), step.get_d(), tiny * (1 + std::fabs(least.get_d())));
 }
 
 std::string pairs_text(const std::vector<Pair>& pairs) {
@@ -68,26 +72,78 @@ std::string pairs_text(const std::vector<Pair>& pairs) {
     return text;
 }
 
-std::string Leaf::text(bool is_farkas) const { return (is_farkas ? "farkas" : "bound") + pairs_text(pairs); }
+std::string Leaf::text(bool is_farkas) const {
+    std::string word = is_farkas ? "farkas" : step != 0 ? "grid" : "bound";
+    if (left_out > 0) word += "Rows";
+    if (step != 0) word += ' ' + step.get_str();
+    return word + pairs_text({pairs.begin() + static_cast<long>(left_out), pairs.end()});
+}
 
-// Whether all sums of the checker fit: at each variable that of the form, over the columns ascending, and the low sum.
-bool LeafMaker::fits_checker(const Target& target, const Leaf& leaf) const {
-    std::vector<StatedSum> form(size_);
-    StatedSum low(target.start);
-    for (const Pair& pair : leaf.pairs) {
+// How many of the first pairs are of variables.
+size_t LeafMaker::variables_in(const std::vector<Pair>& pairs) const {
+    size_t count = 0;
+    for (const Pair& pair : pairs) count += pair.first < size_;
+    return count;
+}
+
+// Adds the rows to the form at each variable, the columns ascending. Whether all sums fit.
+bool LeafMaker::add_rows(std::vector<StatedSum>& form, const std::vector<Pair>& pairs) const {
+    for (const Pair& pair : pairs) {
         if (!fits(pair.second)) return false;
-        const Ends& ends = pair.first < size_ ? ends_[pair.first] : rows_[pair.first - size_].ends;
-        low.add(pair.second, ends.counted(pair.second > 0).value);
-        if (pair.first < size_) {
-            form[pair.first].add(Ratio(1), pair.second);
-            continue;
-        }
+        if (pair.first < size_) continue;
         for (const Term& term : rows_[pair.first - size_].terms) {
             form[term.column].add(pair.second, term.factor);
             if (!form[term.column].has_fitted()) return false;
         }
     }
-    return low.has_fitted();
+    return true;
+}
+
+// Whether the sums of the forms fit where all multipliers are written.
+bool LeafMaker::whole_form_fits(const Leaf& leaf) const {
+    std::vector<StatedSum> form(size_);
+    for (const Pair& pair : leaf.pairs)
+        if (pair.first < size_) form[pair.first].add(Ratio(1), pair.second);
+    return add_rows(form, leaf.pairs);
+}
+
+// Whether they fit where those of variables are left out, and what the rows leave of the costs is formed.
+bool LeafMaker::rest_fits(const Target& target, const Leaf& leaf) const {
+    std::vector<StatedSum> form(size_);
+    if (!add_rows(form, leaf.pairs)) return false;
+    for (int j = 0; j < size_; j++)
+        if (!sum_fits(target.costs[j], -form[j].total())) return false;
+    return true;
+}
+
+bool LeafMaker::low_sum_fits(const Target& target, const Leaf& leaf) const {
+    StatedSum low(leaf.step == 0 ? target.start : Ratio(0));
+    for (const Pair& pair : leaf.pairs) {
+        const Ends& ends = pair.first < size_ ? ends_[pair.first] : rows_[pair.first - size_].ends;
+        low.add(pair.second, ends.counted(pair.second > 0).value);
+    }
+    if (leaf.step == 0 || !low.has_fitted()) return low.has_fitted();
+    const Ratio steps = low.total() / leaf.step, rounded = ceiling_of(steps) * leaf.step;
+    return fits(steps) && fits(rounded) && sum_fits(target.start, rounded);
+}
+
+// The leaf without its multipliers of variables, or with them, if it reaches its target and all sums of the checker fit.
+std::optional<Leaf> LeafMaker::fitting(const Target& target, const Leaf& leaf) const {
+    if (!target.is_reached_by(leaf.sum) || !low_sum_fits(target, leaf)) return {};
+    Leaf shorter = leaf;
+    shorter.left_out = variables_in(leaf.pairs);
+    if (shorter.left_out > 0 && rest_fits(target, leaf)) return shorter;
+    return whole_form_fits(leaf) ? std::optional<Leaf>(leaf) : std::nullopt;
+}
+
+// The leaf on the goal's grid where it needs that, or shows more there, and else as it is.
+std::optional<Leaf> LeafMaker::worded(const Target& target, const Leaf& leaf) const {
+    if (target.step == 0 || (target.has_least && target.is_reached_by(leaf.sum))) return fitting(target, leaf);
+    Leaf rounded = leaf;
+    rounded.step = target.step;
+    rounded.sum = target.start + ceiling_of((leaf.sum - target.start) / target.step) * target.step;
+    const std::optional<Leaf> found = fitting(target, rounded);
+    return found ? found : fitting(target, leaf);
 }
 
 std::optional<Leaf> LeafMaker::of_rows(const Target& target, const std::vector<Pair>& multipliers) const {
@@ -109,8 +165,7 @@ std::optional<Leaf> LeafMaker::of_rows(const Target& target, const std::vector<P
         leaf.sum += pair.second * rows_[pair.first].ends.counted(pair.second > 0).value;
         leaf.pairs.push_back({size_ + pair.first, pair.second});
     }
-    if (!target.is_reached_by(leaf.sum) || !fits_checker(target, leaf)) return {};
-    return leaf;
+    return worded(target, leaf);
 }
 
 double LeafMaker::near_sum(const Target& target, const std::vector<Pair>& multipliers) const {
@@ -162,7 +217,7 @@ std::optional<Leaf> LeafMaker::attempt(const Target& target, const std::vector<P
     const std::vector<Pair> fewer = thinned(target, multipliers);
     if (fewer.size() == multipliers.size()) return leaf;
     const std::optional<Leaf> thin = of_rows(target, fewer);
-    return thin && thin->text(false).size() < leaf->text(false).size() ? thin : leaf;
+    return thin && thin->text(target.is_farkas).size() < leaf->text(target.is_farkas).size() ? thin : leaf;
 }
 
 std::optional<Leaf> LeafMaker::rounded(const Target& target, const std::vector<double>& multipliers) const {

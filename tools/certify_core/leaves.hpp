@@ -14,17 +14,21 @@ struct Relaxation {
     std::vector<Row> rows;
     std::vector<Ratio> costs;
     std::vector<double> near_costs;
-    Ratio constant;
+    Ratio constant, step;  // as those of a goal
 
-    void ask(const std::vector<Ratio>& wanted, const Ratio& start);
+    void ask(const std::vector<Ratio>& wanted, const Ratio& start, const Ratio& apart = 0);
 };
 
-// What multipliers have to show: their form is the costs, and the start and their low sum reach the least number, or pass it.
+// What a low sum has to reach, in floats, so that no point is below a value: where values are steps apart, what is past the one before it.
+double near_enough(double value, double step, double tolerance);
+
+// What multipliers have to show: their form is the costs, and the start and their low sum reach the least number, or pass it. Where there is
+// a step their low sum may be rounded up to a whole multiple of it.
 struct Target {
     bool is_farkas = false, has_to_pass = false;
     std::vector<Ratio> costs;
     std::vector<double> near_costs;
-    Ratio start, least;
+    Ratio start, least, step;
     bool has_least = true;  // where it hasn't, any low sum will do, and a greater one is better
 
     static Target farkas(int size);
@@ -35,7 +39,9 @@ struct Target {
 
 struct Leaf {
     std::vector<Pair> pairs;  // columns ascending
-    Ratio sum;                // with the start
+    Ratio sum;                // with the start, and rounded up where there is a step
+    Ratio step;               // of a grid, else 0
+    size_t left_out = 0;      // how many of the first pairs aren't written, since those of rows leave them
 
     std::string text(bool is_farkas) const;
 };
@@ -62,7 +68,13 @@ class LeafMaker {
     double near_sum(const Target& target, const std::vector<Pair>& multipliers) const;
     std::optional<Leaf> attempt(const Target& target, const std::vector<Pair>& multipliers) const;
     std::vector<Pair> thinned(const Target& target, const std::vector<Pair>& multipliers) const;
-    bool fits_checker(const Target& target, const Leaf& leaf) const;
+    std::optional<Leaf> worded(const Target& target, const Leaf& leaf) const;
+    std::optional<Leaf> fitting(const Target& target, const Leaf& leaf) const;
+    bool low_sum_fits(const Target& target, const Leaf& leaf) const;
+    bool whole_form_fits(const Leaf& leaf) const;
+    bool rest_fits(const Target& target, const Leaf& leaf) const;
+    bool add_rows(std::vector<StatedSum>& form, const std::vector<Pair>& pairs) const;
+    size_t variables_in(const std::vector<Pair>& pairs) const;
 
     const std::vector<Row>& rows_;
     const std::vector<Ends>& ends_;

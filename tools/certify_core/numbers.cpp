@@ -38,6 +38,13 @@ Whole ceiling_of(const Ratio& value) {
     return result;
 }
 
+Ratio greatest_step(const Ratio& left, const Ratio& right) {
+    const Whole over = gcd(left.get_num() * right.get_den(), right.get_num() * left.get_den());
+    Ratio result{over, left.get_den() * right.get_den()};
+    result.canonicalize();
+    return result;
+}
+
 Whole common_denominator(const std::vector<Ratio>& values) {
     Whole result = 1;
     for (const Ratio& value : values) result = lcm(result, value.get_den());

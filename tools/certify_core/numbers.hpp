@@ -23,6 +23,9 @@ size_t bits_of(const Ratio& value);
 Whole floor_of(const Ratio& value);
 Whole ceiling_of(const Ratio& value);
 
+// The greatest number of which two are whole multiples; of 0 and another one that one's size.
+Ratio greatest_step(const Ratio& left, const Ratio& right);
+
 // The least common multiple of the denominators.
 Whole common_denominator(const std::vector<Ratio>& values);
 

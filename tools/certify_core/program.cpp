@@ -108,6 +108,18 @@ void Row::find_whole(const Program& program) {
     for (const Term& term : terms) is_whole = is_whole && program.variables.at(term.column).is_whole && term.factor.get_den() == 1;
 }
 
+void Goal::find_step(const Program& program) {
+    step = 0;
+    for (int j = 0; j < program.size(); j++) {
+        if (costs[j] == 0) continue;
+        step = program.variables[j].is_whole ? greatest_step(step, costs[j]) : Ratio(0);
+        if (step == 0 || !fits(step)) break;
+    }
+    bool has_fitted = fits(step);
+    for (const Ratio& cost : costs) has_fitted = has_fitted && (step == 0 || fits(cost / step));
+    if (!has_fitted) step = 0;
+}
+
 bool Program::has_cases() const {
     for (const Variable& variable : variables)
         if (variable.is_whole || variable.may_be_zero) return true;
@@ -164,6 +176,7 @@ Program read_program(std::istream& in) {
     for (int k = 0; k < goals; k++) program.goals.push_back(next_goal(in, variables));
     for (int i = 0; i < rows; i++) program.rows.push_back(next_row(in));
     for (Row& row : program.rows) row.find_whole(program);
+    for (Goal& goal : program.goals) goal.find_step(program);
     return program;
 }
 

@@ -56,8 +56,10 @@ struct Variable {
 // A goal in its minimising form.
 struct Goal {
     bool is_maximum = false;
-    Ratio constant;
+    Ratio constant, step;  // each value is the constant and a whole multiple of the step, which is 0 where no number is one
     std::vector<Ratio> costs;
+
+    void find_step(const struct Program& program);
 };
 
 struct Program {

@@ -32,7 +32,7 @@ class Rounding {
         double before = floats_.value();
         int stalled = 0;
         for (int pass = 0; pass < most_passes && stalled < 4 && room() > 0 && !is_over(); pass++) {
-            if (best_ && before + relaxation_.constant.get_d() >= best_->values[0].get_d() - 1e-6) break;
+            if (best_ && before + relaxation_.constant.get_d() >= near_enough(best_->values[0].get_d(), relaxation_.step.get_d(), 1e-6)) break;
             find_cuts();
             if (!take_cuts()) break;
             if (floats_.solve() != FloatProgram::Outcome::best) break;
@@ -91,7 +91,7 @@ class Rounding {
         for (int j = 0; j < program_.size(); j++)
             if (relaxation_.costs[j] != 0 && (!program_.variables[j].is_whole || relaxation_.costs[j].get_den() != 1)) return;
         Target target = Target::bound(relaxation_, nullptr);
-        target.start = 0;
+        target.start = target.step = 0;
         const LeafMaker leaves(relaxation_.rows, ends_);
         const std::optional<Leaf> leaf = leaves.rounded(target, {floats_.duals(), floats_.duals() + relaxation_.rows.size()});
         // Below the best value such a row makes all points alike, and nothing tells any more where to branch.

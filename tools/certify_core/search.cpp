@@ -45,6 +45,7 @@ Shown TreeSearch::run() {
     visit(0);
     if (!is_stopped_) shown_.end = SearchEnd::closed;
     if (!has_open_bound_) shown_.bound.reset();
+    if (root_leaf_) shown_.nodes = {root_leaf_->text(false)};
     return shown_;
 }
 
@@ -92,10 +93,10 @@ bool TreeSearch::close_clash() {
     return false;
 }
 
-bool TreeSearch::is_near_best(double value) const {
-    if (!best_ || is_aiming_) return false;
+// What a case's value has to reach so that the best point may close it.
+double TreeSearch::near_best() const {
     const double best = best_->values[level_].get_d();
-    return value >= best - value_tolerance * (1 + std::fabs(best));
+    return near_enough(best, relaxation_.step.get_d(), value_tolerance * (1 + std::fabs(best)));
 }
 
 bool TreeSearch::close(const Target& target, const std::optional<Leaf>& leaf) {
@@ -159,12 +160,23 @@ TreeSearch::Found TreeSearch::find() {
         if (outcome == Outcome::empty && close_empty()) return {Found::Kind::closed, 0, {}, {}, {}};
         if (outcome == Outcome::best) {
             const Found found = found_now(Found::Kind::point);
-            if (is_near_best(found.value) && close_bound(found)) return {Found::Kind::closed, 0, {}, {}, {}};
+            if (best_ && !is_aiming_ && found.value >= near_best() && close_bound(found)) return {Found::Kind::closed, 0, {}, {}, {}};
             return found;
         }
         if (outcome == Outcome::empty) break;
     }
     return outcome == Outcome::endless ? found_now(Found::Kind::endless) : find_exactly();
+}
+
+// Where a better point closes the root itself no case is needed, and the search has ended.
+void TreeSearch::close_root() {
+    if (!root_ || root_->value < near_best()) return;
+    const std::vector<Ends> ends = program_.ends();
+    root_leaf_ = LeafMaker(relaxation_.rows, ends).rounded(Target::bound(relaxation_, &best_->values[level_]), root_->duals);
+    if (!root_leaf_) return;
+    is_stopped_ = true;
+    has_open_bound_ = false;
+    shown_.end = SearchEnd::closed;
 }
 
 // Closes a case of an ended search with what can be shown of it; the least of these low sums is a bound of all.
@@ -185,6 +197,7 @@ void TreeSearch::visit(int depth) {
     if (shown_.end == SearchEnd::unbounded) return;
     if (is_stopped_) return close_loosely(found);
     if (found.kind == Found::Kind::closed) return;
+    if (depth == 0 && found.kind == Found::Kind::point) root_ = found;
     if (found.kind == Found::Kind::endless) return follow(found, depth);
     if (found.kind == Found::Kind::point) {
         const std::vector<Branch> all = branches(found.at);
@@ -289,7 +302,7 @@ std::vector<size_t> TreeSearch::ordered(const std::vector<Branch>& all) {
 // The branch both of whose cases promise the greatest rise of the bound (strong branching with pseudocosts).
 TreeSearch::Branch TreeSearch::chosen(const std::vector<Branch>& all, double value) {
     if (is_aiming_) return all.front();  // no bound tells one from another
-    const double most = best_ ? std::max(best_->values[level_].get_d() - value, 1e-9) : 1e9;
+    const double most = best_ ? std::max(near_best() - value, 1e-9) : 1e9;
     const int most_probes = nodes_ < nodes_of_root ? 3 * plan_.most_probed : plan_.most_probed;
     const FloatProgram::Basis basis = floats_.basis();
     const std::vector<size_t> order = ordered(all);
@@ -376,7 +389,7 @@ void TreeSearch::follow(const Found& found, int depth) {
     is_aiming_ = true;
     visit(depth + 1);
     is_aiming_ = false;
-    relaxation_.ask(before.costs, before.constant);
+    relaxation_.ask(before.costs, before.constant, before.step);
     floats_.set_costs(relaxation_.near_costs);
 }
 
@@ -397,7 +410,9 @@ bool TreeSearch::take(const std::vector<Ratio>& at) {
     is_wide_ = is_wide_ || fault == PointFault::wide;
     if (fault != PointFault::none) return false;
     if (is_aiming_) return end_unbounded(at);
-    if (point.is_better_than(best_)) best_ = point;
+    if (!point.is_better_than(best_)) return true;
+    best_ = point;
+    close_root();
     return true;
 }
 

@@ -76,7 +76,8 @@ class TreeSearch {
     bool close_bound(const Found& found);
     Found find_exactly();
     void close_loosely(const Found& found);
-    bool is_near_best(double value) const;
+    void close_root();
+    double near_best() const;
     std::vector<Branch> branches(const std::vector<double>& at) const;
     std::optional<Branch> any_branch(const std::vector<double>& at) const;
     Branch split_at(int column, double value) const;
@@ -109,6 +110,8 @@ class TreeSearch {
     std::vector<History> histories_;
     std::vector<int> divided_;
     std::vector<double> open_;  // the bounds of cases that wait
+    std::optional<Found> root_;
+    std::optional<Leaf> root_leaf_;
     Shown shown_;
     bool is_stopped_ = false, is_aiming_ = false, is_wide_ = false, has_open_bound_ = true;
     size_t bytes_ = 0;

@@ -2,9 +2,11 @@
 
 from __future__ import annotations
 
+import math
 from typing import Optional
 
 from .errors import NotOffered
+from .exact import exact
 from .writing import escaped, quoted
 
 MOST_NODES, MOST_TURNS = 1_000_000, 100_000_000  # what an option may set at most
@@ -17,13 +19,20 @@ def options_text(
     rounds: Optional[int] = None,
     names: bool = False,
     form: Optional[str] = None,
+    seconds: Optional[float] = None,
 ) -> str:
     """The options, or the empty text where there are none."""
     named = f"<general><jobID>{escaped(job)}</jobID></general>" if job is not None else ""
     limits = [("nodeLimit", node_limit), ("pivotLimit", turn_limit), ("rounds", rounds), ("names", 1 if names else None), ("form", form)]
     set_ones = "".join(f"<solverOption name={quoted(name)} value={quoted(str(limit))}/>" for name, limit in limits if limit is not None)
     limited = f"<optimization><solverOptions>{set_ones}</solverOptions></optimization>" if set_ones else ""
-    return f'<osol xmlns="os.optimizationservices.org">{named}{limited}</osol>' if named or limited else ""
+    parts = named + _time_text(seconds) + limited
+    return f'<osol xmlns="os.optimizationservices.org">{parts}</osol>' if parts else ""
+
+
+def _time_text(seconds: Optional[float]) -> str:
+    """For how long a search may go on, exactly. Raises `BadModel` where that is no number."""
+    return "" if seconds is None or seconds == math.inf else f"<job><maxTime>{exact(seconds, 'seconds')}</maxTime></job>"
 
 
 def find_not_offered(gap: object, fast: bool, start: object) -> None:

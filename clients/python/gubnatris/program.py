@@ -6,7 +6,6 @@ import contextlib
 import os
 import shutil
 import signal
-import socket
 import subprocess
 import tempfile
 import threading
@@ -14,7 +13,7 @@ import warnings
 from pathlib import Path
 from typing import Callable, Iterator, Optional, Union
 
-from .errors import NoProgram, NotReached, NotSent, ProgramFailed
+from .errors import NoProgram, NotSent, ProgramFailed
 from .options import find_not_offered, options_text
 from .results import Result, read_of_job
 from .server import Server
@@ -28,7 +27,6 @@ STATUSES = {
 }
 INTERRUPTS = [getattr(signal, name) for name in ("SIGHUP", "SIGINT", "SIGTERM") if hasattr(signal, name)]
 ENDS_WITHIN = 5.0  # seconds that a program has to end by itself
-PORTS_TRIED = 5
 
 
 class Program:
@@ -57,17 +55,10 @@ class Program:
     ) -> Result:
         """Solves an instance. The options are those of `Server.solve`.
 
-        With `seconds` the search runs behind a server of its own on a port of this machine, which is asked to stop when they are over, so
-        that what it has found by then isn't lost. Raises `Refused` where the instance or a limit is, and `ProgramFailed`.
+        Raises `Refused` where the instance or a limit is, and `ProgramFailed`.
         """
         find_not_offered(gap, fast, start)
-        source = source_of(instance)
-        if seconds is not None:
-            with self._serving() as server:
-                return server.solve(
-                    instance, node_limit=node_limit, turn_limit=turn_limit, rounds=rounds, names=names, form=form, seconds=seconds
-                )
-        return self._solve(source, options_text(None, node_limit, turn_limit, rounds, names, form))
+        return self._solve(source_of(instance), options_text(None, node_limit, turn_limit, rounds, names, form, seconds))
 
     def check(self, instance: Given, document: str) -> str:
         """What the checker says of a result document: `accepted` and the kind of claim, or `refused` and the first reason."""
@@ -111,19 +102,6 @@ class Program:
             yield process
         finally:
             _end(process)
-
-    @contextlib.contextmanager
-    def _serving(self) -> Iterator[Server]:
-        """A server of one worker on a free port of this machine, for as long as it is used."""
-        for _ in range(PORTS_TRIED):
-            with socket.create_server(("127.0.0.1", 0)) as free:
-                port = free.getsockname()[1]
-            with self._begun("serve", "127.0.0.1", str(port), "--workers", "1", "--servers", "2") as process:
-                assert process.stdout is not None
-                if process.stdout.readline() == b"listening\n":
-                    yield Server(f"http://127.0.0.1:{port}")
-                    return
-        raise NotReached(f"{self.path} can't listen on a port of this machine")
 
 
 def solver(server: Optional[str] = None) -> Union[Server, Program]:

@@ -3,6 +3,7 @@
 from __future__ import annotations
 
 import base64
+import contextlib
 import re
 import socket
 import time
@@ -24,6 +25,7 @@ LONGEST_ANSWER = 25_165_824
 LONGEST_HEAD = 16_384
 SHORTEST_PAUSE, LONGEST_PAUSE = 0.002, 1.0  # seconds between two asks of `wait`
 LATE = 0.1  # of the time that a job has taken, how much later `wait` may see it
+SEES_WITHIN = 1.0  # seconds in which a search sees that its time is over
 
 _HEAD = re.compile(rb"(?:\r?\n)*HTTP/1\.\d (?P<status>\d{3})(?: (?P<reason>[^\r\n]*))?\r?\n(?P<fields>(?:[^\r\n:]+:[^\r\n]*\r?\n)*)\r?\n")
 _ENDED_HEAD = re.compile(rb"[^\r\n]\r?\n\r?\n")
@@ -87,21 +89,30 @@ class Server:
         `node_limit`, `turn_limit`: how many cases a search may begin, and how many turns of the simplex method it may make. `rounds`: how
         many rounding cuts it may add. `names`: whether the result document has the names of variables and rows. `form`: "rows" has the
         certificate told with multipliers of rows alone, where the checker accepts it so, and "whole" as without it. `seconds`: after so
-        many the search is asked to stop, and the result is what it has found by then.
+        many the search ends, and the result is what it has found by then. A job that hasn't begun when they are over is given up.
         `gap`, `fast` and `start` are not offered yet: `NotOffered`. Raises `Refused` where the instance or a limit is, and `TimedOut`
         where the search hadn't begun by then. (The call `solve` of the server would keep the job under a number that nobody is told.)
         """
         find_not_offered(gap, fast, start)
         source = source_of(instance)
-        job = self._submit(source, (node_limit, turn_limit, rounds, names, form))
+        job = self._submit(source, (node_limit, turn_limit, rounds, names, form, seconds))
+        try:
+            return self._within(job, seconds, source)
+        finally:
+            self._give_up(job)
+
+    def _within(self, job: str, seconds: Optional[float], source: Source) -> Result:
+        """The result of a job that keeps its time. One that goes on for longer, since it began late or the server knows of no time, is asked to
+        stop."""
         try:
             return self._wait(job, seconds, source)
         except TimedOut:
+            if self.state(job) != "waiting":
+                with contextlib.suppress(TimedOut):
+                    return self._wait(job, SEES_WITHIN, source)
             if self.kill(job) != "running":
                 raise
-            return self._wait(job, self.seconds, source)
-        finally:
-            self._give_up(job)
+        return self._wait(job, self.seconds, source)
 
     def submit(
         self,
@@ -112,6 +123,7 @@ class Server:
         rounds: Optional[int] = None,
         names: bool = False,
         form: Optional[str] = None,
+        seconds: Optional[float] = None,
         named: Optional[Callable[[str], object]] = None,
     ) -> str:
         """Hands an instance over, to be solved behind this call; the job's name.
@@ -120,9 +132,9 @@ class Server:
         Raises `Refused` where a limit is; where the instance is, its result tells that. A server holds 10,000 jobs: give up, by `kill`,
         what was read.
         """
-        return self._submit(source_of(instance), (node_limit, turn_limit, rounds, names, form), named)
+        return self._submit(source_of(instance), (node_limit, turn_limit, rounds, names, form, seconds), named)
 
-    def _submit(self, source: Source, limits: tuple[Union[int, bool, str, None], ...], named: Optional[Callable[[str], object]] = None) -> str:
+    def _submit(self, source: Source, limits: tuple[Union[float, str, None], ...], named: Optional[Callable[[str], object]] = None) -> str:
         job = self._call("getJobID", {"osol": options_text(None, *limits)})
         try:
             if named:

@@ -5,7 +5,6 @@ use Rattle.std.specs.Borrow.{Bor}
 use Rattle.os_io.specs.Files.{Held, ReadsFirst}
 use Rattle.certificate.specs.declared.causes.Cause.TheVariants.{Memory}
 use Rattle.certificate.specs.declared.claims.Claim.TheVariants.{Unsure}
-use Rattle.osrl_writing.specs.declared.told_names.NameLists.{NameLists}
 use Rattle.osrl_writing.specs.declared.report.Report.{Report}
 use Rattle.osrl_writing.specs.Labels.{no_names}
 use Rattle.instance_names.specs.Reading.{GivesNames}

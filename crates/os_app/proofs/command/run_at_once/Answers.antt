@@ -1,15 +1,13 @@
 use Rattle.std.proofs.lemmas.Result.{IfOk-weaker}
-use Rattle.std.proofs.Common.{◌∙◌, ◌≤◌, Some, None, ap, refl}
-use Rattle.effects.specs.Limits.{most_first}
+use Rattle.std.proofs.Common.{◌∙◌, Some, ap, refl}
 use Rattle.command_line.proofs.Meanings.{asks_it, asks_none}
 use Rattle.os_app.proofs.OtherWords.{other_told}
-use Rattle.os_app.proofs.Words.{serve_runs}
-use Rattle.os_app.proofs.Words.{links_none, names_none, session_runs, unheard_runs}
+use Rattle.os_app.proofs.Words.{links_none, names_none, unheard_runs}
 use Rattle.os_app.proofs.Calls.{call_runs, none_named}
 use Rattle.os_app.proofs.Checks.{check_runs}
 use Rattle.os_app.proofs.CompactRuns.{compact_runs}
 use Rattle.os_app.proofs.Summaries.{generate_runs}
-use Rattle.os_app.proofs.JournalRuns.{hosted_runs, journal_none, kept_runs, serve_named, session_named, set_within}
+use Rattle.os_app.proofs.JournalRuns.{journal_none}
 use Rattle.os_app.proofs.Solves.{about_named, solve_runs}
 use Rattle.os_app.proofs.Ends.{ends_of, made_ends, told_from}
 use Rattle.os_app.proofs.command.run_at_once.Goals as goal
