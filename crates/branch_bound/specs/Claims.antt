@@ -3,7 +3,7 @@ use Rattle.std.specs.Prelude.{◌≡◌, Bool, true, false, Option, None, Some}
 use Rattle.evidence.specs.Claim as Says
 use Rattle.certificate.specs.Meanings as Means
 use Rattle.certificate.specs.declared.causes.Cause.{Cause}
-use Rattle.certificate.specs.declared.causes.Cause.TheVariants.{Killed, NodeLimit, TurnLimit, Wide, Length, Memory}
+use Rattle.certificate.specs.declared.causes.Cause.TheVariants.{Killed, NodeLimit, TurnLimit, TimeLimit, Wide, Length, Memory}
 use Rattle.certificate.specs.declared.claims.Claim.{Claim}
 use Rattle.certificate.specs.declared.claims.Claim.TheVariants as Has
 use Rattle.no_cycles.specs.Searches.{is_for}
@@ -50,6 +50,7 @@ abbrev pub is_kill : Cause → Bool
 is_kill Killed = true
 is_kill (NodeLimit n) = false
 is_kill (TurnLimit n) = false
+is_kill (TimeLimit x) = false
 is_kill (Wide p) = false
 is_kill Length = false
 is_kill Memory = false

@@ -2,6 +2,7 @@
 ghost use Rattle.std.specs.Prelude.{◌≡◌};
 ghost use Rattle.certificate.specs.Words.{step_text};
 
+use fraction::Frac;
 use std::alloc::AllocError;
 
 /// What was being done where a number was found too wide.
@@ -41,6 +42,8 @@ pub enum Cause {
     NodeLimit(u32),
     /// It had taken so many turns.
     TurnLimit(u32),
+    /// So many seconds were over.
+    TimeLimit(Frac),
     /// A number passed the width of a fraction.
     Wide(Place),
     /// The certificate would have passed the length of a document.

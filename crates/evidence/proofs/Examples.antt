@@ -166,7 +166,7 @@ branches = (
     tree = Split 0 (pos 2) (Bound bound) (Farkas farkas);
     listed = refl;
     shows = (
-      record { variable = lit< tt; whole = refl; low = omega (arith, ints); high = omega (arith, ints) },
+      inl (record { variable = lit< tt; whole = refl; low = omega (arith, ints); high = omega (arith, ints) }),
       record { legal = bound_legal; costs = one (λ j. Rattle.rational.specs.Ratio.IsSame (form (at_most halves 0 (pos 2)) bound j) (minimising halves (cost_at halves j))) refl; reaches = omega (arith, ints) },
       record { legal = farkas_legal; vanishes = one (λ j. Rattle.rational.specs.Ratio.IsSame (form high_case farkas j) none) refl; above = omega (arith, ints) },
     );

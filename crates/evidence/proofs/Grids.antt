@@ -14,21 +14,21 @@ use Rattle.evidence.proofs.Duality.{weak, form-number, minimising-number, minimi
 use Rattle.evidence.proofs.Inverses.{inverse-number, product-inverse}
 use Rattle.evidence.proofs.WholeSums.{whole-number, near_whole, same-whole, total-whole, product-whole, none_product-whole, at_ceiling}
 
-above-some : (z : ℤ) (d : ℕ) → IsBelow none (record { num = z; den = d }) → z ≡ pos 0 → ⊥
+pub above-some : (z : ℤ) (d : ℕ) → IsBelow none (record { num = z; den = d }) → z ≡ pos 0 → ⊥
 above-some z d h e = omega (arith, ints)
 
 -- by a factor above 0
-times_up : (z : ℤ) (d : ℕ) → 0 < d → IsBelow none (record { num = z; den = d }) → (a b : Ratio) → a ≲ b → product (record { num = z; den = d }) a ≲ product (record { num = z; den = d }) b
+pub times_up : (z : ℤ) (d : ℕ) → 0 < d → IsBelow none (record { num = z; den = d }) → (a b : Ratio) → a ≲ b → product (record { num = z; den = d }) a ≲ product (record { num = z; den = d }) b
 times_up (pos n) d up h a b l = product_up n d up l
 times_up (negsuc n) d up h a b l = absurd (omega (arith, ints))
 
 -- and by its inverse
-inverse_up : (z : ℤ) (d : ℕ) → 0 < d → IsBelow none (record { num = z; den = d }) → (a b : Ratio) → a ≲ b → product (inverse (record { num = z; den = d })) a ≲ product (inverse (record { num = z; den = d })) b
+pub inverse_up : (z : ℤ) (d : ℕ) → 0 < d → IsBelow none (record { num = z; den = d }) → (a b : Ratio) → a ≲ b → product (inverse (record { num = z; den = d })) a ≲ product (inverse (record { num = z; den = d })) b
 inverse_up (pos zero) d up h a b l = absurd (omega (arith, ints))
 inverse_up (pos (suc n)) d up h a b l = product_up d (suc n) (omega arith) l
 inverse_up (negsuc n) d up h a b l = absurd (omega (arith, ints))
 
-whole_most : (k m : ℤ) → k ≤ℤ m → whole k ≲ whole m
+pub whole_most : (k m : ℤ) → k ≤ℤ m → whole k ≲ whole m
 whole_most k m h = let e = more-times k m 1 h in record { left = lit< tt; right = lit< tt; is = e }
 
 module _ (I : Instance) (good : IsInstance I) (x : List Ratio) (f : IsFeasible I x) (g : Ratio) (step : HasStep I g) where

@@ -7,15 +7,17 @@ use Rattle.rational.proofs.Integers.{neg-times}
 use Rattle.std.proofs.lemmas.Int.{ints}
 use Rattle.std.proofs.lemmas.Bool.{lt-ltb, le-ltb, eq-eqb, ne_eqb}
 use Rattle.std.proofs.lemmas.List.Elements.{All-head, All-tail, All-cons, All-nil}
-use Rattle.rational.specs.Ratio.{Ratio, whole, sum, product, negative, IsSame, IsNumber}
+use Rattle.rational.specs.Ratio.{Ratio, whole, sum, product, negative, inverse, quotient, IsSame, IsNumber}
 use Rattle.evidence.specs.Sums.{none}
 use Rattle.evidence.specs.Instance.{Range, Instance, IsInstance, width, height, coefficient_at, column_at, minimising}
-use Rattle.evidence.specs.Cases.{Multiplier, multiplier_at, end_by, end_of, or_none, form, low_sum, left_at, is_zero, put_before, filled, completed, no_costs, goal_costs, rows_from, rows_of, AreOfRows, AreLegal, IsFarkas, IsBound}
+use Rattle.evidence.specs.Cases.{Multiplier, multiplier_at, end_by, end_of, or_none, form, low_sum, left_at, is_zero, put_before, filled, completed, no_costs, goal_costs, rows_from, rows_of, AreOfRows, AreLegal, IsFarkas, IsBound, IsGrid}
 use Rattle.evidence.proofs.Numbers.{◌≈◌, ◌≲◌, ◌⋖◌, ≈-refl, ≈-from, ≈-sym, ◌⊙◌, ◌▹◌, ≲-from, ≲-trans, ⋖-≲, sum-≈, product-≈, times_none, product-one, product_swap, none-sum, sum-none, sum_assoc}
 use Rattle.evidence.proofs.Columns.{by_lt, by_eq, by_bool, none-number, All-anywhere, coefficient-number, column-numbers}
 use Rattle.evidence.proofs.Duality.{minimising-number}
 use Rattle.evidence.proofs.UniqueRows.{end_by-number}
-use Rattle.evidence.proofs.Inverses.{sum-negative}
+use Rattle.evidence.proofs.Inverses.{sum-negative, inverse-number}
+use Rattle.evidence.proofs.WholeSums.{same_ceiling}
+use Rattle.evidence.proofs.Grids.{above-some}
 use Rattle.evidence.proofs.Completed.{total_head, form_cons, form-of_numbers, completed_farkas, completed_costs, costs-number}
 
 -- columns ascend from a number on
@@ -285,3 +287,21 @@ module _ (I : Instance) (good : IsInstance I) where
       let reached : z ≲ low_sum I start ms = record { left = pz; right = low.right; is = b.reaches } in
       let all = ≲-trans reached (≲-from (≈-sym low)) in
       (are_rows (goal_costs I) pt ms b.legal b.costs, record { legal = completed_legal (goal_costs I) pt ms b.legal b.costs; costs = completed_costs I good (rows_of I ms) (R-numbers (goal_costs I) pt ms b.legal b.costs); reaches = all.is })
+
+  pub grid_left : (g : Ratio) (ms : List Multiplier) (z : Ratio) → IsGrid I g ms z → AreOfRows I (rows_of I ms) × IsGrid I g (completed I (goal_costs I) (rows_of I ms)) z
+  grid_left g ms z b =
+      let pt : (j : ℕ) → IsNumber (goal_costs I j) = costs-number I good in
+      let all : List Multiplier = completed I (goal_costs I) (rows_of I ms) in
+      let low = same_low all ms none none (≈-refl none-number) (completed_same (goal_costs I) pt ms b.legal b.costs) in
+      let one : inverse g ≈ inverse g = ≈-refl (inverse-number g (above-some g.num g.den b.step.above)) in
+      let steps : quotient (low_sum I none ms) g ≈ quotient (low_sum I none all) g = product-≈ (≈-sym low) one in (
+        are_rows (goal_costs I) pt ms b.legal b.costs,
+        record {
+          legal = completed_legal (goal_costs I) pt ms b.legal b.costs;
+          costs = completed_costs I good (rows_of I ms) (R-numbers (goal_costs I) pt ms b.legal b.costs);
+          step = b.step;
+          steps = b.steps;
+          rounded = same_ceiling (quotient (low_sum I none ms) g) (quotient (low_sum I none all) g) b.steps steps b.rounded;
+          reaches = b.reaches;
+        },
+      )

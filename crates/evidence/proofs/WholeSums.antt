@@ -1,10 +1,14 @@
 -- Sums of whole numbers, and the next whole number above a number.
-use Rattle.std.proofs.Common.{◌≡◌, ℕ, zero, suc, ◌<◌, ℤ, pos, negsuc, ◌+ℤ◌, ◌≤ℤ◌, lit<, arith, refl}
+use Rattle.std.proofs.Common.{◌≡◌, ℕ, zero, suc, ◌+◌, ◌*◌, ◌<◌, ℤ, pos, negsuc, neg_ℤ, ◌+ℤ◌, ◌*ℤ◌, ◌≤ℤ◌, ◌<ℤ◌, lit<, arith, refl, sym, subst}
+use Rattle.std.specs.Prelude.{◌/◌}
+use Rattle.std.specs.Int.{int_div_euclid}
+use Rattle.std.proofs.Math.Nat.{lt-div-mul-add, suc-mul}
+use Rattle.std.proofs.lemmas.Nat.{div-add-mod'}
 use Rattle.std.proofs.lemmas.Int.{ints, by_lt_z}
-use Rattle.rational.specs.Ratio.{Ratio, whole, sum, product, IsSame, IsNumber}
-use Rattle.rational.proofs.Integers.{more-times}
+use Rattle.rational.specs.Ratio.{Ratio, whole, sum, product, IsSame, IsNumber, IsFloor}
+use Rattle.rational.proofs.Integers.{more-times, neg-times}
 use Rattle.evidence.specs.Sums.{none, total, IsWhole, IsCeiling}
-use Rattle.evidence.proofs.Numbers.{◌≈◌, ◌≲◌, ≈-refl, ◌⊙◌, sum-≈, product-≈, product-none}
+use Rattle.evidence.proofs.Numbers.{◌≈◌, ◌≲◌, ◌⋖◌, ≈-refl, ≈-sym, ◌⊙◌, ≲-from, ≲-trans, ⋖-≲, sum-≈, product-≈, product-none}
 use Rattle.evidence.proofs.Totals.{total-number}
 use Rattle.evidence.proofs.Columns.{none-number}
 
@@ -46,9 +50,54 @@ at_ceiling x k n c h =
     absurd (omega (arith, ints)))
     (λ done. done)
 
+-- the same number has the same next whole number
+pub same_ceiling : (x y : Ratio) (k : ℤ) → x ≈ y → IsCeiling x k → IsCeiling y k
+same_ceiling x y k e c =
+    let low = c.low in
+    let high = c.high in
+    let under : whole (k +ℤ negsuc 0) ⋖ x = record { left = whole-number (k +ℤ negsuc 0); right = e.left; is = omega (arith, ints) } in
+    let over : x ≲ whole k = record { left = e.left; right = whole-number k; is = omega (arith, ints) } in
+    let below = ⋖-≲ under (≲-from e) in
+    let above = ≲-trans (≲-from (≈-sym e)) over in
+    let b = below.is in
+    let a = above.is in
+    record { low = omega (arith, ints); high = omega (arith, ints) }
+
+-- and each number has one
+floor_at : (n : ℤ) (d : ℕ) → 0 < d → IsFloor (record { num = n; den = d }) (int_div_euclid n (pos d))
+floor_at (pos n) d p =
+    let a = div-add-mod' n d in
+    let b : n < n / d * d + d = lt-div-mul-add p in
+    let c = suc-mul (n / d) d in
+    let q : pos (n / d) +ℤ pos 1 ≡ pos (suc (n / d)) = omega (arith, ints) in
+    record { low = omega (arith, ints); high = subst (λ z. pos n <ℤ (z *ℤ pos d)) (sym q) (omega (arith, ints)) }
+floor_at (negsuc n) d p =
+    let a = div-add-mod' n d in
+    let b : n < n / d * d + d = lt-div-mul-add p in
+    let c = suc-mul (n / d) d in
+    let q : negsuc (n / d) +ℤ pos 1 ≡ neg_ℤ (pos (n / d)) = omega (arith, ints) in
+    let g = neg-times (pos (n / d)) (pos d) in
+    record { low = omega (arith, ints); high = subst (λ z. negsuc n <ℤ (z *ℤ pos d)) (sym q) (omega (arith, ints)) }
+
+pub next_whole : (x : Ratio) → IsNumber x → (k : ℤ) × IsCeiling x k
+next_whole x p =
+    let f : ℤ = int_div_euclid (neg_ℤ x.num) (pos x.den) in
+    let b = floor_at (neg_ℤ x.num) x.den p in
+    let low = b.low in
+    let high = b.high in
+    let e = neg-times f (pos x.den) in
+    let g = neg-times (f +ℤ pos 1) (pos x.den) in
+    let h : neg_ℤ f +ℤ negsuc 0 ≡ neg_ℤ (f +ℤ pos 1) = omega (arith, ints) in
+    (neg_ℤ f, record { low = subst (λ z. (z *ℤ pos x.den) <ℤ x.num) (sym h) (omega (arith, ints)); high = omega (arith, ints) })
+
 -- the same number is whole too
 pub same-whole : (x y : Ratio) → x ≈ y → IsWhole y → IsWhole x
 same-whole x y e w = let all = e ⊙ near_whole y e.right w in record { number = w.number; same = all.is }
+
+pub product-wholes : (a x : Ratio) → IsNumber a → IsNumber x → IsWhole a → IsWhole x → IsWhole (product a x)
+product-wholes a x pa p v w =
+    let C : x ≈ x = ≈-refl p in
+    same-whole (product a x) (product (whole v.number) x) (product-≈ (near_whole a pa v) C) (product-whole v.number x p w)
 
 pub none_product-whole : (a x : Ratio) → IsNumber a → IsNumber x → IsSame a none → IsWhole (product a x)
 none_product-whole a x pa p e =

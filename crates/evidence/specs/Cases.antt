@@ -1,17 +1,17 @@
 -- Trees of cases over whole variables (Land and Doig, 1960) and over variables that are 0 or within further ends (Beale, 1979), whose leaves have multipliers by which no point is feasible (Farkas, 1902), or none is better than a bound (weak duality; Chvátal, Linear Programming, 1983, chapter 5).
-use Rattle.std.specs.Prelude.{◌≡◌, Bool, true, false, nat_lt, ℕ, zero, suc, ◌+◌, ◌<◌, ◌≤◌, ℤ, pos, negsuc, ◌+ℤ◌, cond, IsTrue, Option, None, Some, IsSome, List, [], ◌∷◌, ◌++◌, length, get_or, neg_ℤ, ◌≤ℤ◌, ◌<ℤ◌, slice_set}
+use Rattle.std.specs.Prelude.{◌≡◌, ◌⊎◌, Bool, true, false, nat_lt, ℕ, zero, suc, ◌+◌, ◌<◌, ◌≤◌, ◌-◌, ℤ, pos, negsuc, ◌+ℤ◌, cond, IsTrue, Option, None, Some, IsSome, List, [], ◌∷◌, ◌++◌, length, get_or, neg_ℤ, ◌≤ℤ◌, ◌<ℤ◌, slice_set}
 use Rattle.std.specs.List.{All}
 use Rattle.rational.specs.Ratio.{Ratio, whole, sum, product, negative, quotient, IsSame, IsBelow, IsNumber, IsAtMost}
 use Rattle.rational.specs.Width.{most}
-use Rattle.evidence.specs.Sums.{none, is_below, total, IsCeiling, IsMultiple}
-use Rattle.evidence.specs.Instance.{Range, free, Instance, width, height, variable_at, coefficient_at, column_at, cost_at, minimising}
+use Rattle.evidence.specs.Sums.{none, is_below, total, IsWhole, IsCeiling, IsMultiple}
+use Rattle.evidence.specs.Instance.{Range, free, Instance, width, height, variable_at, row_at, entry_at, coefficient_at, column_at, cost_at, minimising}
 
 -- a factor of one column: of a variable, or of a row's activity
 pub record Multiplier : Type 0 where
   pub column : ℕ
   pub by : Ratio
 
--- cases, one within the other, or one of three reasons
+-- a leaf, of one of seven kinds, or two cases: of a column, or of a variable that may be 0
 pub data Tree : Type 0 where
   Clash : ℕ → Tree
   Farkas : List Multiplier → Tree
@@ -72,7 +72,7 @@ pub record IsBound (I : Instance) (ms : List Multiplier) (z : Ratio) : Type 0 wh
   pub costs : (j : ℕ) → j < width I → IsSame (form I ms j) (minimising I (cost_at I j))
   pub reaches : IsAtMost z (low_sum I (minimising I I.goal.constant) ms)
 
--- the goal goes in steps of g: each cost of a whole variable is a whole multiple of it, and the others are 0
+-- the goal goes in steps of g: each cost of a whole variable is a whole multiple of it, and the others are 0; so bounds may be rounded (Wolsey, Integer Programming, 1998, chapter 7)
 pub record HasStep (I : Instance) (g : Ratio) : Type 0 where
   pub number : IsNumber g
   pub above : IsBelow none g
@@ -88,7 +88,7 @@ pub record IsGrid (I : Instance) (g : Ratio) (ms : List Multiplier) (z : Ratio) 
   pub rounded : IsCeiling (quotient (low_sum I none ms) g) steps
   pub reaches : IsAtMost z (sum (minimising I I.goal.constant) (product (whole steps) g))
 
--- what is left of t at variable j: the multiplier of j by which the form there is t
+-- what is left of t at variable j: the multiplier of j by which the form there is t. Of costs, what rows leave is a reduced cost (Chvátal, chapter 5)
 abbrev pub left_at : Instance → (ℕ → Ratio) → List Multiplier → ℕ → Ratio
 left_at I t ms j = sum (t j) (negative (form I ms j))
 
@@ -187,6 +187,43 @@ pub record IsBranch (I : Instance) (j : ℕ) (k : ℤ) : Type 0 where
   pub low : neg_ℤ (pos most) ≤ℤ k
   pub high : k <ℤ pos most
 
+-- the instance with another range for row i
+abbrev pub with_row_range : Instance → ℕ → Range → Instance
+with_row_range I i r = record I { rows = slice_set I.rows i r }
+
+-- row i is at most k
+abbrev pub row_at_most : Instance → ℕ → ℤ → Instance
+row_at_most I i k = let r = row_at I i in with_row_range I i (record r { ub = lesser_end r.ub (whole k) })
+
+-- row i is at least k
+abbrev pub row_at_least : Instance → ℕ → ℤ → Instance
+row_at_least I i k = let r = row_at I i in with_row_range I i (record r { lb = greater_end r.lb (whole k) })
+
+-- column c, a variable or a row, is at most k
+abbrev pub low_case : Instance → ℕ → ℤ → Instance
+low_case I c k = cond (nat_lt c (width I)) (at_most I c k) (row_at_most I (c - width I) k)
+
+-- column c is at least k
+abbrev pub high_case : Instance → ℕ → ℤ → Instance
+high_case I c k = cond (nat_lt c (width I)) (at_least I c k) (row_at_least I (c - width I) k)
+
+-- row i's sum is whole at each feasible point: its entries are whole at whole variables, and 0 at the others
+pub record IsWholeRow (I : Instance) (i : ℕ) : Type 0 where
+  pub entries : (j : ℕ) → j < width I → IsTrue (variable_at I j).whole → IsWhole (entry_at I.entries i j)
+  pub others : (j : ℕ) → j < width I → (IsTrue (variable_at I j).whole → ⊥) → IsSame (entry_at I.entries i j) none
+
+-- column c is a row whose sum is whole, so that each of its values is at most k or at least k + 1 (constraint branching: Ryan and Foster, 1981; general disjunctions: Owen and Mehrotra, 2001), and both numbers fit
+pub record IsRowBranch (I : Instance) (c : ℕ) (k : ℤ) : Type 0 where
+  pub past : width I ≤ c
+  pub inside : c < width I + height I
+  pub whole : IsWholeRow I (c - width I)
+  pub low : neg_ℤ (pos most) ≤ℤ k
+  pub high : k <ℤ pos most
+
+-- a branch over a whole variable, or over a row that is whole
+abbrev pub IsSplit : Instance → ℕ → ℤ → Type 0
+IsSplit I c k = IsBranch I c k ⊎ IsRowBranch I c k
+
 -- the tree shows that no feasible point's minimising objective is below z; without z, that no point is feasible
 abbrev pub Shows : Instance → Tree → Option Ratio → Type 0
 Shows I (Clash c) z = (c < width I + height I) × IsEmpty (column_at I c)
@@ -200,7 +237,7 @@ Shows I (BoundRows ms) None = ⊥
 Shows I (BoundRows ms) (Some z) = AreOfRows I ms × IsBound I (completed I (goal_costs I) ms) z
 Shows I (GridRows g ms) None = ⊥
 Shows I (GridRows g ms) (Some z) = AreOfRows I ms × IsGrid I g (completed I (goal_costs I) ms) z
-Shows I (Split j k a b) z = IsBranch I j k × Shows (at_most I j k) a z × Shows (at_least I j (k +ℤ pos 1)) b z
+Shows I (Split c k a b) z = IsSplit I c k × Shows (low_case I c k) a z × Shows (high_case I c (k +ℤ pos 1)) b z
 Shows I (Zero j a b) z = IsZeroBranch I j × Shows (at_zero I j) a z × Shows (unless_zero I j) b z
 
 -- a node of a tree, as texts have it
