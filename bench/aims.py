@@ -3,7 +3,9 @@
     python3 bench/aims.py
 
 The seconds until a standby answers, two servers behind the proxy beside one, small files through Slurm, a first answer before the proofs, and one
-program by its parts on four processors and on one. The kinds of programs grow until one takes a while with one worker.
+program by its parts on four processors and on one. The kinds of programs grow until one takes a while with one worker. Its times are compared by
+the clock, and as they are reckoned where each worker has a processor of its own (`bench/apart.py`): a machine that is itself one of several may
+be given less than it has, which the processors' own count of stolen time tells.
 """
 
 import os
@@ -12,6 +14,7 @@ import subprocess
 import sys
 import tempfile
 import time
+from typing import NamedTuple
 
 import apart
 import programs
@@ -19,11 +22,13 @@ import programs
 FILES = 10_000
 TAKEOVERS = 3
 MOST_SECONDS, LEAST_SECONDS = 60, 25  # that one worker takes for a program: past the first it is ended, from the second on no larger one is tried
+MOST_ENDED = 2  # programs of a kind that are ended so before the kind's largest is taken that wasn't
+WORKERS = 4
 MOST_PRESSURE = 10.0  # percent of the last minute in which something waited for a processor, above which the machine has other work
 KINDS = (
-    (programs.fixed_charge, ((10, 15), (11, 16), (12, 18), (14, 20))),
-    (programs.general_assignment, ((5, 35), (5, 40), (6, 40), (8, 40))),
-    (programs.job_shop, ((5, 5), (6, 5), (7, 5))),
+    (programs.fixed_charge, ((14, 20), (16, 22), (16, 24), (17, 24), (18, 25), (19, 26))),
+    (programs.general_assignment, ((6, 40), (8, 40))),
+    (programs.job_shop, ((5, 5), (5, 6), (5, 7), (4, 9), (6, 4), (5, 8))),
 )
 TAKE_OVER = f"import takeover; takeover.take_over({TAKEOVERS})"
 
@@ -33,32 +38,72 @@ def row(what, aim, found, more=""):
     print(f"| {what} | {aim} | {'not found' if found is None else f'{found:.2f}'} | {is_met} | {more} |", flush=True)
 
 
+def ticks():
+    """What the processors have counted: the time that was stolen, and all time."""
+    with open("/proc/stat", encoding="ascii") as file:
+        found = [int(word) for word in file.readline().split()[1:9]]
+    return found[7], sum(found)
+
+
+def stolen_since(before):
+    now = ticks()
+    return (now[0] - before[0]) / max(now[1] - before[1], 1)
+
+
+class Run(NamedTuple):
+    """A run by so many workers."""
+
+    workers: int
+    line: str
+    value: str
+    processors: float
+    clock: float
+    busy: float
+    stolen: float
+
+    def reckoned(self):
+        """Its seconds where each worker has a processor of its own."""
+        return self.processors / self.workers / self.busy
+
+    def __str__(self):
+        return f"{self.clock:.1f} s of the clock ({self.processors:.1f} of processors, seats busy {self.busy:.2f}, {100 * self.stolen:.0f} % stolen)"
+
+
 def timed(program, workers):
-    """What `bench/apart.py` finds of a run by so many workers."""
+    """A run of `solve_apart`."""
     with tempfile.TemporaryDirectory() as folder:
-        path = os.path.join(folder, "it.osil")
+        path, before = os.path.join(folder, "it.osil"), ticks()
         with open(path, "w", encoding="utf-8") as file:
             file.write(programs.osil(program))
-        return apart.apart(path, folder, workers, MOST_SECONDS)
+        line, value, processors, clock, busy, _, _ = apart.apart(path, folder, workers, MOST_SECONDS)
+        return Run(workers, line, value, processors, clock, busy, stolen_since(before))
+
+
+def largest(make, sizes):
+    """The program of the kind that takes long by one worker, or the longest of those that end in time, with its run; none where none ends."""
+    found, ended = None, 0
+    for size in sizes:
+        program = make(*size)
+        one = timed(program, 1)
+        ended += one.line != "accepted optimal"
+        if one.line == "accepted optimal" and (found is None or one.clock > found[1].clock):
+            found = program, one
+        if ended == MOST_ENDED or found and found[1].clock >= LEAST_SECONDS:
+            break
+    return found
 
 
 def of_kind(make, sizes):
-    """A program of the kind by one worker and by four: the largest that one ends in time."""
-    program = one = None
-    for size in sizes:
-        larger = make(*size)
-        line, value, processors, clock, busy, _, _ = timed(larger, 1)
-        if line != "accepted optimal":
-            break
-        program, one = larger, (value, clock, f"{processors:.1f} s of processors, seats busy {busy:.2f}")
-        if clock >= LEAST_SECONDS:
-            break
-    if program is None:
-        row(f"{sizes[0]}: one worker doesn't end", 3.0, None)
+    """A program of the kind by one worker and by four."""
+    found = largest(make, sizes)
+    if found is None:
+        row(f"{make.__name__}: one worker ends none of {sizes}", 3.0, None)
         return
-    line, value, processors, clock, busy, _, _ = timed(program, 4)
-    more = f"{one[1]:.1f} s ({one[2]}) and {clock:.1f} s ({processors:.1f} s, {busy:.2f}) of the clock"
-    row(f"{program.name} by 4 workers, times one", 3.0, one[1] / clock if line == "accepted optimal" and value == one[0] else None, more)
+    program, one = found
+    many = timed(program, WORKERS)
+    is_same = (many.line, many.value) == (one.line, one.value)
+    row(f"{program.name} by {WORKERS} workers, times one, by the clock", 3.0, one.clock / many.clock if is_same else None, f"{one} and {many}")
+    row("the same, reckoned", 3.0, one.reckoned() / many.reckoned() if is_same else None, f"{one.reckoned():.1f} s and {many.reckoned():.1f} s")
 
 
 def said(*words):
@@ -94,7 +139,7 @@ def first_answer():
 
 
 def main():
-    begun = time.monotonic()
+    begun, before = time.monotonic(), ticks()
     with open("/proc/pressure/cpu", encoding="ascii") as file:
         pressure = float(re.search(r"some .*avg60=([0-9.]+)", file.read()).group(1))
     print(f"{os.cpu_count()} processors; in {pressure:.0f} % of the last minute something waited for one" + (": THE MACHINE HAS OTHER WORK, so nothing here counts" if pressure > MOST_PRESSURE else ""))
@@ -105,7 +150,7 @@ def main():
     first_answer()
     for make, sizes in KINDS:
         of_kind(make, sizes)
-    print(f"\n{time.monotonic() - begun:.0f} s")
+    print(f"\n{time.monotonic() - begun:.0f} s, in which {100 * stolen_since(before):.0f} % of the processors' time was stolen")
 
 
 if __name__ == "__main__":

@@ -415,9 +415,23 @@ def try_vipr():
             answer = vipr_checking.verdict(text)
             check(answer.startswith("verified"), name, answer)
             try_spoilt(name, text)
+        try_row_splits(folder)
         try_made_vipr(folder)
         try_bounds(folder)
     print("VIPR files of the examples, spoilt ones, and files of certificates that are made: tried", flush=True)
+
+
+def try_row_splits(folder):
+    """The two assumptions of a split on a row have that row's factors: of one of the instance, and of one that a round gives."""
+    for name, claim, parts, wanted in (
+        ("pairs", "optimal", {"point": [1, 0, 0], "value": [1], "tree": ["split 4 1", "bound 4:-1", "farkas 3:-1 4:2"]}, "range 1 1"),
+        ("unlimited_pairs", "infeasible", {"tree": ["split 3 1", "farkas 2:1 3:-2", "farkas 2:-1 3:2"]}, "infeasible"),
+        ("halves", "optimal", {"point": [2], "value": [2], "rounds": ["round 1:-1/2"], "tree": ["split 2 -3", "clash 2", "bound 2:1"]}, "range 2 2"),
+    ):
+        osrl = put(folder, "osrl", result_text.osrl(claim, {part: [str(item) for item in items] for part, items in parts.items()}))
+        text = vipr_of(f"{TOOLS}/../crates/try_runs/data/{name}.osil", osrl)
+        check(vipr_checking.verdict(text) == f"verified {wanted}", f"a split on a row of {name}", text)
+        try_spoilt(name, text)
 
 
 def try_made_vipr(folder):

@@ -43,7 +43,7 @@ def ratio(text):
 
 
 class Node:
-    """A node of a tree of cases: a split (its variable, the value, the two cases), a zero (its variable), a clash (its column), a farkas or
+    """A node of a tree of cases: a split (its column, the value, the two cases), a zero (its variable), a clash (its column), a farkas or
     a bound (their multipliers by columns), or a grid (its step too). The number is its place in its tree, from 1. A leaf of rows alone
     has the multipliers of variables too, once its tree is read."""
 
@@ -91,7 +91,7 @@ def node_of(text, number, variables, columns):
     if kind in OF_ROWS:
         return rows_of(node_of(" ".join([OF_ROWS[kind], *pieces]), number, variables, columns), variables, where)
     if kind == "split" and len(pieces) == 2:
-        return Node(number, kind, column_of(pieces[0], variables, where), ratio(pieces[1]))
+        return Node(number, kind, column_of(pieces[0], columns, where), ratio(pieces[1]))
     if kind == "zero" and len(pieces) == 1:
         return Node(number, kind, column_of(pieces[0], variables, where))
     if kind == "clash" and len(pieces) == 1:

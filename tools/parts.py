@@ -13,6 +13,8 @@ from gubnatris.instances import Column, Instance
 ZERO = fractions.Fraction(0)
 WIDEST = 2**127 - 1
 LEVEL = re.compile(r"level \d+")
+# leaves, with how many words stand before their multipliers, and what they are called where they name rows alone
+LEAVES = {"farkas": (0, "farkasRows"), "bound": (0, "boundRows"), "grid": (1, "gridRows")}
 
 
 class Wide(Exception):
@@ -175,8 +177,19 @@ def ruled_out(node, column):
     """A leaf for the program with one row more, the goal between two ends that are better than what a bound or a grid leaf shows: no point is
     there. The ends are those of a point, so a whole number of a grid's steps, and its low sum passes them before it is rounded up."""
     kind, *words = node.split(" ")
-    pairs = {"bound": words, "grid": words[1:]}.get(kind)
-    return node if pairs is None else " ".join(["farkas", *pairs, f"{column}:-1"])
+    of_rows, whole = kind.endswith("Rows"), kind.removesuffix("Rows")
+    if whole not in ("bound", "grid"):
+        return node
+    return " ".join(["farkasRows" if of_rows else "farkas", *words[LEAVES[whole][0] :], f"{column}:-1"])
+
+
+def of_rows_alone(node, variables):
+    """A leaf of so many variables without their multipliers, which are what those of its rows leave."""
+    kind, *words = node.split(" ")
+    if kind not in LEAVES:
+        return node
+    first, name = LEAVES[kind]
+    return " ".join([name, *words[:first], *(pair for pair in words[first:] if int(pair.partition(":")[0]) >= variables)])
 
 
 # ---- the result of the whole
@@ -188,7 +201,7 @@ def items_text(name, items):
 
 def dual_values(instance, tree):
     """The multipliers of rows, for people, where the tree is one leaf."""
-    if len(instance.goals) != 1 or len(tree) != 1 or not tree[0].startswith("bound "):
+    if len(instance.goals) != 1 or len(tree) != 1 or tree[0].split(" ")[0] not in ("bound", "boundRows"):
         return ""
     pairs = [pair.partition(":") for pair in tree[0].split(" ")[1:]]
     count = len(instance.variables)
@@ -205,6 +218,10 @@ class Claim(NamedTuple):
     bound: Optional[fractions.Fraction] = None
     trees: tuple = ()
     cause: Optional[str] = None
+
+    def by_rows(self, variables):
+        """The claim by leaves that name rows alone."""
+        return self._replace(trees=tuple([of_rows_alone(node, variables) for node in tree] for tree in self.trees))
 
 
 def result_text(instance, claim: Claim):

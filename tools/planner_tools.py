@@ -450,11 +450,15 @@ def try_bounds(folder):
         return written(folder, "osrl", f"<osrl>{general}<optimization>{solution}</optimization></osrl>")
 
     found, ended, tree = [("point", 2), ("value", 2)], ("cause", "killed"), ("tree", "split 0 2", "bound 0:-1", "bound 1:-1/2")
+    by_row = ("tree", "split 1 4", "bound 1:-1/2", "bound 1:-1/2")
     for status, parts, wanted in (
         ("bestSoFar", [*found, ended, ("bound", "5/2"), tree], "No point's value is above 2.5; so the best one is at most 0.5 better than that of this point.\n"),
         ("bestSoFar", [*found, ended, ("bound", 2), tree], "No point's value is above 2; so none is better than that of this point.\n"),
         ("unsure", [ended, ("bound", "7/3"), tree], "No point's value is above 2.333333333333.., exactly 7/3.\n"),
         ("unsure", [ended, ("bound", "5/2"), tree], "Tree of cases: 3 nodes\n"),
+        ("unsure", [ended, ("bound", "5/2"), by_row], "  1  split by row 0\n"),
+        ("unsure", [ended, ("bound", "5/2"), by_row], "  row 0 <= 4: no better than 2\n"),
+        ("unsure", [ended, ("bound", "5/2"), by_row], "  row 0 >= 5: no better than 2.5\n"),
     ):
         text = tool("show_result", osil, left(status, *parts)).stdout
         check(wanted in text, f"a bound of {status}", text)

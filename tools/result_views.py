@@ -9,6 +9,7 @@ CUT = 12  # decimals shown, as the server's own result has them
 CAUSES = {
     "nodeLimit": ("it began as many cases as the option nodeLimit allows", "give a greater limit"),
     "turnLimit": ("it made as many turns of the simplex method as the option pivotLimit allows, or --safe", "give a greater limit, without --safe"),
+    "timeLimit": ("it took as long as the option maxTime or --seconds allows", "give a longer time"),
     "wide": ("a number passes 128 bits", "use smaller numbers: whole units in place of decimals, other units where sizes differ much"),
     "length": ("the document would be longer than 4,194,304 bytes", "set tighter bounds on the whole variables, so that fewer cases are needed"),
     "killed": ("the job was asked to stop", ""),
@@ -252,9 +253,9 @@ def inner(held, low, high):
     return max(lows, default=None), min(highs, default=None)
 
 
-def halves(instance, node):
+def halves(instance, node, held):
     """The two cases of a split or a zero, the first one last: the column, the ends that it adds, and the words for them."""
-    column = instance.variables[node.column]
+    column = instance.variables[node.column] if node.kind == "zero" else held[node.column]
     if node.kind == "zero":
         return [(node.column, column.low, column.high, f"{column.name} within its own ends"), (node.column, 0, 0, f"{column.name} = 0")]
     above = node.value + 1
@@ -279,7 +280,7 @@ def cases(instance, result, level):
         node = next(nodes)
         found.append(Case(node, depth, text, said_of(node, goal, held), parent))
         if node.kind in ("split", "zero"):
-            todo += [("begin", depth + 1, half, node.number) for half in halves(instance, node)]
+            todo += [("begin", depth + 1, half, node.number) for half in halves(instance, node, held)]
     return found
 
 

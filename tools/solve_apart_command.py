@@ -175,14 +175,26 @@ class Solving:
                 last = time.monotonic() + LONGEST_STOP
         return None
 
+    def joined(self, claim, check):
+        """The joined result as far as one document has room for it, what the check says of it, and what is left out: of a longer one the
+        multipliers of variables, which those of rows decide, and else its tree."""
+        text = parts.result_text(self.instance, claim)
+        if len(text.encode()) <= MOST_RESULT:
+            return text, check(text), ""
+        text = parts.result_text(self.instance, claim.by_rows(len(self.instance.variables)))
+        line = check(text) if len(text.encode()) <= MOST_RESULT else ""
+        if line.startswith("accepted"):
+            return text, line, ""
+        note = f"{claim.status} by its parts, but the joined result has {len(text.encode()):,} bytes, past {MOST_RESULT:,}"
+        note = f"{claim.status} by its parts, but the joined result by rows alone is {line}" if line else note
+        status = "bestSoFar" if claim.point is not None else "unsure"
+        text = parts.result_text(self.instance, parts.Claim(status, claim.point, cause="length"))
+        return text, check(text), f"{note}: it is written without its tree; "
+
     def write(self, claim, osil, checker):
-        """Writes the joined result, as far as one document has room for it, and says what the check makes of it."""
-        text, note = parts.result_text(self.instance, claim), ""
-        if len(text.encode()) > MOST_RESULT:
-            note = f"{claim.status} by its parts, but the joined result has {len(text.encode()):,} bytes, past {MOST_RESULT:,}: it is written without its tree; "
-            status = "bestSoFar" if claim.point is not None else "unsure"
-            text = parts.result_text(self.instance, parts.Claim(status, claim.point, cause="length"))
-        line = checker.line(osil.decode("utf-8", "surrogateescape"), text)
+        """Writes the joined result, and says what the check makes of it."""
+        instance = osil.decode("utf-8", "surrogateescape")
+        text, line, note = self.joined(claim, lambda text: checker.line(instance, text))
         is_right = line.startswith("accepted")
         write_whole(text, self.words.output)
         said = f"unsure, {claim.cause}" if claim.status == "unsure" and line == "refused NoClaim" else line

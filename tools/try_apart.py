@@ -137,16 +137,17 @@ def rules(_):
 
 
 def grids(folder):
-    """Parts whose leaves are on a grid: their trees are joined on each level."""
-    it = division(ON_A_GRID)
-    it.resume(it.root)
-    it.keep_branch(it.root, parts.Branch(1, 0))
-    it.next_open()
-    it.offer((Fraction(1), Fraction(0)))
-    for child, values in zip(it.root.children, ((2, 0), (6, 1))):
-        it.close(child, tuple(map(Fraction, values)), (("grid 2 1:4 2:1/2",), ("bound 1:1",)))
-    line = Checker(folder).line(programs.osil(ON_A_GRID), parts.result_text(it.instance, it.claim()))
-    is_so(f"parts whose leaves are on a grid: {line}", line == "accepted optimal")
+    """Parts whose leaves are on a grid, with the multipliers of variables and without: their trees are joined on each level."""
+    for leaves in ((("grid 2 1:4 2:1/2",), ("bound 1:1",)), (("gridRows 2 2:1/2",), ("boundRows",))):
+        it = division(ON_A_GRID)
+        it.resume(it.root)
+        it.keep_branch(it.root, parts.Branch(1, 0))
+        it.next_open()
+        it.offer((Fraction(1), Fraction(0)))
+        for child, values in zip(it.root.children, ((2, 0), (6, 1))):
+            it.close(child, tuple(map(Fraction, values)), leaves)
+        line = Checker(folder).line(programs.osil(ON_A_GRID), parts.result_text(it.instance, it.claim()))
+        is_so(f"parts with the leaves {leaves}: {line}", line == "accepted optimal")
 
 
 def kinds(folder):
@@ -382,15 +383,30 @@ def refused(folder):
     ):
         ran = run(path, *(["--folder", "/proc/none"] if status == 4 else []))
         is_so(f"{what}: {last(ran)}", ran.returncode == status and says in ran.stderr and len(ran.stderr.splitlines()) == 1 and not os.path.exists(f"{path}.parts"))
+
+
+def within(case, most):
+    """A run for which a result has at most so many bytes."""
+    code = f"import sys; sys.path[:0] = ['tools', 'clients/python']; import solve_apart_command as it; it.MOST_RESULT = {most}; sys.exit(it.main(['{case.osil}', '--output', '{case.osrl}', '--quiet', '--share', '1']))"
+    return subprocess.run([sys.executable, "-c", code], capture_output=True, text=True, timeout=LONGEST, check=False)
+
+
+def long_results(folder):
+    """A joined result that is too long is written by rows alone, and one that is too long then without its tree."""
     case = Case(folder, "long", programs.osil(programs.knapsack(20, 3)))
-    code = f"import sys; sys.path[:0] = ['tools', 'clients/python']; import solve_apart_command as it; it.MOST_RESULT = 2000; sys.exit(it.main(['{case.osil}', '--output', '{case.osrl}', '--quiet', '--share', '1']))"
-    ran = subprocess.run([sys.executable, "-c", code], capture_output=True, text=True, timeout=LONGEST, check=False)
+    ran = within(case, 2000)
     is_so(f"a joined result that is too long: {last(ran)[:140]}", ran.returncode == 1 and case.line() == "accepted bestSoFar" and "optimal by its parts" in ran.stderr and len(ran.stderr.splitlines()) == 1)
+    value = case.single()
+    whole = within(case, 10**7)
+    size = os.path.getsize(case.osrl)
+    is_so(f"the whole one has {size} bytes", whole.returncode == 0 and "Rows" not in Path(case.osrl).read_text(encoding="ascii"))
+    ran = within(case, size * 3 // 4)
+    is_so(f"by rows alone it has {os.path.getsize(case.osrl)}", ran.returncode == 0 and case.line() == "accepted optimal" and case.told() == value and "boundRows" in Path(case.osrl).read_text(encoding="ascii"))
 
 
 def main():
     with tempfile.TemporaryDirectory() as folder:
-        for tried in (rules, grids, refused, kinds, servers, goes_on):
+        for tried in (rules, grids, refused, long_results, kinds, servers, goes_on):
             try:
                 tried(folder)
             except (OSError, ValueError, AttributeError, subprocess.TimeoutExpired, gubnatris.Error) as failure:

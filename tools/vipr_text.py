@@ -102,7 +102,7 @@ class Writing:
         return self.result.values[self.level] - self.goal.constant
 
     def add_tree(self, nodes):
-        """A tree in preorder. Open splits wait for their cases; each has its variable, its k, the assumptions, what its cases derived, and
+        """A tree in preorder. Open splits wait for their cases; each has its column, its k, the assumptions, what its cases derived, and
         the end that it has taken the place of."""
         open_splits = []
         for node in nodes:
@@ -131,7 +131,7 @@ class Writing:
         """The next case of a split: its end is an assumption, and holds where it cuts more than the one before."""
         node, which = split["node"], len(split["derived"])
         right = node.value if which == 0 else node.value + 1
-        index = self.add(Constraint(f"a{len(self.constraints)}", "LG"[which], right, {node.column: fractions.Fraction(1)}, "asm"))
+        index = self.add(Constraint(f"a{len(self.constraints)}", "LG"[which], right, self.forms[node.column], "asm"))
         split["assumed"].append(index)
         split["before"] = self.ends[node.column]
         low, high = split["before"]

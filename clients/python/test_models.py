@@ -33,7 +33,7 @@ from gubnatris.instances import read_instance
 from peers import ending_server
 
 ROOT = Path(__file__).resolve().parents[2]
-DIET, BUDGET = ROOT / "examples/diet.osil", ROOT / "examples/capital_budget.osil"
+DIET, BUDGET, TRANSPORT = (ROOT / f"examples/{name}.osil" for name in ("diet", "capital_budget", "transport"))
 
 
 def bread_and_milk():
@@ -155,6 +155,17 @@ class Results(unittest.TestCase):
         result = Program().solve(model)
         self.assertEqual((result.values, result.objective), ((Fraction(1, 3), Fraction(1, 6)), Fraction(4, 3)))
         self.assertEqual((result.duals, result.reduced_costs), ((2,), (1, 0)))
+
+    def test_a_leaf_of_rows_says_what_the_whole_one_says(self):
+        left_out = 0
+        for given in (bread_and_milk(), DIET, TRANSPORT):
+            result = Program().solve(given)
+            pairs = result.tree[0].split(" ")[1:]
+            rows = [pair for pair in pairs if int(pair.partition(":")[0]) >= len(result.values)]
+            left_out += len(pairs) - len(rows)
+            alone = read_result(result.document.replace(result.tree[0], " ".join(["boundRows", *rows]))).of(given)
+            self.assertEqual((alone.check(), alone.duals, alone.reduced_costs), ("accepted optimal", result.duals, result.reduced_costs))
+        self.assertGreater(left_out, 0)
 
     def test_duals_are_slopes(self):
         """Of random programs, minimised and maximised: one thousandth more of a row's end changes the objective by so many thousandths of its dual."""

@@ -18,7 +18,8 @@ const STATUSES = {
   503: "the server is down", 504: "the server didn't answer in time",
 };
 const CAUSES = {
-  nodeLimit: "it began as many cases as were allowed", turnLimit: "it made as many turns as were allowed", wide: "a number passes 128 bits",
+  nodeLimit: "it began as many cases as were allowed", turnLimit: "it made as many turns as were allowed",
+  timeLimit: "it took as long as was allowed", wide: "a number passes 128 bits",
   length: "the document would be longer than 4,194,304 bytes", killed: "it was asked to stop", memory: "there was no memory",
 };
 
@@ -237,6 +238,9 @@ function resultOf(text) {
   };
 }
 
+// The words of leaves that name rows alone, and what they are once they have the multipliers of variables.
+const OF_ROWS = { farkasRows: "farkas", boundRows: "bound", gridRows: "grid" };
+
 // The trees of cases, one for each objective: their nodes in preorder, each with its parent and its children.
 function treesOf(items) {
   const trees = [];
@@ -249,8 +253,8 @@ function treesOf(items) {
       continue;
     }
     if (!nodes) trees.push(nodes = []);
-    const [kind, ...pieces] = item.split(" "), parent = open.pop() ?? null;
-    const node = { kind, pieces, parent, which: parent ? parent.children.length : 0, children: [], depth: parent ? parent.depth + 1 : 0, isFolded: true };
+    const [word, ...pieces] = item.split(" "), parent = open.pop() ?? null, isOfRows = Object.hasOwn(OF_ROWS, word), kind = isOfRows ? OF_ROWS[word] : word;
+    const node = { kind, isOfRows, pieces, parent, which: parent ? parent.children.length : 0, children: [], depth: parent ? parent.depth + 1 : 0, isFolded: true };
     parent?.children.push(node);
     nodes.push(node);
     if (kind === "split" || kind === "zero") open.push(node, node);
@@ -337,10 +341,23 @@ function askedView(instance) {
 
 // ---- what is shown of a result
 
-// The multipliers of a certificate that is one leaf, by columns; those of a grid say less than its rounding.
-function onlyLeaf(result) {
+// The multipliers of a certificate that is one leaf, by columns; those of a grid say less than its rounding. Where it names rows alone the
+// instance is wanted.
+function onlyLeaf(result, instance) {
   const leaf = result.trees.length === 1 && result.trees[0].length === 1 && !result.rounds.length ? result.trees[0][0] : null;
-  return new Map((leaf && leaf.kind !== "grid" ? pairsOf(leaf) : []));
+  return new Map((leaf && leaf.kind !== "grid" && (instance || !leaf.isOfRows) ? wholePairs(leaf, instance) : []));
+}
+
+// The multipliers of a leaf; of one that names rows alone with those of variables, which are what its rows leave of the costs.
+function wholePairs(node, instance) {
+  const pairs = pairsOf(node);
+  if (!node.isOfRows) return pairs;
+  const goal = instance.goals[0], left = instance.variables.map(() => ZERO);
+  if (node.kind !== "farkas") for (const [j, cost] of goal.factors) left[j] = goal.most ? ZERO.minus(cost) : cost;
+  for (const [column, multiplier] of pairs) {
+    for (const [j, factor] of instance.rows[column - left.length]?.factors ?? []) left[j] = left[j].minus(multiplier.times(factor));
+  }
+  return [...left.map((it, j) => [j, it]).filter(([, it]) => it.sign()), ...pairs];
 }
 
 function pairsOf(node) {
@@ -375,7 +392,7 @@ function valueFacts(result, instance) {
 }
 
 function variablesTable(result, instance) {
-  const leaf = onlyLeaf(result), { ray } = result;
+  const leaf = onlyLeaf(result, instance), { ray } = result;
   const head = ["variable", "value", "exactly", ...(ray ? ["direction", "exactly"] : []), ...(instance ? ["between"] : []), ...(leaf.size ? ["multiplier", "exactly"] : [])];
   const rows = result.point.map((value, j) => {
     const row = [instance?.variables[j].name ?? `x${j}`, value.shown(), exactly(value)];
@@ -389,7 +406,7 @@ function variablesTable(result, instance) {
 
 // The rows at the point: how far each is from its ends.
 function rowsTable(result, instance) {
-  const leaf = onlyLeaf(result), count = instance.variables.length;
+  const leaf = onlyLeaf(result, instance), count = instance.variables.length;
   const head = ["row", "value", "exactly", "between", "above its lower end", "exactly", "below its upper end", "exactly", ...(leaf.size ? ["multiplier", "exactly"] : [])];
   const rows = instance.rows.map((row, i) => {
     const value = activity(row.factors, result.point), lower = row.low && value.minus(row.low), upper = row.high && row.high.minus(value), multiplier = leaf.get(count + i);
@@ -540,7 +557,7 @@ class TreeView {
     const { instance } = this, pairs = pairsOf(node), count = instance ? instance.variables.length + instance.rows.length : 0;
     if (!instance || this.level || pairs.some(([column]) => column >= count)) return "no better point";
     let sum = ZERO;
-    for (const [column, factor] of pairs) {
+    for (const [column, factor] of wholePairs(node, instance)) {
       const end = this.endOf(node, column, factor.sign() > 0);
       if (!end) return "no better point";
       sum = sum.plus(factor.times(end));

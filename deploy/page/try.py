@@ -228,16 +228,23 @@ def tells_bounds(page):
         page.check(f"the facts of a bound, {claim}", dict(found), {"claim": f"{claim}: it was asked to stop (killed)", **wanted})
 
 
-def tells_of_grids(page):
-    """A leaf on a grid says its low sum rounded up: of the example in the rules for certificates 29/2, where a bound says 27/2."""
+def tells_of_leaves(page):
+    """A leaf on a grid says its low sum rounded up: of the example in the rules for certificates 29/2, where a bound says 27/2. One that names
+    rows alone says what they leave of the costs: once the row, with 3 and 2 left at variables of at least 0, is 13/2 and 1/2."""
     osil = (
         "<osil><instanceData><variables><var type='I'/><var type='I'/></variables><objectives><obj maxOrMin='min' constant='0.5'><coef idx='0'>6</coef><coef idx='1'>4</coef></obj></objectives>"
         "<constraints><con lb='6.5'/></constraints><linearConstraintCoefficients><start><el>0</el><el>2</el></start><colIdx><el>0</el><el>1</el></colIdx>"
         "<value><el>3</el><el>2</el></value></linearConstraintCoefficients></instanceData></osil>"
     )
-    for node, wanted in (("bound 2:2", "no better than 13.5"), ("grid 2 2:2", "no better than 14.5"), ("grid 0 2:2", "closed")):
+    for node, wanted in (
+        ("bound 2:2", "no better than 13.5"), ("grid 2 2:2", "no better than 14.5"), ("grid 0 2:2", "closed"), ("gridRows 2 2:2", "no better than 14.5"),
+        ("boundRows 2:1", "no better than 7"), ("boundRows", "no better than 0.5"), ("farkasRows 2:1", "no point: row 0 can't hold together"),
+    ):
         osrl = made_result("unsure", {"bound": "1", "tree": node})
         page.check(f"the leaf {node}", seen_of(page, "box.querySelector('svg.tree text').textContent", osrl, osil), wanted)
+    osrl = made_result("optimal", {"point": "1", "value": "1", "tree": "boundRows 2:1"}).replace("<item>1</item>", "<item>1</item><item>2</item>", 1)
+    multipliers = "[...box.querySelectorAll('table')].map(it => [...it.tBodies[0].rows].map(row => row.lastElementChild.textContent))"
+    page.check("the multipliers of a leaf of rows", seen_of(page, multipliers, osrl, osil)[:2], [["3", "2"], ["1"]])
 
 
 def shows_names_as_text(page):
@@ -411,7 +418,7 @@ def main():
     folder = Path(sys.argv[1] if len(sys.argv) > 1 else "out/page")
     folder.mkdir(parents=True, exist_ok=True)
     with Machines() as machines, Page(machines, folder) as page:
-        for tried in (sends_examples, shows_slacks, tells_bounds, tells_of_grids, shows_names_as_text, tells_refusals, stops_and_gives_up, is_used_by_keyboard, folds_trees):
+        for tried in (sends_examples, shows_slacks, tells_bounds, tells_of_leaves, shows_names_as_text, tells_refusals, stops_and_gives_up, is_used_by_keyboard, folds_trees):
             tried(page)
         for tried in (shows_long_results, meets_a_server_that_is_down, shows_many_jobs, is_guarded):
             tried(page, machines)

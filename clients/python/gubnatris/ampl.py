@@ -38,7 +38,7 @@ KEYS = {
     "fast": "only 0 is taken: each answer is computed in exact fractions",
 }
 ALIASES = {"timelim": "timelimit", "maxtime": "timelimit", "mipgap": "gap", "mip_gap": "gap", "threads": "threads"}
-LIMITED = ("nodeLimit", "turnLimit", "killed", "length")
+LIMITED = ("nodeLimit", "turnLimit", "timeLimit", "killed", "length")
 CODES = {"optimal": 0, "infeasible": 200, "unbounded": 300}
 LIMIT, FAILURE = 400, 500
 

@@ -122,6 +122,8 @@ class Result:
         leaf = self._leaf
         if leaf is None or self.source is None:
             return None
+        if self._is_of_rows:
+            return tuple(map(self._turned, self._left_by_rows(leaf, self.source)))
         count, own_rows = len(self._instance.variables), len(self._instance.rows)
         found = [leaf.get(j, Fraction(0)) for j in range(count)]
         for k, row in enumerate(self.source.end_rows):
@@ -190,6 +192,24 @@ class Result:
             return {int(column): Fraction(multiplier) for column, _, multiplier in pairs}
         except (ValueError, ZeroDivisionError) as failure:
             raise NoReply(f"no node of a tree: {nodes[0][:60]!r}", self.document.encode()) from failure
+
+    @property
+    def _is_of_rows(self) -> bool:
+        """Whether that leaf names rows alone, which decide the multipliers of variables."""
+        return bool(self.tree) and self.tree[0].split(" ")[0] == "boundRows"
+
+    @staticmethod
+    def _left_by_rows(leaf: dict[int, Fraction], source: Source) -> list[Fraction]:
+        """What the rows leave of each cost in the minimising form, rows and goal as they were sent."""
+        instance = source.instance
+        count, scales = len(instance.variables), source.row_scales or [1] * len(instance.rows)
+        size = (source.goal_scales or [1])[0] * (-1 if instance.maximise else 1)
+        left = [size * instance.costs.get(j, Fraction(0)) for j in range(count)]
+        for i, factors in enumerate(instance.factors):
+            multiplier = leaf.get(count + i, Fraction(0)) * scales[i]
+            for j, factor in factors.items():
+                left[j] -= multiplier * factor
+        return left
 
     def _turned(self, multiplier: Fraction) -> Fraction:
         """A multiplier of the minimising form, in the sense of the first goal and its own size."""

@@ -1,5 +1,5 @@
 -- What the rows leave of a wanted form at each variable, as it is made, and the sums of their ends.
-use Rattle.std.proofs.Common.{◌≡◌, ◌∙◌, ℕ, ◌+◌, ◌<◌, ◌≤◌, pos, Option, None, Some, IsSome, List, length, refl, sym, subst}
+use Rattle.std.proofs.Common.{◌≡◌, ◌∙◌, ℕ, ◌+◌, pos, Option, None, Some, IsSome, List, length, refl, sym, subst}
 use Rattle.std.specs.List.{All}
 use Rattle.rational.specs.Ratio.{Ratio, sum, product, negative, IsSame, IsNumber}
 use Rattle.rational.specs.Width.{SumFits}

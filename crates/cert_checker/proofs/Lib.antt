@@ -1,9 +1,11 @@
 pub mod Sizes
 pub mod Lists
 pub mod Widths
+pub mod PartedCases
 pub mod Entries
 pub mod Additions
 pub mod ColumnSums
+pub mod WholeRows
 pub mod Coefficients
 pub mod LowSums
 pub mod Multipliers

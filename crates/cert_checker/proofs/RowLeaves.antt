@@ -1,5 +1,5 @@
 -- Multipliers of rows, completed by those of variables: where they are legal, and what their ends add up to.
-use Rattle.std.proofs.Common.{◌≡◌, ◌↔◌, ◌⊎◌, ℕ, zero, suc, ◌+◌, ◌<◌, ◌≤◌, ℤ, pos, true, false, cond, Option, None, Some, IsSome, List, [], ◌∷◌, length, arith, refl, sym, ◌∙◌, ap, subst, add-one}
+use Rattle.std.proofs.Common.{◌≡◌, ℕ, zero, suc, ◌+◌, ◌<◌, ◌≤◌, ℤ, pos, true, false, cond, Option, None, Some, IsSome, List, [], ◌∷◌, length, arith, refl, sym, ◌∙◌, ap, subst, add-one}
 use Rattle.std.specs.List.{All}
 use Rattle.std.proofs.lemmas.Bool.{false≢true}
 use Rattle.std.proofs.lemmas.List.Elements.{All-head, All-tail, All-cons, All-nil}
@@ -10,7 +10,7 @@ use Rattle.evidence.specs.Sums.{none, total}
 use Rattle.evidence.specs.Instance.{Instance, IsInstance, width, height, column_at, minimising}
 use Rattle.evidence.specs.Cases.{Multiplier, multiplier_at, end_of, or_none, low_sum, left_at, is_zero, put_before, filled, completed, no_costs, goal_costs, AreLegal, AreOfRows, IsFarkas, IsBound, IsGrid}
 use Rattle.evidence.specs.Width.{TermFits, StatedFits, LowFits, RowsFit, StepsFit}
-use Rattle.evidence.proofs.Numbers.{◌≈◌, ≈-refl, ≈-from, ≈-sym, ◌⊙◌, ◌▹◌, sum-≈, product-≈, product-number, sum-number, product-none, sum-none}
+use Rattle.evidence.proofs.Numbers.{◌≈◌, ≈-refl, ≈-sym, ◌⊙◌, ◌▹◌, sum-≈, product-≈, product-number, sum-number, product-none, sum-none}
 use Rattle.evidence.proofs.Totals.{total-number, total-≈}
 use Rattle.evidence.proofs.Columns.{by_lt, by_bool, none-number, All-anywhere, column-numbers}
 use Rattle.evidence.proofs.UniqueRows.{end_by-number}

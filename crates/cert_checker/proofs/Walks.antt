@@ -7,10 +7,10 @@ use Rattle.fraction.specs.Frac.{ratio}
 use Rattle.fraction.specs.declared.frac.Frac.{Frac}
 use Rattle.evidence.specs.Sums.{none}
 use Rattle.evidence.specs.Instance.{Instance, minimising}
-use Rattle.evidence.specs.Cases.{Multiplier, Node, ClashAt, FarkasBy, BoundBy, GridBy, SplitAt, ZeroAt, IsBranch, IsZeroBranch, IsFarkas, IsBound, at_most, at_least, at_zero, unless_zero}
+use Rattle.evidence.specs.Cases.{Multiplier, Node, ClashAt, FarkasBy, BoundBy, GridBy, SplitAt, ZeroAt, IsSplit, IsZeroBranch, IsFarkas, IsBound, low_case, high_case, at_zero, unless_zero}
 use Rattle.evidence.specs.Width.{LeafFits}
 use Rattle.evidence.specs.PendingNodes.{ShowsAll}
-use Rattle.evidence.proofs.PendingNodes.{clash_step, farkas_step, bound_step, grid_step, split_step, zero_step}
+use Rattle.evidence.proofs.PendingNodes.{clash_step, farkas_step, bound_step, grid_step, any_split_step, zero_step}
 use Rattle.certificate.specs.Meanings as Means
 use Rattle.certificate.specs.declared.lists.Mult.{Mult}
 use Rattle.certificate.specs.declared.nodes.Node as Has
@@ -19,7 +19,7 @@ use Rattle.cert_checker.specs.declared.refused.Unshown.{Unshown}
 use Rattle.case_tree.specs.declared.cuts.Cut.{Cut}
 use Rattle.case_tree.specs.declared.path.Branch.{Branch}
 use Rattle.cert_checker.specs.declared.refused.Unshown.TheVariants.{Tree as Missing}
-use Rattle.case_tree.specs.Cuts.{cases}
+use Rattle.cert_checker.specs.Columns.{open_cases}
 use Rattle.cert_checker.specs.Cuts.{aim}
 use Rattle.cert_checker.specs.Leaves.{LeafHolds, LeafRefuses, ClashHolds}
 use Rattle.cert_checker.specs.Grids.{GridLeafHolds, GridLeafRefuses}
@@ -65,9 +65,9 @@ module _ (I : Instance) (js after : List Instance) (n : ℕ) (z : Option Ratio) 
     refused = λ r q. inr (h, subst (λ l. TreeRefuses l rest z (n + 1) r) e q);
   }
 
-  pub split_leads : (j : ℕ) (k : ℤ) → IsBranch I j k → after ≡ at_most I j k ∷ at_least I j (k +ℤ pos 1) ∷ js → LeadsThrough (I ∷ js) (SplitAt j k ∷ rest) n after rest (n + 1) z
+  pub split_leads : (j : ℕ) (k : ℤ) → IsSplit I j k → after ≡ low_case I j k ∷ high_case I j (k +ℤ pos 1) ∷ js → LeadsThrough (I ∷ js) (SplitAt j k ∷ rest) n after rest (n + 1) z
   split_leads j k b e = record {
-    shown = λ s. (split_step I js j k rest z).1 (b, subst (λ l. ShowsAll l rest z) e s);
+    shown = λ s. (any_split_step I js j k rest z).1 (b, subst (λ l. ShowsAll l rest z) e s);
     refused = λ r q. inr (b, subst (λ l. TreeRefuses l rest z (n + 1) r) e q);
   }
 
@@ -144,10 +144,10 @@ drop_node ns i x h is =
     drop-cons (Means.nodes ns) i d (omega arith) ∙ ap₂ (λ y l. y ∷ l) (get_or-map Means.node ns i x d h ∙ sym (ap Means.node is)) (ap (λ k. drop k (Means.nodes ns)) (sym (add-one i)))
 
 -- the leads so far, with the node at hand first
-pub leads_here : (Is : List Instance) (ns : List Has.Node) (I : Instance) (vs : List Cut) (bs : List Branch) (o : Option ℕ) (d i : ℕ) (z : Option Ratio) (x : Has.Node) → o ≡ Some d → i < length ns → x ≡ slice_index_or ns i x → LeadsThrough Is (Means.nodes ns) 1 (cases I vs bs o) (drop i (Means.nodes ns)) (i + 1) z → LeadsThrough Is (Means.nodes ns) 1 (cases I vs bs (Some d)) (Means.node x ∷ drop (i + 1) (Means.nodes ns)) (i + 1) z
-leads_here Is ns I vs bs o d i z x e h is f =
-    subst (λ l. LeadsThrough Is (Means.nodes ns) 1 (cases I vs bs (Some d)) l (i + 1) z) (drop_node ns i x h is)
-    (subst (λ o. LeadsThrough Is (Means.nodes ns) 1 (cases I vs bs o) (drop i (Means.nodes ns)) (i + 1) z) e f)
+pub leads_here : (m : ℕ) (Is : List Instance) (ns : List Has.Node) (I : Instance) (vs : List Cut) (bs : List Branch) (o : Option ℕ) (d i : ℕ) (z : Option Ratio) (x : Has.Node) → o ≡ Some d → i < length ns → x ≡ slice_index_or ns i x → LeadsThrough Is (Means.nodes ns) 1 (open_cases m I vs bs o) (drop i (Means.nodes ns)) (i + 1) z → LeadsThrough Is (Means.nodes ns) 1 (open_cases m I vs bs (Some d)) (Means.node x ∷ drop (i + 1) (Means.nodes ns)) (i + 1) z
+leads_here m Is ns I vs bs o d i z x e h is f =
+    subst (λ l. LeadsThrough Is (Means.nodes ns) 1 (open_cases m I vs bs (Some d)) l (i + 1) z) (drop_node ns i x h is)
+    (subst (λ o. LeadsThrough Is (Means.nodes ns) 1 (open_cases m I vs bs o) (drop i (Means.nodes ns)) (i + 1) z) e f)
 
 pub leads_first : (Is : List Instance) (ns : List Node) (z : Option Ratio) → LeadsThrough Is ns 1 Is (drop 0 ns) (0 + 1) z
 leads_first Is ns z = record { shown = λ s. s; refused = λ r q. q }

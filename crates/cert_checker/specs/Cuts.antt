@@ -14,15 +14,17 @@ abbrev pub aim : Option Frac → Option Ratio
 aim None = None
 aim (Some z) = Some (ratio z)
 
--- how many variables, nodes of a tree, and added rows there is room for
+-- how many variables, columns, nodes of a tree, and added rows there is room for
 pub record Room : Type 0 where
   pub vars : ℕ
+  pub columns : ℕ
   pub nodes : ℕ
   pub rows : ℕ
 
--- there is room for a check: a tree has no more nodes, a certificate no more rounds, and there are no more goals after the first
+-- there is room for a check: the columns are the variables, the rows, and those that are added; a tree has no more nodes, a certificate no more rounds, and there are no more goals after the first
 pub record HasRoom (p : Parts) (c : Claim) (r : Room) : Type 0 where
   pub vars : length p.vars ≤ r.vars
+  pub columns : length p.vars + (length p.rows + r.rows) ≤ r.columns
   pub nodes : All (λ (cert : Cert). length cert.nodes ≤ r.nodes) (certs_of c)
   pub rounds : All (λ (cert : Cert). length cert.rounds ≤ r.rows) (certs_of c)
   pub goals : length p.goals ≤ r.rows + 1

@@ -14,6 +14,7 @@ pub mod RoundRefusals
 pub mod LevelRefusals
 pub mod Refusals
 pub mod Cuts
+pub mod Columns
 pub mod Slots
 pub mod Programs
 pub mod Reached

@@ -2,7 +2,7 @@
 use Rattle.std.specs.Prelude.{◌≡◌, ℕ, ◌+◌, ◌⊎◌, pos, ◌+ℤ◌, Option, None, Some, List, [], ◌∷◌}
 use Rattle.rational.specs.Ratio.{Ratio}
 use Rattle.evidence.specs.Instance.{Instance}
-use Rattle.evidence.specs.Cases.{Node, ClashAt, FarkasBy, BoundBy, GridBy, FarkasByRows, BoundByRows, GridByRows, SplitAt, ZeroAt, IsBranch, IsZeroBranch, at_most, at_least, at_zero, unless_zero}
+use Rattle.evidence.specs.Cases.{Node, ClashAt, FarkasBy, BoundBy, GridBy, FarkasByRows, BoundByRows, GridByRows, SplitAt, ZeroAt, IsSplit, IsZeroBranch, low_case, high_case, at_zero, unless_zero}
 use Rattle.evidence.specs.PendingNodes.{ShowsAll}
 use Rattle.cert_checker.specs.declared.refused.Unshown.{Unshown}
 use Rattle.cert_checker.specs.declared.refused.Unshown.TheVariants.{Tree}
@@ -24,8 +24,8 @@ TreeRefuses (I ∷ cases) (GridBy g ms ∷ nodes) z number r = GridLeafRefuses I
 TreeRefuses (I ∷ cases) (FarkasByRows ms ∷ nodes) z number r = RowLeafRefuses I ms None number r ⊎ (RowLeafHolds I ms None × TreeRefuses cases nodes z (number + 1) r)
 TreeRefuses (I ∷ cases) (BoundByRows ms ∷ nodes) z number r = BoundRowsRefuse I ms z number r ⊎ (BoundRowsHold I ms z × TreeRefuses cases nodes z (number + 1) r)
 TreeRefuses (I ∷ cases) (GridByRows g ms ∷ nodes) z number r = GridRowLeafRefuses I g ms z number r ⊎ (GridRowLeafHolds I g ms z × TreeRefuses cases nodes z (number + 1) r)
-TreeRefuses (I ∷ cases) (SplitAt j k ∷ nodes) z number r =
-    ((IsBranch I j k → ⊥) × (r ≡ Tree number)) ⊎ (IsBranch I j k × TreeRefuses (at_most I j k ∷ at_least I j (k +ℤ pos 1) ∷ cases) nodes z (number + 1) r)
+TreeRefuses (I ∷ cases) (SplitAt c k ∷ nodes) z number r =
+    ((IsSplit I c k → ⊥) × (r ≡ Tree number)) ⊎ (IsSplit I c k × TreeRefuses (low_case I c k ∷ high_case I c (k +ℤ pos 1) ∷ cases) nodes z (number + 1) r)
 TreeRefuses (I ∷ cases) (ZeroAt j ∷ nodes) z number r =
     ((IsZeroBranch I j → ⊥) × (r ≡ Tree number)) ⊎ (IsZeroBranch I j × TreeRefuses (at_zero I j ∷ unless_zero I j ∷ cases) nodes z (number + 1) r)
 

@@ -1,17 +1,21 @@
 //! The program at hand: an instance's, with rows added, asked for one of its goals.
-ghost use Rattle.std.specs.Prelude.{◌≡◌, ◌<◌, ◌≤◌, ◌^◌, ℕ, length, map, slice_index_or, IfOk, OnErr};
+ghost use Rattle.std.specs.Prelude.{◌≡◌, ◌↔◌, ◌<◌, ◌≤◌, ◌^◌, ℕ, length, map, slice_index_or, IsTrue, IfOk, OnErr};
 ghost use Rattle.rational.specs.Ratio.{IsSame};
 ghost use Rattle.fraction.specs.Frac.{ratio, ratios};
 ghost use Rattle.evidence.specs.Instance as Of;
 ghost use Rattle.evidence.specs.Point.{value_at, activity};
+ghost use Rattle.evidence.specs.Cases.{IsWholeRow};
 ghost use Rattle.evidence.specs.Width.{RowFits};
 ghost use Rattle.instance.specs.Program.{row, variable};
 ghost use Rattle.cert_checker.specs.declared.at_hand.Added as rows;
+ghost use Rattle.case_tree.specs.Cuts.{cut};
 ghost use Rattle.cert_checker.specs.Programs.{at_hand};
+ghost use Rattle.cert_checker.specs.Columns.{ends};
 ghost use Rattle.cert_checker.specs.Slots.{slot_at, IsStep};
 
 use crate::slots::{add_entries, add_numbers, number_at, sum_numbers};
-use case_tree::turned;
+use crate::whole_rows::{are_whole_entries, are_whole_numbers};
+use case_tree::{Cut, turned};
 use fraction::{Frac, Wide};
 use instance::{Goal, Instance, Row, Var};
 use std::marker::Model;
@@ -23,12 +27,24 @@ pub struct Added {
     pub coefficients: Vec<Frac>,
 }
 
-/// An instance's program with rows added, asked for one goal. Contracts see it as the program that it is.
+/// An instance's program with rows added, the first rows with the ends that a case gives them, asked for one goal. Contracts see it
+/// as the program that it is.
 #[derive(Drop)]
-pub(crate) struct Program<'p> {
+pub(crate) struct Program<'p, 'c> {
     instance: &'p Instance,
     added: &'p [Added],
     goal: &'p Goal,
+    cut: &'c [Cut],
+}
+
+/// The ends that a column has at hand.
+fn ends_of(cut: &Cut) -> Row
+    ensures { row result ≡ ends cut.now }
+{
+    Row {
+        lb: cut.lb,
+        ub: cut.ub,
+    }
 }
 
 /// The added row at a place.
@@ -39,24 +55,40 @@ fn added_at(added: &[Added], k: usize) -> &Added
     &added[k]
 }
 
-impl<'p> Model for Program<'p> {
+impl<'p, 'c> Model for Program<'p, 'c> {
     ghost use Rattle.evidence.specs.Instance as Of;
     ghost use Rattle.cert_checker.specs.Programs.{at_hand};
+    ghost use Rattle.cert_checker.specs.Columns.{with_ends};
 
     ghost Value = { Of.Instance };
 
-    ghost view = { λ p. at_hand p.instance.now p.added.now p.goal.now };
+    ghost view = { λ p. with_ends (at_hand p.instance.now p.added.now p.goal.now) p.cut.now };
 }
 
-impl<'p> Program<'p> {
+impl<'p, 'c> Program<'p, 'c> {
     /// The instance's program with these rows, asked for this goal.
-    pub(crate) fn of(instance: &'p Instance, added: &'p [Added], goal: &'p Goal) -> Program<'p>
+    pub(crate) fn of(instance: &'p Instance, added: &'p [Added], goal: &'p Goal) -> Program<'p, 'c>
         ensures { result ≡ at_hand instance.now added.now goal.now }
     {
         Program {
             instance,
             added,
             goal,
+            cut: &[],
+        }
+    }
+
+    /// The same program, whose rows have these ends.
+    pub(crate) fn over<'q>(&self, cut: &'q [Cut]) -> Program<'p, 'q>
+        requires { length cut.now ≡ Of.height self.now }
+        ensures value { result ≡ record self.now { rows = map ends cut.now } }
+        ensures numbers { Of.IsInstance result }
+    {
+        Program {
+            instance: self.instance,
+            added: self.added,
+            goal: self.goal,
+            cut,
         }
     }
 
@@ -82,6 +114,9 @@ impl<'p> Program<'p> {
         requires { i < Of.height self.now }
         ensures { row result ≡ Of.row_at self.now i }
     {
+        if i < self.cut.len() {
+            return ends_of(&self.cut[i]);
+        }
         let rows = self.instance.rows();
         if i < rows.len() {
             rows[i]
@@ -103,6 +138,22 @@ impl<'p> Program<'p> {
         } else {
             let added = added_at(self.added, i - rows);
             add_numbers(slots, added.coefficients.as_slice(), by);
+        }
+    }
+
+    /// Whether a row's sum is whole where the whole variables are: its coefficients are whole at these, and 0 at the others.
+    pub(crate) fn is_whole_row(&self, cuts: &[Cut], i: usize) -> bool
+        requires count { length cuts.now ≡ Of.width self.now }
+        requires inside { i < Of.height self.now }
+        ensures { IsTrue result ↔ IsWholeRow (cut self.now cuts.now) i }
+    {
+        let rows = self.instance.rows().len();
+        if i < rows {
+            let row = i as u32;
+            are_whole_entries(cuts, self.instance.row_entries(row), row)
+        } else {
+            let added = added_at(self.added, i - rows);
+            are_whole_numbers(cuts, added.coefficients.as_slice())
         }
     }
 

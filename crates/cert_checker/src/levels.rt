@@ -46,8 +46,8 @@ pub(crate) fn check_at(
     branches: &mut [Branch],
 ) -> Result<(), Refused>
     requires level { level < length instance.now.goals }
-    requires count { length cuts.old ≡ length instance.now.vars }
-    requires slots { length slots.old ≡ length cuts.old }
+    requires columns { length instance.now.vars + (length instance.now.rows + length added.now) ≤ length cuts.old }
+    requires slots { length slots.old ≡ length instance.now.vars }
     requires room { length nodes.now ≤ length branches.old }
     requires few { length branches.old < 2 ^ 32 - 1 }
     requires range { All IsInRange nodes.now }
@@ -57,6 +57,8 @@ pub(crate) fn check_at(
     let goals = instance.goals();
     let program = Program::of(instance, added, &goals[level]);
     let aim = aim_of(&program, value);
+    let columns = slots.len() + program.height();
+    let cuts = &mut cuts[..columns];
     match check_tree(&program, nodes, aim, cuts, slots, branches) {
         Ok(()) => Ok(()),
         Err(why) => Err(Refused::Level {
@@ -110,14 +112,14 @@ pub(crate) fn climb(
     requires few_levels { count ≤ 8 }
     requires certs { count ≤ length certs.now }
     requires values { length values.now ≡ length instance.now.goals }
-    requires cuts { length cuts.old ≡ length instance.now.vars }
-    requires slots { length slots.old ≡ length cuts.old }
+    requires columns { length instance.now.vars + (length instance.now.rows + length added.old) ≤ length cuts.old }
+    requires slots { length slots.old ≡ length instance.now.vars }
     requires rows { count ≤ length added.old }
     requires few { length branches.old < 2 ^ 32 - 1 }
     requires nodes { All (λ (c : Has.Cert). length c.nodes ≤ length branches.old) certs.now }
     requires range { All (λ (c : Has.Cert). All IsInRange c.nodes) certs.now }
     requires alone { All (λ (c : Has.Cert). c.rounds ≡ []) certs.now }
-    requires wide { AreWide (length cuts.old) added.old }
+    requires wide { AreWide (length slots.old) added.old }
     ensures wide { (n : ℕ) → AreWide n added.old → AreWide n added.new }
     ensures ok { (end : Ending) → OnOk result (LeadsUp end (program instance.now) (drop 1 (goals instance.now.goals)) (ratios values.now) (Means.certificates certs.now) 1 (at_level instance.now (take count added.new) count) (drop (count + 1) (goals instance.now.goals)) (drop count (ratios values.now)) (drop count (Means.certificates certs.now)) (count + 1)) }
     ensures err { (end : Ending) → IfErr result (LevelsRefuse end (program instance.now) (drop 1 (goals instance.now.goals)) (ratios values.now) (Means.certificates certs.now) 1) }

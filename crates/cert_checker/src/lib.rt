@@ -9,7 +9,8 @@
 //! A round and a goal that is reached are each one more row of the program at hand, which has the
 //! instance's rows and then those that were added; all else goes over its rows, whichever they are. [`Added`] is such a row and
 //! [`put`] makes one; [`round_sum`] and [`ceiling`] give its lower end to whoever derives rounds. The tree is walked
-//! in a loop: the cuts of the case at hand are kept beside what they replaced, and undone on the way back. Both stand in
+//! in a loop: the cuts of the case at hand are kept beside what they replaced, and undone on the way back. The walk has one list of
+//! columns, the rows behind the variables, and cuts either in one way; a row may be split where its sum is whole. All of it stands in
 //! room that [`Scratch`] has from before. A leaf costs time in proportion to the variables and to the coefficients of
 //! the rows that its multipliers name. `check` takes no memory.
 //!
@@ -38,6 +39,7 @@ mod scratch;
 mod slots;
 mod sums;
 mod walk;
+mod whole_rows;
 
 pub use added::put;
 pub use at_hand::Added;

@@ -14,6 +14,7 @@ ghost use Rattle.certificate.specs.Meanings as Means;
 ghost use Rattle.case_tree.specs.Cuts.{cut};
 ghost use Rattle.cert_checker.specs.Programs.{with_rows, AreUncut, AreWide, GivesRow, MakesRound, MayRound};
 ghost use Rattle.cert_checker.specs.RoundRefusals.{WholeFormsBelow, IsFirstPart, IsFirstUnfitPart, PartRefuses, IsWideRound, RoundRefuses, AnyRoundRefuses, RoundsRefuse, IsAfterRounds};
+ghost use Rattle.cert_checker.specs.Columns.{MayStand};
 ghost use Rattle.cert_checker.specs.Slots.{slot_at, HoldsSum};
 
 use crate::added::put;
@@ -37,8 +38,8 @@ pub fn ceiling(x: Frac) -> i128
 }
 
 /// Whether a sum is as a round's must be at a variable: a whole number, and 0 where the variable isn't whole.
-fn may_round(cut: &Cut, sum: Frac) -> bool
-    ensures { IsTrue result ↔ (IsWhole (ratio sum) × ((IsTrue cut.now.var.whole → ⊥) → IsSame (ratio sum) none)) }
+pub(crate) fn may_round(cut: &Cut, sum: Frac) -> bool
+    ensures { IsTrue result ↔ MayStand cut.now (ratio sum) }
 {
     sum.is_whole() && (cut.var.whole || sum.numer == 0)
 }

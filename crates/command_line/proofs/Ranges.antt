@@ -1,6 +1,6 @@
 -- The numbers of a command are within their ends.
 use Rattle.std.proofs.Common.{◌≡◌, ◌≤◌, ℕ, Bool, true, false, cond, List, [], ◌∷◌, Option, Some, None, refl, subst, arith}
-use Rattle.std.specs.Prelude.{codes, is_some, option_and_then, option_map}
+use Rattle.std.specs.Prelude.{IfSome, codes, is_some, option_and_then, option_map}
 use Rattle.std.specs.Str.{bytes_eq}
 use Rattle.std.specs.Str.Parse.{digits_value, without_leading_plus}
 use Rattle.std.proofs.lemmas.Option.{none-some, same_Some}
@@ -14,7 +14,7 @@ use Rattle.effects.specs.Limits.{most_first}
 use Rattle.six_calls.specs.Names.{kind_named}
 use Rattle.command_line.specs.Forms.{program_form}
 use Rattle.command_line.specs.Numbers.{number_between, number_or}
-use Rattle.command_line.specs.Words.{Command, Said, Check, Solve, Generate, Call, Compact, Serve, AreNumbersWithin, asked_by, asked_with, asks, called_command, check_of, compact_of, found_in, generate_of, port_of, serve_of, session_of, solve_of}
+use Rattle.command_line.specs.Words.{Command, Said, Check, Solve, Generate, Call, Compact, Serve, AreNumbersWithin, asked_by, asked_with, asks, called_command, check_of, compact_of, found_in, generate_of, most_seconds, port_of, seconds_of, serve_of, session_of, solve_of}
 
 number_within : (least most : ℕ) (word : Text) (n : ℕ) → number_between least most word ≡ Some n → (least ≤ n) × (n ≤ most)
 number_within least most word n is = go (is_unsigned_in least most word) refl is
@@ -40,9 +40,19 @@ module _ (said : Said) (it : Command) where
   compact_within (Some old) None is = absurd (none-some it is)
   compact_within (Some old) (Some new) is = subst AreNumbersWithin (same_Some (Compact old new) it is) tt
 
-  solve_within : (osil options : Option Text) (safe : Bool) → option_map (λ (a : Text). Solve a options safe) osil ≡ Some it → AreNumbersWithin it
-  solve_within None options safe is = absurd (none-some it is)
-  solve_within (Some osil) options safe is = subst AreNumbersWithin (same_Some (Solve osil options safe) it is) tt
+  seconds_within : (word : Option Text) (seconds : Option ℕ) → seconds_of word ≡ Some seconds → IfSome seconds (λ n. n ≤ most_seconds)
+  seconds_within None seconds is = subst (λ (s : Option ℕ). IfSome s (λ n. n ≤ most_seconds)) (same_Some None seconds is) tt
+  seconds_within (Some word) seconds is = by (number_between 0 most_seconds word) refl is
+    where
+      by : (read : Option ℕ) → number_between 0 most_seconds word ≡ read → option_map Some read ≡ Some seconds → IfSome seconds (λ n. n ≤ most_seconds)
+      by None read is = absurd (none-some seconds is)
+      by (Some n) read is = subst (λ (s : Option ℕ). IfSome s (λ m. m ≤ most_seconds)) (same_Some (Some n) seconds is) (number_within 0 most_seconds word n read).1
+
+  solve_within : (osil options : Option Text) (seconds : Option (Option ℕ)) (safe : Bool) → seconds_of (said (codes "seconds")) ≡ seconds
+      → option_and_then (λ (a : Text). option_map (λ (s : Option ℕ). Solve a options s safe) seconds) osil ≡ Some it → AreNumbersWithin it
+  solve_within None options seconds safe read is = absurd (none-some it is)
+  solve_within (Some osil) options None safe read is = absurd (none-some it is)
+  solve_within (Some osil) options (Some seconds) safe read is = subst AreNumbersWithin (same_Some (Solve osil options seconds safe) it is) (seconds_within (said (codes "seconds")) seconds read)
 
   -- a number that a word is, if one is there
   read_within : (least most : ℕ) (word : Option Text) (n : ℕ) → option_and_then (number_between least most) word ≡ Some n → (least ≤ n) × (n ≤ most)
@@ -88,7 +98,7 @@ module _ (said : Said) (it : Command) where
       → AreNumbersWithin it
   by_name true check solve generate call compact serve is = subst AreNumbersWithin (same_Some (session_of said) it is) tt
   by_name false true solve generate call compact serve is = check_within (said (codes "osil")) (said (codes "osrl")) is
-  by_name false false true generate call compact serve is = solve_within (said (codes "osil")) (said (codes "options")) (is_some (said (codes "safe"))) is
+  by_name false false true generate call compact serve is = solve_within (said (codes "osil")) (said (codes "options")) (seconds_of (said (codes "seconds"))) (is_some (said (codes "safe"))) refl is
   by_name false false false true call compact serve is = generate_within (option_and_then (number_between 1 1000) (said (codes "variables"))) refl is
   by_name false false false false true compact serve is = call_within (option_and_then kind_named (said (codes "name"))) (said (codes "host")) (port_of said) refl is
   by_name false false false false false true serve is = compact_within (said (codes "old")) (said (codes "new")) is

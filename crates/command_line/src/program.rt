@@ -76,7 +76,14 @@ pub(crate) fn program<'a>(alloc: Global) -> Result<Command<'a>, Memory>
     let program = Command::new(alloc, "os_app").subcommand_required(true);
     let program = with_command(program, alloc, "session", &[], &["journal"], &[])?;
     let program = with_command(program, alloc, "check", &["osil", "osrl"], &[], &[])?;
-    let program = with_command(program, alloc, "solve", &["osil"], &["options"], &["safe"])?;
+    let program = with_command(
+        program,
+        alloc,
+        "solve",
+        &["osil"],
+        &["options", "seconds"],
+        &["safe"],
+    )?;
     let program = with_command(program, alloc, "generate", &["variables"], &[], &[])?;
     let program = with_command(
         program,

@@ -15,6 +15,9 @@ use os_io::{Failed, Memory, Sink, send_all};
 use six_calls::CallKind;
 use std::alloc::{AllocError, Global};
 
+/// The most seconds that `solve` may be given.
+const MOST_SECONDS: u64 = 9_223_372_036_854_775_807;
+
 /// How the program is started.
 const USAGE: &[u8] = b"usage: os_app session | solve | check | serve | call | compact | generate\n";
 
@@ -56,11 +59,12 @@ pub enum Asked<'w> {
         osil: &'w str,
         osrl: &'w str,
     },
-    /// To solve the instance in a file, with the options in another one, if it is named; with the safe limit of turns in
-    /// place of theirs, if that is asked for and there is one.
+    /// To solve the instance in a file, with the options in another one, if it is named; within so many seconds, up to 2^63 - 1, in
+    /// place of their time, if that is asked for; with the safe limit of turns in place of theirs, if that is asked for and there is one.
     Solve {
         osil: &'w str,
         options: Option<&'w str>,
+        seconds: Option<u64>,
         safe: bool,
     },
     /// To make, to solve and to check the instance of 1 to 1,000 variables.
@@ -137,16 +141,31 @@ fn compact_of<'w>(matches: &ArgMatches<'w>) -> Option<Asked<'w>>
     Some(Asked::Compact { old, new })
 }
 
-/// The files that `solve`'s words name, and whether the safe limit of turns is asked for.
+/// The seconds that a word says, if there is one.
+fn seconds_of(word: Option<&str>) -> Option<Option<u64>>
+    ensures { result ≡ says.seconds_of (option_map (λ w. w.now) word.entry) }
+{
+    let Some(word) = word else {
+        return Some(None);
+    };
+    match number_in(word, 0, MOST_SECONDS) {
+        Some(seconds) => Some(Some(seconds)),
+        None => None,
+    }
+}
+
+/// The files that `solve`'s words name, the time, if one is asked for, and whether the safe limit of turns is.
 fn solve_of<'w>(matches: &ArgMatches<'w>) -> Option<Asked<'w>>
     ensures { option_map says.meant result ≡ says.solve_of (first_value (found_of matches.now)) }
 {
     let osil = matches.get_str("osil")?;
     let options = matches.get_str("options");
     let safe = matches.get_str("safe").is_some();
+    let seconds = seconds_of(matches.get_str("seconds"))?;
     Some(Asked::Solve {
         osil,
         options,
+        seconds,
         safe,
     })
 }

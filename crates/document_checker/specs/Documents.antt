@@ -94,3 +94,22 @@ pub record CheckRefuses (osil : List ℕ) (osrl : List ℕ) (f : CheckFault) : T
 -- why two documents aren't accepted: of the reasons the first in this order, or there was no memory to find it
 abbrev pub DocsRefuse : List ℕ → List ℕ → CheckFault → Type 0
 DocsRefuse osil osrl f = NoInstance osil f ⊎ ResultRefuses osil osrl f ⊎ CheckRefuses osil osrl f ⊎ (f ≡ faults.Memory)
+
+-- the document is one of a report with this claim, which says something that is accepted of the instance
+pub record IsShownIn (p : Parts) (osrl : List ℕ) (c : Claim) : Type 0 where
+  pub report : Report
+  pub report_text : IsReportText osrl report
+  pub stands : report.claim ≡ Some c
+  pub what : Kind
+  pub says : kind c ≡ Some what
+  pub accepted : Accepts (problem p) (Means.claim c)
+
+-- the document is read, and what it claims is refused of the instance, or it claims nothing
+pub record IsRefusedIn (p : Parts) (osrl : List ℕ) (f : CheckFault) : Type 0 where
+  pub report : Report
+  pub report_text : IsReportText osrl report
+  pub refuses : ReportRefuses p report f
+
+-- why the document has no such claim: of the reasons the first in this order, or there was no memory to find it
+abbrev pub IsUnshownIn : Parts → List ℕ → CheckFault → Type 0
+IsUnshownIn p osrl f = NoReport osrl f ⊎ IsRefusedIn p osrl f ⊎ (f ≡ faults.Memory)

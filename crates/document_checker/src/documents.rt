@@ -10,7 +10,7 @@ ghost use Rattle.certificate.specs.declared.claims.Claim as carried;
 ghost use Rattle.osil_grammar.specs.Reading.{IsInstanceText};
 ghost use Rattle.osrl_grammar.specs.Reading.{IsReportText};
 ghost use Rattle.document_checker.specs.declared.fault.CheckFault.TheVariants.{Memory};
-ghost use Rattle.document_checker.specs.Documents.{kind, number_of, ClaimRefuses, ReportRefuses, NoInstance, NoReport, IsAcceptedText, DocsRefuse, ReportAccepts};
+ghost use Rattle.document_checker.specs.Documents.{kind, number_of, ClaimRefuses, ReportRefuses, NoInstance, NoReport, IsAcceptedText, DocsRefuse, ReportAccepts, IsShownIn, IsUnshownIn};
 
 use crate::fault::CheckFault;
 use cert_checker::{Refused, Scratch, check};
@@ -117,6 +117,21 @@ fn read_report(alloc: Global, osrl: &[u8]) -> Result<Report, CheckFault>
         Ok(report) => Ok(report),
         Err(OsrlFault::Memory) => Err(CheckFault::Memory),
         Err(fault) => Err(CheckFault::Result(fault)),
+    }
+}
+
+/// The claim that a result document makes of an instance, where what it carries shows it. Else the first of the reasons why
+/// not: the document is refused; it claims nothing; or [`cert_checker::check`] refuses its claim.
+pub fn shown_claim(alloc: Global, instance: &Instance, osrl: &[u8]) -> Result<Claim, CheckFault>
+    ensures ok { IfOk result (IsShownIn instance.now osrl.now) }
+    ensures err { IfErr result (IsUnshownIn instance.now osrl.now) }
+{
+    let mut report = read_report(alloc, osrl)?;
+    read_claims_fit();
+    check_report(alloc, instance, &report)?;
+    match report.claim.take() {
+        Some(claim) => Ok(claim),
+        None => Err(CheckFault::Claim(Refused::NoClaim)),
     }
 }
 

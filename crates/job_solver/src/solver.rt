@@ -7,6 +7,7 @@ use os_io::Watch;
 use os_server::Server;
 use solve_run::run_job;
 use std::alloc::Global;
+use std::time::Clock;
 
 /// Jobs whose documents answer their texts as `solve_run` says.
 pub struct SolvedJobs;
@@ -17,10 +18,20 @@ impl Verdicts for SolvedJobs {
     ghost right = { Right };
 }
 
-/// Runs jobs by `solve_run`, and wakes nobody: whoever serves is alone.
-pub struct Solver;
+/// Runs jobs by `solve_run`, for as long as their options say by this clock, and wakes nobody: whoever serves is alone.
+#[derive(Clone, Copy)]
+pub struct Solver<'c, T: Clock> {
+    clock: &'c T,
+}
 
-impl Runner<SolvedJobs> for Solver {
+impl<'c, T: Clock> Solver<'c, T> {
+    /// One with this clock.
+    pub fn new(clock: &'c T) -> Solver<'c, T> {
+        Solver { clock }
+    }
+}
+
+impl<'c, T: Clock> Runner<SolvedJobs> for Solver<'c, T> {
     ghost use Rattle.job_solver.specs.Runs.{MakesDocument};
 
     ghost ran = { MakesDocument };
@@ -32,7 +43,7 @@ impl Runner<SolvedJobs> for Solver {
         osol: &[u8],
         watch: &mut W,
     ) -> Option<SharedText> {
-        match run_job(alloc, osil, osol, watch) {
+        match run_job(alloc, osil, osol, self.clock, watch) {
             Ok(text) => match SharedText::new(alloc, text) {
                 Ok(document) => Some(document),
                 Err(_) => None,
@@ -42,7 +53,7 @@ impl Runner<SolvedJobs> for Solver {
     }
 }
 
-impl Server<SolvedJobs> for Solver {
+impl<'c, T: Clock> Server<SolvedJobs> for Solver<'c, T> {
     ghost use Rattle.job_solver.specs.Runs.{WakesNobody};
 
     ghost wakes = { WakesNobody };

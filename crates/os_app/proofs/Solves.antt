@@ -10,12 +10,12 @@ use Rattle.osrl_writing.specs.declared.report.Report.{Report}
 use Rattle.osrl_writing.specs.Labels.{no_names}
 use Rattle.instance_names.specs.Reading.{GivesNames}
 use Rattle.solve_run.specs.declared.document.Document.{Document}
-use Rattle.solve_run.specs.JobAnswers.{AreJobTexts, IsBestOfSearch, AnswersJob, AskForNames, TellsReport, no_options, no_instance, solved, gave_up}
+use Rattle.solve_run.specs.JobAnswers.{AreJobTexts, IsBestOfSearch, IsNoteOfJob, AnswersJob, AskForNames, TellsReport, no_options, no_instance, handed, solved, gave_up}
 use Rattle.command_answers.specs.FileNames.{ReadsNamed}
 use Rattle.command_answers.proofs.Outputs.{held_by}
 use Rattle.os_app.specs.Safe.{IsSafeText, HasNoSafeText, TakesOptions}
 use Rattle.os_app.specs.Safe as safe
-use Rattle.os_app.specs.Solves.{IsDocumentAbout, IsRightWith}
+use Rattle.os_app.specs.Solves.{IsDocumentAbout, IsRightWithin}
 use Rattle.os_app.specs.Statuses.{solve_status}
 use Rattle.os_app.specs.Runs.{ProgramRun, IsUntaken, EndsSo}
 use Rattle.command_line.specs.Words.{IsSolve, Solve}
@@ -40,7 +40,8 @@ module _ (a osil osol : List ℕ) (shows : Shows a osil) where
     says = h.says;
     is = h.is;
   })
-  answers_file asked r (solved stop looks may s) = solved stop looks may (record {
+  answers_file asked r (handed h) = handed (record { given = given_file h.given; claim = h.claim; handed = h.handed; told = h.told; fitted = h.fitted; is = h.is })
+  answers_file asked r (solved stop looks timed may s) = solved stop looks timed may (record {
     given = given_file s.given;
     turns = s.turns;
     outcome = s.outcome;
@@ -50,13 +51,19 @@ module _ (a osil osol : List ℕ) (shows : Shows a osil) where
     told = s.told;
     closed = s.closed;
     numbers = s.numbers;
+    note = s.note;
+    handed = s.handed;
     is = s.is;
   })
-  answers_file asked r (gave_up g) = gave_up (record { job = g.job; whose = g.whose; claim = g.claim; claims = by g.claims; is = g.is })
+  answers_file asked r (gave_up g) = gave_up (record { job = g.job; whose = g.whose; claim = g.claim; claims = by g.claims; note = g.note; noting = noted g.noting; is = g.is })
     where
       by : (g.claim ≡ Unsure Memory None) ⊎ IsBestOfSearch a osol g.claim → (g.claim ≡ Unsure Memory None) ⊎ IsBestOfSearch osil osol g.claim
       by (inl unsure) = inl unsure
       by (inr b) = inr (record { given = given_file b.given; moment = b.moment; comes = b.comes; tells = b.tells })
+
+      noted : IsNoteOfJob a osol g.note → IsNoteOfJob osil osol g.note
+      noted (inl none) = inl none
+      noted (inr (given, hands)) = inr (given_file given, hands)
 
   -- with its names
   tells_file : (r : Report) (text : List ℕ) → TellsReport a osol r text → TellsReport osil osol r text
@@ -81,9 +88,9 @@ takes_file a osil osol shows true taken (inl s) = inl (safe_file a osil osol sho
 takes_file a osil osol shows true taken (inr (none, is)) = inr (no_safe_file a osil osol shows none, is)
 
 -- the document that answers what was read is one about the files
-pub document_about : (instance : Held) (options : Option Held) (safe : Bool) (a osol : List ℕ) (status : ℕ) (doc : Document) → ReadsFirst 4194305 instance a → ReadsNamed options osol → status ≡ solve_status doc.is_error
-    → IsRightWith safe a osol doc → IsDocumentAbout instance options safe status doc.text
-document_about instance options safe a osol status doc first second is (taken, takes, (r, answers, written)) =
+pub document_about : (instance : Held) (options : Option Held) (seconds : Option ℕ) (safe : Bool) (a osol : List ℕ) (status : ℕ) (doc : Document) → ReadsFirst 4194305 instance a → ReadsNamed options osol → status ≡ solve_status doc.is_error
+    → IsRightWithin seconds safe a osol doc → IsDocumentAbout instance options seconds safe status doc.text
+document_about instance options seconds safe a osol status doc first second is (timed, in_time, (taken, takes, (r, answers, written))) =
     let file = file_of instance a first in
     record {
       osil = file.0;
@@ -91,26 +98,28 @@ document_about instance options safe a osol status doc first second is (taken, t
       instance_file = file.1;
       options_file = second;
       report = r;
+      timed = timed;
+      in_time = in_time;
       taken = taken;
-      takes = takes_file a file.0 osol file.2 safe taken takes;
+      takes = takes_file a file.0 timed file.2 safe taken takes;
       answers = answers_file a file.0 taken file.2 false r answers;
       written = tells_file a file.0 taken file.2 r doc.text written.text;
       status_is = is ∙ ap solve_status written.error;
     }
 
 -- the same texts by other names
-pub right_of_texts : (safe : Bool) (a b x y : List ℕ) (doc : Document) → x ≡ a → y ≡ b → IsRightWith safe x y doc → IsRightWith safe a b doc
-right_of_texts safe a b x y doc first second right =
-    subst (λ (t : List ℕ). IsRightWith safe t b doc) first (subst (λ (t : List ℕ). IsRightWith safe x t doc) second right)
+pub right_of_texts : (seconds : Option ℕ) (safe : Bool) (a b x y : List ℕ) (doc : Document) → x ≡ a → y ≡ b → IsRightWithin seconds safe x y doc → IsRightWithin seconds safe a b doc
+right_of_texts seconds safe a b x y doc first second right =
+    subst (λ (t : List ℕ). IsRightWithin seconds safe t b doc) first (subst (λ (t : List ℕ). IsRightWithin seconds safe x t doc) second right)
 
 -- what names that may be given hold
-pub about_named : (held : List ℕ → Held) (instance : Held) (name : Option (Bor (List ℕ))) (safe : Bool) (status : ℕ) (text : List ℕ) → IsDocumentAbout instance (option_map (λ n. held n.now) name) safe status text
-    → IsDocumentAbout instance (option_map held (option_map (λ n. n.now) name)) safe status text
-about_named held instance name safe status text about = subst (λ (o : Option Held). IsDocumentAbout instance o safe status text) (held_by held name) about
+pub about_named : (held : List ℕ → Held) (instance : Held) (name : Option (Bor (List ℕ))) (seconds : Option ℕ) (safe : Bool) (status : ℕ) (text : List ℕ) → IsDocumentAbout instance (option_map (λ n. held n.now) name) seconds safe status text
+    → IsDocumentAbout instance (option_map held (option_map (λ n. n.now) name)) seconds safe status text
+about_named held instance name seconds safe status text about = subst (λ (o : Option Held). IsDocumentAbout instance o seconds safe status text) (held_by held name) about
 
 -- ---- a run
 
-pub solve_runs : {Untouched Stored : Type 0} (same : Untouched) (status : ℕ) (run : ProgramRun) (osil_name : List ℕ) (options_name : Option (List ℕ)) (safe : Bool) → IsSolve run.words osil_name options_name safe
-    → EndsText status run (Solve osil_name options_name safe) → IsUntaken run → EndsSo Untouched Stored status run
-solve_runs same status run osil_name options_name safe solve ends untaken =
-    text_runs same status run (Solve osil_name options_name safe) solve ends untaken (no_check status run (Solve osil_name options_name safe) solve tt)
+pub solve_runs : {Untouched Stored : Type 0} (same : Untouched) (status : ℕ) (run : ProgramRun) (osil_name : List ℕ) (options_name : Option (List ℕ)) (seconds : Option ℕ) (safe : Bool) → IsSolve run.words osil_name options_name seconds safe
+    → EndsText status run (Solve osil_name options_name seconds safe) → IsUntaken run → EndsSo Untouched Stored status run
+solve_runs same status run osil_name options_name seconds safe solve ends untaken =
+    text_runs same status run (Solve osil_name options_name seconds safe) solve ends untaken (no_check status run (Solve osil_name options_name seconds safe) solve tt)

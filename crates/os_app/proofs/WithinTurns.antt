@@ -6,10 +6,11 @@ use Rattle.std.proofs.Math.Nat.{pow-le-pow_right}
 use Rattle.std.proofs.lemmas.List.{length-map}
 use Rattle.std.proofs.lemmas.Option.{none-some}
 use Rattle.evidence.specs.Instance.{Instance, IsInstance, Goal, Problem, alone, width, height}
+use Rattle.fraction.specs.declared.frac.Frac.{Frac}
 use Rattle.instance.specs.Parts.{Parts}
 use Rattle.instance.specs.Program.{program, problem, variable, row, goal}
 use Rattle.certificate.specs.declared.causes.Cause.{Cause}
-use Rattle.certificate.specs.declared.causes.Cause.TheVariants.{Memory}
+use Rattle.certificate.specs.declared.causes.Cause.TheVariants.{Memory, TimeLimit}
 use Rattle.certificate.specs.declared.claims.Claim.{Claim}
 use Rattle.certificate.specs.declared.claims.Claim.TheVariants.{Optimal, Infeasible, Unbounded, BestSoFar, Unsure}
 use Rattle.simplex_rules.specs.Ends.{Terms, Clock}
@@ -35,8 +36,13 @@ use Rattle.osrl_writing.specs.declared.report.Report.{Report}
 use Rattle.osrl_writing.specs.Writing.{told_text}
 use Rattle.certificate.specs.GivenUp.{given_up}
 use Rattle.solve_run.specs.Judging.{checked, wide_check}
-use Rattle.solve_run.specs.Closings.{IsToldOf, IsFitted}
-use Rattle.solve_run.specs.JobAnswers.{AnswersJob, IsBestOfSearch, Solved, no_options, no_instance, solved, gave_up, job_terms}
+use Rattle.solve_run.specs.Closings.{claim_report, IsToldOf, IsFitted}
+use Rattle.solve_run.specs.JobAnswers.{AnswersJob, IsBestOfSearch, TakesHanded, Solved, no_options, no_instance, handed, solved, gave_up}
+use Rattle.solve_run.proofs.Texts.{noted_claim}
+use Rattle.handed_results.specs.declared.handed.Handed.{Handed}
+use Rattle.handed_results.specs.declared.handed.Handed.TheVariants.{Nothing, Once}
+use Rattle.handed_results.specs.Reading.{HandsIn}
+use Rattle.solve_run.specs.Untils.{job_terms, left, renamed}
 use Rattle.no_cycles.specs.Beginning.{BeginsFeasible}
 use Rattle.no_cycles.specs.Limit.{safe_limit}
 use Rattle.no_cycles.specs.Searches.{is_out_of_turns, is_turn_limit}
@@ -80,6 +86,7 @@ with_limit o limit k back is few =
     let below = each (λ l. amount o l ≤ (limits.limit_row l).most) back.below limits.all in
     record {
       job = back.job;
+      seconds = back.seconds;
       above = each_limit (λ l. (limits.limit_row l).least ≤ amount (record o { turns = limit }) l) (all_of (λ l. (limits.limit_row l).least ≤ amount (record o { turns = limit }) l) limits.all (above.0, (omega (arith, is, low), above.1.1)));
       below = each_limit (λ l. amount (record o { turns = limit }) l ≤ (limits.limit_row l).most) (all_of (λ l. amount (record o { turns = limit }) l ≤ (limits.limit_row l).most) limits.all (below.0, (omega (arith, is, high), below.1.1)));
     }
@@ -107,6 +114,18 @@ claim_turned (Unsure k b) = refl
 
 told_turned : (c : Claim) (o : Outcome) → ClaimTells c o → claims_turn_limit c ≡ is_out_of_turns o
 told_turned c o tells = claim_turned c ∙ ap turned tells.cause ∙ sym (outcome_turned o)
+
+-- a time that was over is no limit of turns
+left_is : (o : Outcome) (k : Cause) → is_out_of_turns (left o k) ≡ is_turn_limit k
+left_is (ends.Optimal x vs cs) k = refl
+left_is (ends.Infeasible cert) k = refl
+left_is (ends.Unbounded x vs cs r) k = refl
+left_is (ends.BestSoFar x vs c) k = refl
+left_is (ends.Unsure c) k = refl
+
+renamed_within : (timed : Option Frac) (o : Outcome) → is_out_of_turns o ≡ false → is_out_of_turns (renamed timed o) ≡ false
+renamed_within None o within = within
+renamed_within (Some s) o within = left_is o (TimeLimit s)
 
 given_up_is : (c : Claim) (k : Cause) → claims_turn_limit (given_up c k) ≡ is_turn_limit k
 given_up_is (Optimal x vs cs) k = refl
@@ -138,6 +157,7 @@ pub record Laws : Type 0 where
   pub once : (bytes : List ℕ) (p q : Parts) → IsInstanceText bytes p → IsInstanceText bytes q → p ≡ q
   pub back : (o : Options) (r : Result Options OsolFault) → ComesBack o → IfOk r (IsOptionsText (options_text o)) → IfErr r (DecodeFails (options_text o)) → r ≢ Err options_faults.Memory → r ≡ Ok o
   pub written : (bytes : List ℕ) (o : Options) → IsOptionsText bytes o → ComesBack o
+  pub nothing : (o : Options) (h : Handed) → ComesBack o → HandsIn (options_text o) h → h ≡ Nothing
   pub read_options : (bytes : List ℕ) (o : Options) (f : OsolFault) → IsOptionsText bytes o → DecodeFails bytes f → f ≡ options_faults.Memory
   pub read_instance : (bytes : List ℕ) (p : Parts) (f : OsilFault) → IsInstanceText bytes p → instances.DecodeFails bytes f → f ≡ instance_faults.Memory
 
@@ -157,11 +177,16 @@ alone_is : (p : Parts) → length p.goals ≡ 1 → problem p ≡ alone (program
 alone_is p one = ap (λ (gs : List Goal). let P : Problem = record { program = program p; later = gs } in P) (none_later (map goal p.goals) (length-map p.goals goal ∙ one))
 
 module _ (laws : Laws) (osil osol taken : List ℕ) (p : Parts) (text : IsInstanceText osil p) (single : length p.goals ≡ 1) (plain : IsPlain (program p)) (ranges : HaveOneRange (program p)) (feasible : BeginsFeasible (program p)) (few : length p.vars + length p.rows ≤ 13) where
-  -- the limit of the options that are taken
+  -- the options that are taken, which can be written
+  taken_back : (s : IsSafeText osil osol taken) → ComesBack (record s.options { turns = s.limit })
+  taken_back s =
+      let limit = limit_is (length s.parts.vars) (length s.parts.rows) s.limit s.enough in
+      with_limit s.options s.limit _ (laws.written osol s.options s.said) limit.1 limit.0
+
+  -- their limit
   turns_are : (o : Options) → IsOptionsText taken o → (s : IsSafeText osil osol taken) → o.turns ≡ s.limit
   turns_are o said s =
-      let limit = limit_is (length s.parts.vars) (length s.parts.rows) s.limit s.enough in
-      let back = laws.back (record s.options { turns = s.limit }) (Ok o) (with_limit s.options s.limit _ (laws.written osol s.options s.said) limit.1 limit.0) (subst (λ (t : List ℕ). IsOptionsText t o) s.is said) tt (ok_or_not o options_faults.Memory) in
+      let back = laws.back (record s.options { turns = s.limit }) (Ok o) (taken_back s) (subst (λ (t : List ℕ). IsOptionsText t o) s.is said) tt (ok_or_not o options_faults.Memory) in
       ap (λ (x : Options). x.turns) (same_ok o (record s.options { turns = s.limit }) back)
 
   -- where options and an instance are read, there is such a text
@@ -177,8 +202,8 @@ module _ (laws : Laws) (osil osol taken : List ℕ) (p : Parts) (text : IsInstan
           let told = subst (λ (x : Parts). safe_limit (length x.vars) (length x.rows) ≡ None) same none in
           none-some (4 ^ (length p.vars + length p.rows)) (sym told ∙ has_limit (length p.vars) (length p.rows) few)
 
-  solved_within : (stop : Option ℕ) (looks : ℕ) (r : Report) → TakesOptions true osil osol taken → Solved osil taken stop looks r → says_turn_limit r.claim ≡ false
-  solved_within stop looks r takes s =
+  solved_within : (stop : Option ℕ) (timed : Option Frac) (looks : ℕ) (r : Report) → TakesOptions true osil osol taken → Solved osil taken stop timed looks r → says_turn_limit r.claim ≡ false
+  solved_within stop timed looks r takes s =
       let same : p ≡ s.given.parts = laws.once osil p s.given.parts text s.given.instance_text in
       let its = is_safe s.given.options s.given.options_text takes in
       let own : its.parts ≡ s.given.parts = laws.once osil its.parts s.given.parts its.instance s.given.instance_text in
@@ -190,34 +215,43 @@ module _ (laws : Laws) (osil osol taken : List ℕ) (p : Parts) (text : IsInstan
       let found : is_out_of_turns s.outcome ≡ false =
       laws.within (program s.given.parts) (job_terms s.given.options stop) s.outcome _ its.limit (laws.numbers s.given.parts) (subst (λ (x : Parts). IsPlain (program x)) same plain) (subst (λ (x : Parts). HaveOneRange (program x)) same ranges) (subst (λ (x : Parts). BeginsFeasible (program x)) same feasible) enough (omega (arith, turns))
       (subst (λ (P : Problem). IsSearchAnswer P (job_terms s.given.options stop) s.outcome (record { turns = s.turns; looks = looks })) (alone_is s.given.parts (subst (λ (x : Parts). length x.goals ≡ 1) same single)) (searched s.ends)) in
-      ap (λ (x : Report). says_turn_limit x.claim) s.is ∙ closed_is s.given.parts s.given.options.job s.turns s.found s.told s.closed (told_turned s.found s.outcome s.tells ∙ found)
+      ap (λ (x : Report). says_turn_limit x.claim) s.is ∙ ap says_turn_limit (noted_claim s.note (claim_report s.given.options.job s.told)) ∙ closed_is s.given.parts s.given.options.job s.turns s.found s.told s.closed (told_turned s.found (renamed timed s.outcome) s.tells ∙ renamed_within timed s.outcome found)
+
+  -- no result is handed in
+  handed_within : (r : Report) → TakesOptions true osil osol taken → TakesHanded osil taken r → says_turn_limit r.claim ≡ false
+  handed_within r takes h =
+      let s = is_safe h.given.options h.given.options_text takes in
+      let none = laws.nothing (record s.options { turns = s.limit }) h.handed.handed (taken_back s) (subst (λ (t : List ℕ). HandsIn t h.handed.handed) s.is h.handed.hands) in
+      let clash : Nothing ≡ Once h.handed.taken.text = sym none ∙ h.handed.taken.one in
+      absurd (cc)
 
   pub answers_within : (r : Report) → TakesOptions true osil osol taken → AnswersJob osil taken false r → says_turn_limit r.claim ≡ false
   answers_within r takes (no_options h) = ap (λ (x : Report). says_turn_limit x.claim) h.is
   answers_within r takes (no_instance h) = ap (λ (x : Report). says_turn_limit x.claim) h.is
-  answers_within r takes (solved stop looks may s) = solved_within stop looks r takes s
-  answers_within r takes (gave_up g) = ap (λ (x : Report). says_turn_limit x.claim) g.is ∙ gave_up_is osil taken g.claim g.claims
+  answers_within r takes (handed h) = handed_within r takes h
+  answers_within r takes (solved stop looks timed may s) = solved_within stop timed looks r takes s
+  answers_within r takes (gave_up g) = ap (λ (x : Report). says_turn_limit x.claim) g.is ∙ ap says_turn_limit (noted_claim g.note (claim_report g.job g.claim)) ∙ gave_up_is osil taken g.claim g.claims
 
 -- ---- a run
 
-module _ (laws : Laws) (status : ℕ) (run : ProgramRun) (osil_name : List ℕ) (options_name : Option (List ℕ)) (osil : List ℕ) (p : Parts) (solve : IsSolve run.words osil_name options_name true) (holds : run.held osil_name ≡ Holds osil) (text : IsInstanceText osil p) (single : length p.goals ≡ 1) (plain : IsPlain (program p)) (ranges : HaveOneRange (program p)) (feasible : BeginsFeasible (program p)) (few : length p.vars + length p.rows ≤ 13) where
-  due_within : (it : Command) (due : ℕ) (line : List ℕ) → it ≡ Solve osil_name options_name true → IsDue run.held it due line → IsTold due line status run.output run.output_after → WritesWithinTurns status run
+module _ (laws : Laws) (status : ℕ) (run : ProgramRun) (osil_name : List ℕ) (options_name : Option (List ℕ)) (osil : List ℕ) (p : Parts) (seconds : Option ℕ) (solve : IsSolve run.words osil_name options_name seconds true) (holds : run.held osil_name ≡ Holds osil) (text : IsInstanceText osil p) (single : length p.goals ≡ 1) (plain : IsPlain (program p)) (ranges : HaveOneRange (program p)) (feasible : BeginsFeasible (program p)) (few : length p.vars + length p.rows ≤ 13) where
+  due_within : (it : Command) (due : ℕ) (line : List ℕ) → it ≡ Solve osil_name options_name seconds true → IsDue run.held it due line → IsTold due line status run.output run.output_after → WritesWithinTurns status run
   due_within it due line is asked told =
-      let about : IsDocumentAbout (run.held osil_name) (option_map run.held options_name) true due line = subst (λ (x : Command). IsDue run.held x due line) is asked in
+      let about : IsDocumentAbout (run.held osil_name) (option_map run.held options_name) seconds true due line = subst (λ (x : Command). IsDue run.held x due line) is asked in
       let file : about.osil ≡ osil = subst (λ (h : Held). MayHold h about.osil) holds about.instance_file in
       let its : IsTold due (told_text about.written.names about.report) status run.output run.output_after = subst (λ (t : List ℕ). IsTold due t status run.output run.output_after) about.written.is told in
       inr (record {
         report = about.report;
         names = about.written.names;
         told = subst (λ (d : ℕ). IsTold d (told_text about.written.names about.report) status run.output run.output_after) about.status_is its;
-        within = answers_within laws about.osil about.osol about.taken p (subst (λ (t : List ℕ). IsInstanceText t p) (sym file) text) single plain ranges feasible few about.report about.takes about.answers;
+        within = answers_within laws about.osil about.timed about.taken p (subst (λ (t : List ℕ). IsInstanceText t p) (sym file) text) single plain ranges feasible few about.report about.takes about.answers;
       })
 
-  one : (it : Command) → asks run.words ≡ Some it → it ≡ Solve osil_name options_name true
-  one it asked = one_command _ it (Solve osil_name options_name true) asked solve
+  one : (it : Command) → asks run.words ≡ Some it → it ≡ Solve osil_name options_name seconds true
+  one it asked = one_command _ it (Solve osil_name options_name seconds true) asked solve
 
   a_command : IsNoCommand run.words → ⊥
-  a_command other = none-some (Solve osil_name options_name true) (sym other ∙ solve)
+  a_command other = none-some (Solve osil_name options_name seconds true) (sym other ∙ solve)
 
   unsent_within : (u : IsUnsent run) → status ≡ 4 → IsUsageDue run u.text ⊎ IsAnswerDue run u.text → WritesWithinTurns status run
   unsent_within u is (inl d) = absurd (a_command d.other)

@@ -2,6 +2,7 @@ pub mod AtOnce
 pub mod Checks
 pub mod CompactRuns
 pub mod Safe
+pub mod Timed
 pub mod Solves
 pub mod Summaries
 pub mod Ends

@@ -32,6 +32,7 @@ use std::alloc::{AllocError, Global};
 use std::process::ExitCode;
 use std::sync::Wait;
 use std::thread::Threads;
+use std::time::Clock;
 
 /// Sends an answer, if there is one, and says how it went.
 fn tell<O: Sink>(output: &mut O, answer: Result<StatusText, FileFault>) -> u8
@@ -111,8 +112,9 @@ pub enum Waits<'w> {
 }
 
 /// Does what the words ask for, as [`run`] does, where that waits for nobody but the files, disks, links and the output: it has no handle
-/// by which it might wait, start threads or run on for ever. Of words that ask for a session or a server it says so, and does nothing.
-pub fn run_at_once<'w, F: Files, K: Stores, O: Sink, N: Listener>(
+/// by which it might wait, start threads or run on for ever; the clock it may only read. Of words that ask for a session or a server it says so, and does nothing.
+pub fn run_at_once<'w, T: Clock, F: Files, K: Stores, O: Sink, N: Listener>(
+    clock: &T,
     alloc: Global,
     words: &'w [String],
     files: &mut F,
@@ -154,13 +156,19 @@ pub fn run_at_once<'w, F: Files, K: Stores, O: Sink, N: Listener>(
                 Asked::Solve {
                     osil,
                     options,
+                    seconds,
                     safe,
                 },
             ),
-        ) => { Ok(tell(output, solve_files(alloc, files, osil, options, safe))) }
+        ) => {
+            Ok(tell(
+                output,
+                solve_files(clock, alloc, files, osil, options, seconds, safe),
+            ))
+        }
         Ok(Some(Asked::Generate { variables })) => {
             numbers_are_within_their_ends();
-            Ok(tell(output, from_memory(generate(alloc, variables))))
+            Ok(tell(output, from_memory(generate(clock, alloc, variables))))
         }
         Ok(Some(Asked::Call(call))) => Ok(make_call(alloc, call, files, output, net)),
         Ok(Some(Asked::Compact { old, new })) => {
@@ -172,7 +180,7 @@ pub fn run_at_once<'w, F: Files, K: Stores, O: Sink, N: Listener>(
 }
 
 /// Does what waits for others, and says how it went.
-fn serve_for<K: Stores, I: Source, O: Sink, N: Listener, R: Threads + Wait + Sync>(
+fn serve_for<K: Stores, I: Source, O: Sink, N: Listener, R: Threads + Wait + Clock + Sync>(
     rt: &R,
     alloc: Global,
     waits: Waits<'_>,
@@ -238,7 +246,7 @@ where
 /// inside a request; and 9 where the journal is damaged, and `damaged at` and the place were written in a line. Where there was no
 /// memory to read the words or to make the text that they ask for, or the journal wasn't opened, nothing is taken and no link is asked
 /// for, and nothing but that line is written.
-pub fn run<F: Files, K: Stores, I: Source, O: Sink, N: Listener, R: Threads + Wait + Sync>(
+pub fn run<F: Files, K: Stores, I: Source, O: Sink, N: Listener, R: Threads + Wait + Clock + Sync>(
     rt: &R,
     alloc: Global,
     words: &[String],
@@ -270,7 +278,7 @@ where
     ensures unlinked { AsksForNoLink (map string_bytes words.now) → net.new ≡ net.old }
     ensures unkept { NamesNoJournal (map string_bytes words.now) → stores.new ≡ stores.old }
 {
-    match run_at_once(alloc, words, files, stores, output, net) {
+    match run_at_once(rt, alloc, words, files, stores, output, net) {
         Ok(status) => status,
         Err(waits) => serve_for(rt, alloc, waits, stores, input, output, net),
     }

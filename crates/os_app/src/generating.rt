@@ -12,6 +12,7 @@ use os_io::Memory;
 use osil_grammar::encode;
 use osrl_grammar::decode;
 use std::alloc::{AllocError, Global};
+use std::time::Clock;
 
 /// Whether the search stopped for want of memory.
 fn wants_memory(claim: &Claim) -> bool
@@ -64,7 +65,7 @@ fn summary_about(alloc: Global, n: u32, osil: &[u8], osrl: &[u8]) -> Result<Stat
 
 /// The generated instance of `n` variables, solved without options, and checked, in a line. Its text is written unless there is no
 /// memory (`generator`).
-pub(crate) fn generate(alloc: Global, n: u32) -> Result<StatusText, Memory>
+pub(crate) fn generate<T: Clock>(clock: &T, alloc: Global, n: u32) -> Result<StatusText, Memory>
     requires least { 1 ≤ n }
     requires most { n ≤ 1000 }
     ensures { IfOk result (λ a. IsSummaryOf n a.status a.text) }
@@ -73,6 +74,6 @@ pub(crate) fn generate(alloc: Global, n: u32) -> Result<StatusText, Memory>
     let Ok(osil) = encode(alloc, &instance) else {
         return Err(AllocError);
     };
-    let document = solve(alloc, osil.as_slice(), b"")?;
+    let document = solve(clock, alloc, osil.as_slice(), b"")?;
     summary_about(alloc, n, osil.as_slice(), document.text.as_slice())
 }

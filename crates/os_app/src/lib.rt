@@ -22,6 +22,7 @@ mod safe;
 mod solving;
 mod statuses;
 mod stored;
+mod timed;
 
 pub use command::{Waits, exit_code, run, run_at_once};
 pub use command_line::{commands_have_their_words, numbers_are_within_their_ends};

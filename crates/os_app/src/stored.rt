@@ -20,6 +20,7 @@ use sessions::serve_stored_session;
 use std::alloc::Global;
 use std::sync::Wait;
 use std::thread::Threads;
+use std::time::Clock;
 
 /// Says why a journal wasn't opened, and gives the status of the run. Takes no memory.
 fn tell_fault<O: Sink>(output: &mut O, fault: OpenFault) -> u8
@@ -65,7 +66,7 @@ fn open_named<K: Stores>(
 }
 
 /// Serves a session over the journal in the file of this name, and gives its disk back.
-pub(crate) fn keep_session<K: Stores, I: Source, O: Sink, R: Wait>(
+pub(crate) fn keep_session<K: Stores, I: Source, O: Sink, R: Wait + Clock>(
     rt: &R,
     alloc: Global,
     stores: &mut K,
@@ -88,7 +89,7 @@ pub(crate) fn keep_session<K: Stores, I: Source, O: Sink, R: Wait>(
 }
 
 /// Serves links over the journal in the file of this name, and gives its disk back.
-pub(crate) fn keep_server<K: Stores, O: Sink, N: Listener, R: Threads + Wait + Sync>(
+pub(crate) fn keep_server<K: Stores, O: Sink, N: Listener, R: Threads + Wait + Clock + Sync>(
     rt: &R,
     alloc: Global,
     stores: &mut K,

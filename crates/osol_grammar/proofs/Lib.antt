@@ -1,4 +1,5 @@
 pub mod LimitTable
+pub mod SaidTimes
 pub mod OneState
 pub mod OneAnswer
 pub mod WrittenLimits

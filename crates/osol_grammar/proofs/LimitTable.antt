@@ -47,6 +47,13 @@ job_with o Turns n = refl
 job_with o Rounds n = refl
 job_with o Names n = refl
 
+-- and the time stays
+pub time_with : (o : Options) (l : Limit) (n : ℕ) → (with_amount o l n).seconds ≡ o.seconds
+time_with o Nodes n = refl
+time_with o Turns n = refl
+time_with o Rounds n = refl
+time_with o Names n = refl
+
 -- ---- for all of them
 
 -- what holds of those listed holds of each

@@ -1,7 +1,8 @@
 -- A mark that is taken leaves one state.
-use Rattle.std.proofs.Common.{◌≡◌, ◌∙◌, inl, inr, ℕ, List, ap, sym, subst}
+use Rattle.std.proofs.Common.{◌≡◌, ◌∙◌, inl, inr, ℕ, ◌+◌, Some, List, [], ap, sym, subst}
 use Rattle.std.specs.Prelude.{codes}
 use Rattle.tree_grammar.specs.Elements.{Attribute}
+use Rattle.fraction.specs.declared.frac.Frac.{Frac}
 use Rattle.decimal_text.specs.Count.{IsCount}
 use Rattle.decimal_text.proofs.OneNumber.{count_once}
 use Rattle.document_tags.specs.Elements.{value_of}
@@ -9,16 +10,17 @@ use Rattle.document_tags.proofs.SomeAnd.{some_once}
 use Rattle.tag_tests.specs.Forms.{LeavesOne}
 use Rattle.osol_grammar.specs.declared.limit.Limit.{Limit}
 use Rattle.osol_grammar.specs.declared.options.Options.{Options}
-use Rattle.osol_grammar.specs.declared.place.Place.TheVariants.{SolverOption}
+use Rattle.osol_grammar.specs.declared.place.Place.TheVariants.{Job, MaxTime, SolverOption}
 use Rattle.tag_tests.specs.declared.places.Led.{Led}
 use Rattle.osol_grammar.specs.declared.place.Place.{Place}
 use Rattle.tag_tests.specs.declared.places.Led.TheVariants.{To, OtherRoot}
 use Rattle.osol_grammar.specs.declared.standing.Standing.{Standing as State}
 use Rattle.osol_grammar.specs.Options.{SaysAmount, with_amount, SaysOption}
-use Rattle.osol_grammar.specs.Table.{kind, into, Begins, Leaves}
-use Rattle.tag_tests.specs.Places.{Kind, begins}
+use Rattle.osol_grammar.specs.Table.{kind, into, Begins, Ends, Leaves}
+use Rattle.tag_tests.specs.Places.{Kind, begins, ends}
 use Rattle.osol_grammar.specs.Marked.{osol}
 use Rattle.osol_grammar.proofs.LimitTable.{option_once}
+use Rattle.osol_grammar.proofs.SaidTimes.{time_once}
 
 amount_once : (l : Limit) (as' : List Attribute) (n m : ℕ) → SaysAmount l as' n → SaysAmount l as' m → n ≡ m
 amount_once l as' n m h k = some_once IsCount count_once (value_of (codes "value") as') n m h.0 k.0
@@ -34,11 +36,20 @@ says_once as' o p q (inr h) (inr g) = h.1 ∙ sym g.1
 
 begins_once : (s : State) (as' : List Attribute) (l : Led Place) (a b : State) → Begins s as' l a → Begins s as' l b → a ≡ b
 begins_once s as' (To SolverOption) a b (o, x, e) (p, y, f) = e ∙ ap (λ (q : Options). let z : State = record (into s SolverOption) { options = q } in z) (says_once as' s.options o p x y) ∙ sym f
+begins_once s as' (To MaxTime) a b (n, is, e) (m, at, f) =
+    let both : Some n ≡ Some m = sym is ∙ at in
+    let same : n ≡ m = cc in
+    e ∙ ap (λ (u : ℕ). let z : State = record (into s MaxTime) { time_at = s.count + 1; unit = u; text = [] } in z) same ∙ sym f
 begins_once s as' OtherRoot a b e f = absurd e
 begins_once s as' l a b e f = e ∙ sym f
 
+ends_once : (s : State) (p : Place) (a b : State) → Ends s p a → Ends s p b → a ≡ b
+ends_once s MaxTime a b (x, says, e) (y, tells, f) = e ∙ ap (λ (t : Frac). let z : State = record s { place = Job; options = record s.options { seconds = Some t } } in z) (time_once s.unit s.text x y says tells) ∙ sym f
+ends_once s p a b e f = e ∙ sym f
+
 leaves_once : (s : State) (k : Kind Place) (a b : State) → Leaves s k a → Leaves s k b → a ≡ b
 leaves_once s (begins l as') a b e f = begins_once s as' l a b e f
+leaves_once s (ends p) a b e f = ends_once s p a b e f
 leaves_once s k a b e f = e ∙ sym f
 
 pub leaves_one : LeavesOne osol

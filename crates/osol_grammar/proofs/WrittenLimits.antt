@@ -7,11 +7,12 @@ use Rattle.element_tree.specs.Building.{Building}
 use Rattle.document_tags.specs.Writing.{with_attribute}
 use Rattle.document_tags.specs.Telling.{Told, ToldAttributes, opening, closing}
 use Rattle.document_tags.proofs.Tellings.{told_after, ends_told, attributes_then}
+use Rattle.fraction.specs.declared.frac.Frac.{Frac}
 use Rattle.osol_grammar.specs.declared.limit.Limit.{Limit}
 use Rattle.osol_grammar.specs.declared.options.Options.{Options}
 use Rattle.osol_grammar.specs.Limits.{limit_row}
 use Rattle.osol_grammar.specs.Options.{amount}
-use Rattle.osol_grammar.specs.Writing.{limit_node, job_nodes}
+use Rattle.osol_grammar.specs.Writing.{limit_node, job_nodes, time_nodes}
 
 abbrev three : (name value : List ℕ) → List Attribute
 three name value = with_attribute (codes "name") name (with_attribute (codes "value") value (with_attribute (codes "solver") (codes "os_cert") []))
@@ -32,3 +33,8 @@ limit_told {X} {E} r a b c d e o l name value no_wait is_name is_value first sec
 pub job_then : (job : Option (List ℕ)) (more : Nodes) (k : List Event) → nodes_events (job_nodes job none) (nodes_events more k) ≡ nodes_events (job_nodes job more) k
 job_then None more k = refl
 job_then (Some name) more k = refl
+
+-- the time, and then more
+pub time_then : (seconds : Option Frac) (more : Nodes) (k : List Event) → nodes_events (time_nodes seconds none) (nodes_events more k) ≡ nodes_events (time_nodes seconds more) k
+time_then None more k = refl
+time_then (Some s) more k = refl

@@ -1,23 +1,28 @@
 -- The text of options is a document that isn't blank.
-use Rattle.std.proofs.Common.{◌≡◌, ◌∙◌, ℕ, suc, ◌+◌, ◌*◌, ◌≤◌, Bool, true, false, cond, Option, None, Some, List, [], ◌∷◌, ◌++◌, length, drop, reverse, leb, refl, ap, sym, arith, lit≤}
-use Rattle.std.specs.Prelude.{codes, filter}
+use Rattle.std.proofs.Common.{◌≡◌, ◌∙◌, ℕ, suc, ◌+◌, ◌*◌, ◌≤◌, ◌==◌, ℤ, pos, negsuc, Bool, true, false, cond, Option, None, Some, List, [], ◌∷◌, ◌++◌, length, length-append, drop, reverse, leb, refl, ap, sym, arith, lit≤, lit<}
+use Rattle.std.specs.Prelude.{codes, decimal, filter}
+use Rattle.std.specs.Fmt.{signed_decimal}
 use Rattle.std.specs.List.{list_all}
 use Rattle.std.proofs.lemmas.Bool.{leb-true}
 use Rattle.std.proofs.lemmas.List.{reverse-append, reverse-reverse}
 use Rattle.tree_grammar.specs.Elements as tree
 use Rattle.tree_grammar.specs.Elements.{none}
-use Rattle.tree_grammar.proofs.XmlTexts.{is_printable}
+use Rattle.tree_grammar.proofs.XmlTexts.{Printable, is_printable, each_append}
+use Rattle.tree_grammar.specs.Characters.{IsXmlText, Each}
+use Rattle.fraction.specs.Frac.{ratio}
+use Rattle.fraction.specs.declared.frac.Frac.{Frac}
+use Rattle.decimal_text.specs.Exact.{denominator_text, ratio_text}
 use Rattle.decimal_text.specs.Space.{is_space, without_leading_space, trimmed}
 use Rattle.document_tags.specs.Texts.{document_limit, IsDocument}
 use Rattle.document_tags.specs.Writing.{text_nodes, leaf, group, bare_root}
-use Rattle.document_tags.proofs.PrintableTexts.{fixed_text, number_text}
+use Rattle.document_tags.proofs.PrintableTexts.{fixed_text, number_text, signed_printable, decimal_printable, printable_text}
 use Rattle.document_tags.proofs.XmlNodes.{AreFlat, none_flat, text_flat, element_flat, still_flat, root_is_document}
 use Rattle.document_tags.proofs.Lengths.{nodes_size, text_size, decimal_size, written_short}
 use Rattle.osol_grammar.specs.declared.limit.Limit.{Limit}
 use Rattle.osol_grammar.specs.declared.options.Options.{Options}
 use Rattle.osol_grammar.specs.Limits.{all, limit_row}
 use Rattle.osol_grammar.specs.Options.{amount}
-use Rattle.osol_grammar.specs.Writing.{is_told, told_limits, job_nodes, option_nodes, limit_nodes, options_nodes, options_element, options_text}
+use Rattle.osol_grammar.specs.Writing.{is_told, told_limits, job_nodes, time_nodes, option_nodes, limit_nodes, options_nodes, options_element, options_text}
 use Rattle.osol_grammar.specs.Back.{IsNameOrNone, ComesBack}
 use Rattle.osol_grammar.proofs.LimitTable.{each_passes}
 
@@ -27,7 +32,7 @@ limits_flat o (l ∷ more) =
     let name = fixed_text (limit_row l).name (each_passes (λ k. list_all is_printable (limit_row k).name) refl l) in
     element_flat 0 (codes "solverOption") _ none (option_nodes o more) none (option_nodes o more) refl (name, (number_text (amount o l), (fixed_text (codes "os_cert") refl, tt))) (none_flat 0) (limits_flat o more)
 
--- what stands behind the job's name
+-- what stands behind the job's name and the time
 abbrev pub optimization : Options → tree.Nodes
 optimization o = group (codes "optimization") (group (codes "solverOptions") (limit_nodes o) none) none
 
@@ -35,6 +40,35 @@ optimization_flat : (o : Options) → AreFlat 3 (optimization o) (optimization o
 optimization_flat o =
     let inner = element_flat 1 (codes "solverOptions") [] (limit_nodes o) none (limit_nodes o) none refl tt (limits_flat o (told_limits o)) (none_flat 2) in
     element_flat 2 (codes "optimization") [] (group (codes "solverOptions") (limit_nodes o) none) none (group (codes "solverOptions") (limit_nodes o) none) none refl tt inner (none_flat 3)
+
+time_xml : (s : Frac) → IsXmlText (ratio_text (ratio s))
+time_xml s = printable_text (ratio_text (ratio s)) (each_append Printable (signed_decimal s.numer) (denominator_text s.denom) (signed_printable s.numer) (under (s.denom == 1) s.denom))
+  where
+    under : (b : Bool) (d : ℕ) → Each Printable (cond b [] (47 ∷ decimal d))
+    under true d = tt
+    under false d = ((lit≤ tt, lit< tt), decimal_printable d)
+
+time_flat : (seconds : Option Frac) (more : tree.Nodes) → AreFlat 3 more more → AreFlat 3 (time_nodes seconds more) (time_nodes seconds more)
+time_flat None more rest = rest
+time_flat (Some s) more rest =
+    let text = ratio_text (ratio s) in
+    let inner = element_flat 1 (codes "maxTime") [] (text_nodes text) none (text_nodes text) none refl tt (text_flat 1 text (time_xml s)) (none_flat 2) in
+    element_flat 2 (codes "job") [] (leaf (codes "maxTime") text none) more (leaf (codes "maxTime") text none) more refl tt inner rest
+
+time_size : (seconds : Option Frac) (more : tree.Nodes) → nodes_size (time_nodes seconds more) ≤ 2000 + nodes_size more
+time_size None more = omega arith
+time_size (Some s) more = let text = text_size (ratio_text (ratio s)) in let short = seconds_size s in omega (arith, text, short)
+  where
+    size_by : (z : ℤ) → length (signed_decimal z) ≤ 65
+    size_by (pos n) = let a = decimal_size n in omega (arith, a)
+    size_by (negsuc n) = let a = decimal_size (suc n) in omega (arith, a)
+
+    under_by : (b : Bool) (d : ℕ) → length (cond b [] (47 ∷ decimal d)) ≤ 65
+    under_by true d = omega arith
+    under_by false d = let a = decimal_size d in omega (arith, a)
+
+    seconds_size : (s : Frac) → length (ratio_text (ratio s)) ≤ 130
+    seconds_size s = let a = size_by s.numer in let b = under_by (s.denom == 1) s.denom in omega (arith, a, b, length-append (signed_decimal s.numer) (denominator_text s.denom))
 
 job_flat : (job : Option (List ℕ)) (more : tree.Nodes) → IsNameOrNone job → AreFlat 3 more more → AreFlat 3 (job_nodes job more) (job_nodes job more)
 job_flat None more is rest = rest
@@ -67,14 +101,15 @@ filter_few {X} test (x ∷ xs) = by_test (test x) (filter_few test xs)
 text_short : (o : Options) → ComesBack o → length (options_text o) ≤ document_limit
 text_short o back =
     let whole = written_short (options_element o) in
-    let job = job_size o.job (optimization o) back.job in
+    let job = job_size o.job (time_nodes o.seconds (optimization o)) back.job in
+    let time = time_size o.seconds (optimization o) in
     let limits = limits_size o (told_limits o) in
     let few = filter_few (is_told o) all in
-    omega (arith, whole, job, limits, few)
+    omega (arith, whole, job, time, limits, few)
 
 pub text_document : (o : Options) → ComesBack o → IsDocument (options_text o) (bare_root (codes "osol") (options_nodes o))
 text_document o back =
-    root_is_document (codes "osol") (options_nodes o) refl refl (still_flat 3 31 (options_nodes o) (options_nodes o) (lit≤ tt) (job_flat o.job (optimization o) back.job (optimization_flat o))) (text_short o back)
+    root_is_document (codes "osol") (options_nodes o) refl refl (still_flat 3 31 (options_nodes o) (options_nodes o) (lit≤ tt) (job_flat o.job (time_nodes o.seconds (optimization o)) back.job (time_flat o.seconds (optimization o) (optimization_flat o)))) (text_short o back)
 
 -- a text that doesn't begin with white space
 still_some : (b : Bool) (x : ℕ) (xs rest : List ℕ) → (rest ≡ [] → ⊥) → cond b rest (x ∷ xs) ≡ [] → ⊥

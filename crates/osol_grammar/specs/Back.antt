@@ -1,11 +1,13 @@
 -- The options that come back from their text.
 use Rattle.std.specs.Prelude.{◌≡◌, ◌≢◌, ℕ, ◌≤◌, Option, None, Some, List, [], length}
 use Rattle.tree_grammar.specs.Characters.{IsXmlText}
+use Rattle.fraction.specs.declared.frac.Frac.{Frac}
 use Rattle.decimal_text.specs.Space.{trimmed}
 use Rattle.osol_grammar.specs.declared.limit.Limit.{Limit}
 use Rattle.osol_grammar.specs.declared.options.Options.{Options}
 use Rattle.osol_grammar.specs.Limits.{limit_row}
 use Rattle.osol_grammar.specs.Options.{amount}
+use Rattle.osol_grammar.specs.Times.{IsTime}
 
 -- a job's name: characters of XML, one at least and of at most 256 bytes, with no white space round them
 pub record IsJobName (job : List ℕ) : Type 0 where
@@ -18,8 +20,14 @@ abbrev pub IsNameOrNone : Option (List ℕ) → Type 0
 IsNameOrNone None = Unit {0}
 IsNameOrNone (Some job) = IsJobName job
 
--- there is no job's name or it is one, and each limit is one that it may be
+-- no time, or one
+abbrev pub IsTimeOrNone : Option Frac → Type 0
+IsTimeOrNone None = Unit {0}
+IsTimeOrNone (Some s) = IsTime s
+
+-- there is no job's name or it is one, the seconds are a time where there are some, and each limit is one that it may be
 pub record ComesBack (o : Options) : Type 0 where
   pub job : IsNameOrNone o.job
+  pub seconds : IsTimeOrNone o.seconds
   pub above : (l : Limit) → (limit_row l).least ≤ amount o l
   pub below : (l : Limit) → amount o l ≤ (limit_row l).most

@@ -1,5 +1,6 @@
 pub mod Limits
 pub mod Options
+pub mod Times
 pub mod Table
 pub mod Marked
 pub mod Meaning

@@ -2,15 +2,16 @@
 use Rattle.std.specs.Prelude.{◌≡◌, ◌⊎◌, ℕ, ◌≤◌, Option, None, Some, IfSome, IsSomeAnd, List, codes}
 use Rattle.tree_grammar.specs.Elements.{Attribute}
 use Rattle.document_tags.specs.Elements.{value_of}
+use Rattle.fraction.specs.declared.frac.Frac.{Frac}
 use Rattle.decimal_text.specs.Count.{IsCount}
 use Rattle.osol_grammar.specs.declared.limit.Limit.{Limit}
 use Rattle.osol_grammar.specs.declared.limit.Limit.TheVariants.{Nodes, Turns, Rounds, Names}
 use Rattle.osol_grammar.specs.declared.options.Options.{Options}
 use Rattle.osol_grammar.specs.Limits.{limit_row}
 
--- the options of a job's name and an amount for each limit
-abbrev pub made : Option (List ℕ) → (Limit → ℕ) → Options
-made job amounts = record { job = job; nodes = amounts Nodes; turns = amounts Turns; rounds = amounts Rounds; names = amounts Names }
+-- the options of a job's name, of seconds, and of an amount for each limit
+abbrev pub made : Option (List ℕ) → Option Frac → (Limit → ℕ) → Options
+made job seconds amounts = record { job = job; seconds = seconds; nodes = amounts Nodes; turns = amounts Turns; rounds = amounts Rounds; names = amounts Names }
 
 -- what options say of a limit, and the options that say another amount of it
 abbrev pub amount : Options → Limit → ℕ
@@ -25,9 +26,9 @@ with_amount o Turns n = record o { turns = n }
 with_amount o Rounds n = record o { rounds = n }
 with_amount o Names n = record o { names = n }
 
--- no options: no job's name, and each limit by default
+-- no options: no job's name, no time, and each limit by default
 abbrev pub no_options : Options
-no_options = made None (λ l. (limit_row l).default)
+no_options = made None None (λ l. (limit_row l).default)
 
 -- the attributes of an option of this limit: it has its name, and is meant for each solver or for this one
 pub record IsOption (l : Limit) (as' : List Attribute) : Type 0 where

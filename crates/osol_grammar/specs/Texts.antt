@@ -3,13 +3,16 @@ use Rattle.std.specs.Prelude.{◌≡◌, ℕ, List, ◌++◌, codes}
 use Rattle.doc_tree.specs.Words.{tree_words}
 use Rattle.document_tags.specs.Faults.{refusal_at, IsTreeText}
 use Rattle.osol_grammar.specs.declared.fault.Refusal.{Refusal}
-use Rattle.osol_grammar.specs.declared.fault.Refusal.TheVariants.{Root, JobTwice, BadLimit, LongJob}
+use Rattle.osol_grammar.specs.declared.fault.Refusal.TheVariants.{Root, JobTwice, TimeTwice, BadUnit, BadTime, BadLimit, LongJob}
 use Rattle.osol_grammar.specs.declared.fault.OsolFault.{OsolFault}
 use Rattle.osol_grammar.specs.declared.fault.OsolFault.TheVariants.{Tree, Refused, Memory}
 
 abbrev pub refusal_name : Refusal → List ℕ
 refusal_name Root = codes "Root"
 refusal_name JobTwice = codes "JobTwice"
+refusal_name TimeTwice = codes "TimeTwice"
+refusal_name BadUnit = codes "BadUnit"
+refusal_name BadTime = codes "BadTime"
 refusal_name BadLimit = codes "BadLimit"
 refusal_name LongJob = codes "LongJob"
 

@@ -4,6 +4,9 @@ use Rattle.std.specs.Fmt.{decimal}
 use Rattle.tree_grammar.specs.Elements as tree
 use Rattle.tree_grammar.specs.Elements.{none, element, Element}
 use Rattle.tree_grammar.specs.WrittenText.{written}
+use Rattle.fraction.specs.Frac.{ratio}
+use Rattle.fraction.specs.declared.frac.Frac.{Frac}
+use Rattle.decimal_text.specs.Exact.{ratio_text}
 use Rattle.document_tags.specs.Writing.{with_attribute, leaf, group, rooted}
 use Rattle.osol_grammar.specs.declared.limit.Limit.{Limit}
 use Rattle.osol_grammar.specs.declared.options.Options.{Options}
@@ -14,6 +17,11 @@ use Rattle.osol_grammar.specs.Options.{amount}
 abbrev pub job_nodes : Option (List ℕ) → tree.Nodes → tree.Nodes
 job_nodes None more = more
 job_nodes (Some job) more = group (codes "general") (leaf (codes "jobID") job none) more
+
+-- the time, if there is one, in seconds, and then more
+abbrev pub time_nodes : Option Frac → tree.Nodes → tree.Nodes
+time_nodes None more = more
+time_nodes (Some s) more = group (codes "job") (leaf (codes "maxTime") (ratio_text (ratio s)) none) more
 
 -- the option of a limit is written always, or where the amount isn't the one that the limit has without it
 abbrev pub is_told : Options → Limit → Bool
@@ -36,7 +44,7 @@ abbrev pub limit_nodes : Options → tree.Nodes
 limit_nodes o = option_nodes o (told_limits o)
 
 abbrev pub options_nodes : Options → tree.Nodes
-options_nodes o = job_nodes o.job (group (codes "optimization") (group (codes "solverOptions") (limit_nodes o) none) none)
+options_nodes o = job_nodes o.job (time_nodes o.seconds (group (codes "optimization") (group (codes "solverOptions") (limit_nodes o) none) none))
 
 -- the root that options are written as
 abbrev pub options_element : Options → Element

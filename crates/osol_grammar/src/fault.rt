@@ -12,6 +12,12 @@ pub enum Refusal {
     Root,
     /// There is a further `jobID`.
     JobTwice,
+    /// There is a further `maxTime`.
+    TimeTwice,
+    /// The time has a unit that isn't a second, a minute or an hour.
+    BadUnit,
+    /// The time isn't a number from 0 on, or is past 2^63 - 1 seconds.
+    BadTime,
     /// The value of a limit's option is wanting, isn't a count, or isn't one that the limit may have.
     BadLimit,
     /// The job's name, without the white space round it, has more than 256 bytes.
@@ -39,6 +45,9 @@ impl fmt::Display for Refusal {
         match self {
             Refusal::Root => write!(f, "Root"),
             Refusal::JobTwice => write!(f, "JobTwice"),
+            Refusal::TimeTwice => write!(f, "TimeTwice"),
+            Refusal::BadUnit => write!(f, "BadUnit"),
+            Refusal::BadTime => write!(f, "BadTime"),
             Refusal::BadLimit => write!(f, "BadLimit"),
             Refusal::LongJob => write!(f, "LongJob"),
         }

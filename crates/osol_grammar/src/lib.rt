@@ -19,6 +19,7 @@ mod place;
 mod reading;
 mod standing;
 mod texts;
+mod times;
 mod writing;
 
 pub use fault::{OsolFault, Refusal};
@@ -29,4 +30,5 @@ pub use laws::{
 pub use options::Options;
 pub use reading::decode;
 pub use texts::refusal_text;
+pub use times::whole_seconds;
 pub use writing::encode;

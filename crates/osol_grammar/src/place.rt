@@ -14,6 +14,8 @@ pub(crate) enum Place {
     Osol,
     General,
     JobId,
+    Job,
+    MaxTime,
     Optimization,
     SolverOptions,
     SolverOption,
@@ -28,6 +30,8 @@ pub(crate) fn leads(place: Place, name: &[u8]) -> Led<Place>
         Place::Osol => {
             if name == b"general".as_slice() {
                 Led::To(Place::General)
+            } else if name == b"job".as_slice() {
+                Led::To(Place::Job)
             } else {
                 named(
                     name,
@@ -38,6 +42,7 @@ pub(crate) fn leads(place: Place, name: &[u8]) -> Led<Place>
             }
         }
         Place::General => named(name, b"jobID", Led::To(Place::JobId), Led::Over),
+        Place::Job => named(name, b"maxTime", Led::To(Place::MaxTime), Led::Over),
         Place::Optimization => named(
             name,
             b"solverOptions",
@@ -50,7 +55,7 @@ pub(crate) fn leads(place: Place, name: &[u8]) -> Led<Place>
             Led::To(Place::SolverOption),
             Led::Over,
         ),
-        Place::JobId | Place::SolverOption => Led::Over,
+        Place::JobId | Place::MaxTime | Place::SolverOption => Led::Over,
     }
 }
 
@@ -60,8 +65,9 @@ pub(crate) fn around(place: Place) -> Place
 {
     match place {
         Place::Outside | Place::Osol => Place::Outside,
-        Place::General | Place::Optimization => Place::Osol,
+        Place::General | Place::Job | Place::Optimization => Place::Osol,
         Place::JobId => Place::General,
+        Place::MaxTime => Place::Job,
         Place::SolverOptions => Place::Optimization,
         Place::SolverOption => Place::SolverOptions,
     }

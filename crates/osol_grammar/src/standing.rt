@@ -15,6 +15,7 @@ use crate::amounts::{amount_of, limit_of};
 use crate::fault::Refusal;
 use crate::options::Options;
 use crate::place::{Place, around, leads};
+use crate::times::{time_of, unit_of};
 use decimal_text::trim;
 use element_tree::Attributes;
 use os_io::{Memory, Text};
@@ -32,14 +33,16 @@ pub(crate) struct Refused {
 }
 
 /// What the marks so far leave: the element that is read and that they end in, how many elements are open in it that are
-/// passed over, how many start tags there are, the ordinal of the `jobID` (0 before it), the characters in it, and what is
-/// said.
+/// passed over, how many start tags there are, the ordinals of the `jobID` and of the `maxTime` (0 before each), the seconds of
+/// the latter's unit, the characters in the one that stands last, and what is said.
 #[derive(Drop)]
 pub(crate) struct Standing {
     pub place: Place,
     pub depth: u64,
     pub count: u64,
     pub job_at: u64,
+    pub time_at: u64,
+    pub unit: u32,
     pub text: Text,
     pub options: Options,
 }
@@ -64,6 +67,8 @@ impl Standing {
             depth: 0,
             count: 0,
             job_at: 0,
+            time_at: 0,
+            unit: 1,
             text: Text::new(alloc),
             options: Options::none(),
         }
@@ -98,7 +103,26 @@ impl Standing {
             return Err(self.refused(Refusal::JobTwice));
         }
         self.job_at = self.count + 1;
+        self.text.truncate(0);
         self.go(Place::JobId);
+        Ok(())
+    }
+
+    /// Goes past a start tag `maxTime`.
+    fn begin_time(&mut self, attributes: &Attributes<'_>) -> Result<(), Stop<Refused>>
+        requires { self.old.count + 1 < 2 ^ 64 }
+        ensures { StepsAs by_kinds self.old (begins (leading.To places.MaxTime) attributes.now) self.new result }
+    {
+        if self.time_at > 0 {
+            return Err(self.refused(Refusal::TimeTwice));
+        }
+        let Some(unit) = unit_of(attributes) else {
+            return Err(self.refused(Refusal::BadUnit));
+        };
+        self.time_at = self.count + 1;
+        self.unit = unit;
+        self.text.truncate(0);
+        self.go(Place::MaxTime);
         Ok(())
     }
 
@@ -138,10 +162,12 @@ impl Standing {
         match led {
             Led::To(place) => match place {
                 Place::JobId => self.begin_job(attributes),
+                Place::MaxTime => self.begin_time(attributes),
                 Place::SolverOption => self.begin_option(attributes),
                 Place::Outside
                 | Place::Osol
                 | Place::General
+                | Place::Job
                 | Place::Optimization
                 | Place::SolverOptions => {
                     self.go(place);
@@ -153,11 +179,11 @@ impl Standing {
         }
     }
 
-    /// Whether characters are those of the job's name.
-    fn is_in_job(&self) -> bool
+    /// Whether characters are kept.
+    fn keeps_text(&self) -> bool
         ensures { result ≡ keeps_in table.is_text self.now.depth self.now.place }
     {
-        self.depth == 0 && self.place == Place::JobId
+        self.depth == 0 && (self.place == Place::JobId || self.place == Place::MaxTime)
     }
 
     /// Goes past an end tag `jobID`.
@@ -177,15 +203,32 @@ impl Standing {
         Ok(())
     }
 
+    /// Goes past an end tag `maxTime`.
+    fn end_time(&mut self) -> Result<(), Stop<Refused>>
+        ensures { StepsAs by_kinds self.old (ends places.MaxTime) self.new result }
+    {
+        let Some(seconds) = time_of(self.text.as_slice(), self.unit) else {
+            return Err(Stop::Refused(Refused {
+                refusal: Refusal::BadTime,
+                at: self.time_at,
+            }));
+        };
+        self.options.seconds = Some(seconds);
+        self.place = Place::Job;
+        Ok(())
+    }
+
     /// Goes past an end tag of such an element.
     fn end(&mut self, alloc: Global, place: Place) -> Result<(), Stop<Refused>>
         ensures { StepsAs by_kinds self.old (ends place) self.new result }
     {
         match place {
             Place::JobId => self.end_job(alloc),
+            Place::MaxTime => self.end_time(),
             Place::Outside
             | Place::Osol
             | Place::General
+            | Place::Job
             | Place::Optimization
             | Place::SolverOptions
             | Place::SolverOption => {
@@ -228,7 +271,7 @@ impl MarkReader<Refused> for Standing {
     }
 
     fn chars(&mut self, _alloc: Global, text: &[u8]) -> Result<(), Stop<Refused>> {
-        if !self.is_in_job() {
+        if !self.keeps_text() {
             return Ok(());
         }
         self.text.extend(text)?;

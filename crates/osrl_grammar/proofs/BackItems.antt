@@ -1,5 +1,5 @@
 -- Written items are read as what they say.
-use Rattle.osrl_grammar.proofs.Names.{◌≡◌, ◌∙◌, ℕ, ◌^◌, ◌<◌, true, Option, List, [], ◌∷◌, ◌++◌, map, refl, ap, sym, subst, arith, append-nil, codes, decimal, flat_map, signed_decimal, All, AllZip, All-head, All-tail, ratio, Frac, ratio_text, Mult, Node, Step, IsFree, pieces, Pair, step_text, node_word, IsMultOf, IsMult, IsOne, IsPlace, IsFraction, SaysNode, tree_head, SaysTree, BeginsWithWord, IsTreeItem, Round, round_word, round_head, SaysRound, IsRound, IsCause, round_text, level_text, mult_text, node_text, cause_text, fraction_texts, HaveColumns, NodeComesBack, RoundComesBack, CauseComesBack}
+use Rattle.osrl_grammar.proofs.Names.{◌≡◌, ◌∙◌, ℕ, ◌^◌, ◌<◌, true, Option, List, [], ◌∷◌, ◌++◌, map, refl, ap, sym, subst, arith, append-nil, codes, decimal, flat_map, signed_decimal, All, AllZip, All-head, All-tail, ratio, Frac, ratio_text, Mult, Node, Step, IsFree, pieces, Pair, step_text, node_word, IsMultOf, IsMult, IsOne, IsOneFraction, IsPlace, IsFraction, SaysNode, tree_head, SaysTree, BeginsWithWord, IsTreeItem, Round, round_word, round_head, SaysRound, IsRound, IsCause, round_text, level_text, mult_text, node_text, cause_text, fraction_texts, HaveColumns, NodeComesBack, RoundComesBack, CauseComesBack}
 use Rattle.certificate.specs.declared.nodes.Node.TheVariants as nodes
 use Rattle.certificate.specs.declared.nodes.Round.TheVariants as rounds
 use Rattle.osrl_grammar.specs.declared.parts.TreeItem.TheVariants as trees
@@ -52,6 +52,7 @@ pub cause_back : (c : why.Cause) → CauseComesBack c → IsCause (cause_text c)
 cause_back causes.Killed back = (refl, refl)
 cause_back (causes.NodeLimit n) back = (refl, subst (λ (l : List (List ℕ)). IsOne l n) (sym (pieces_free (decimal n) (decimal_spaceless n))) (index_back n back))
 cause_back (causes.TurnLimit n) back = (refl, subst (λ (l : List (List ℕ)). IsOne l n) (sym (pieces_free (decimal n) (decimal_spaceless n))) (index_back n back))
+cause_back (causes.TimeLimit x) back = (refl, subst (λ (l : List (List ℕ)). IsOneFraction l x) (sym (pieces_free (ratio_text (ratio x)) (ratio_spaceless (ratio x)))) (fraction_back x))
 cause_back (causes.Wide p) back =
     let last = ap (λ (l : List (List ℕ)). decimal p.turn ∷ l) (pieces_free (step_text p.step) (step_spaceless p.step)) in
     let turn = pieces_cut (decimal p.turn) (step_text p.step) (decimal_spaceless p.turn) ∙ last in

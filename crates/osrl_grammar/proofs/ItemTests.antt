@@ -1,5 +1,5 @@
 -- What is read of an item, and when it is one.
-use Rattle.osrl_grammar.proofs.Names.{◌≡◌, ◌∙◌, inr, ℕ, ◌+◌, Bool, false, length, pos, Option, None, Some, Result, Ok, Err, List, [], ◌∷◌, ◌++◌, refl, ap, sym, subst, AllZip, option_map, whole, ratio, Frac, Mult, Node, Step, Held, Part, Point, Value, Ray, Misread, NoShape, NoNumber, TooGreat, Index, Turn, Whole, Exact, Field, pieces, Pair, parted, worded, field, step_text, all_steps, node_word, all_node_words, cause_word, all_cause_words, pair_fields, mult_fields, mults_fields, no_field, one_field, place_fields, node_behind, cause_behind, item_fields, ReadsTexts, IsFraction, IsMult, IsMultOf, IsOne, IsPlace, node_head, SaysNode, cause_head, SaysCause, Round, round_head, SaysRound, TreeItem, tree_head, SaysTree, IsOutOfOrder, next_level, round_word, all_round_words, round_behind, IsItemRead, AddsItem, IfOk-weaker}
+use Rattle.osrl_grammar.proofs.Names.{◌≡◌, ◌∙◌, inr, ℕ, ◌+◌, Bool, false, length, pos, Option, None, Some, Result, Ok, Err, List, [], ◌∷◌, ◌++◌, refl, ap, sym, subst, AllZip, option_map, whole, ratio, Frac, Mult, Node, Step, Held, Part, Point, Value, Ray, Misread, NoShape, NoNumber, TooGreat, Index, Turn, Whole, Exact, Field, pieces, Pair, parted, worded, field, step_text, all_steps, node_word, all_node_words, cause_word, all_cause_words, pair_fields, mult_fields, mults_fields, no_field, one_field, place_fields, node_behind, cause_behind, item_fields, ReadsTexts, IsFraction, IsMult, IsMultOf, IsOne, IsOneFraction, IsPlace, node_head, SaysNode, cause_head, SaysCause, Round, round_head, SaysRound, TreeItem, tree_head, SaysTree, IsOutOfOrder, next_level, round_word, all_round_words, round_behind, IsItemRead, AddsItem, IfOk-weaker}
 use Rattle.certificate.specs.declared.nodes.Node.TheVariants as nodes
 use Rattle.certificate.specs.declared.nodes.Round.TheVariants as rounds
 use Rattle.osrl_grammar.specs.declared.parts.TreeItem.TheVariants as trees
@@ -30,6 +30,11 @@ one_pass : (ps : List (List ℕ)) (n : ℕ) → IsOne ps n → Pass (one_field I
 one_pass [] n h = absurd h
 one_pass (t ∷ []) n h = number_pass Index t (whole (pos n)) h
 one_pass (t ∷ s ∷ ps) n h = absurd h
+
+fraction_pass : (ps : List (List ℕ)) (x : Frac) → IsOneFraction ps x → Pass (one_field Exact ps)
+fraction_pass [] x h = absurd h
+fraction_pass (t ∷ []) x h = number_pass Exact t (ratio x) h
+fraction_pass (t ∷ s ∷ ps) x h = absurd h
 
 place_pass : (ps : List (List ℕ)) (p : Place) → IsPlace ps p → Pass (place_fields ps)
 place_pass [] p h = absurd h
@@ -72,6 +77,7 @@ cause_pass : (c : why.Cause) (ps : List (List ℕ)) → SaysCause c ps → Pass 
 cause_pass causes.Killed ps h = none_pass ps h
 cause_pass (causes.NodeLimit n) ps h = one_pass ps n h
 cause_pass (causes.TurnLimit n) ps h = one_pass ps n h
+cause_pass (causes.TimeLimit x) ps h = fraction_pass ps x h
 cause_pass (causes.Wide p) ps h = place_pass ps p h
 cause_pass causes.Length ps h = none_pass ps h
 cause_pass causes.Memory ps h = none_pass ps h

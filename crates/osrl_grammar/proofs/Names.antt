@@ -51,7 +51,7 @@ pub use Rattle.osrl_grammar.specs.Saying.{bad_item, cert, certs, claim_as, has, 
 pub use Rattle.osrl_grammar.specs.Standing.{State, emptied, nothing_held, start}
 pub use Rattle.osrl_grammar.specs.Stepping.{EndsAt}
 pub use Rattle.osrl_grammar.specs.Table.{around, item_refusal, kind, leads, refusal_of, tests, told}
-pub use Rattle.osrl_grammar.specs.Values.{BeginsWithWord, IsCause, IsFraction, IsMult, IsMultOf, IsOne, IsOutOfOrder, IsPlace, IsRound, IsTreeItem, SaysCause, SaysNode, SaysRound, SaysTree, cause_head, node_head, round_head, tree_head}
+pub use Rattle.osrl_grammar.specs.Values.{BeginsWithWord, IsCause, IsFraction, IsMult, IsMultOf, IsOne, IsOneFraction, IsOutOfOrder, IsPlace, IsRound, IsTreeItem, SaysCause, SaysNode, SaysRound, SaysTree, cause_head, node_head, round_head, tree_head}
 pub use Rattle.osrl_grammar.specs.Words.{worded}
 pub use Rattle.osrl_writing.specs.Words.{claiming_text, part_name, status_text}
 pub use Rattle.osrl_writing.specs.Labels.{AreXmlLabels, AreXmlNames, Labels, name_at, no_names}

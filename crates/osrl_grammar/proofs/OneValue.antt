@@ -1,5 +1,5 @@
 -- An item's text says one number, one node or one cause.
-use Rattle.osrl_grammar.proofs.Names.{◌≡◌, ◌∙◌, ap, ap₂, sym, refl, ℕ, ℤ, pos, Option, None, Some, List, [], ◌∷◌, AllZip, Ratio, whole, ratio, Frac, ratio_once, Mult, Node, Step, Index, Turn, Whole, IsNumberText, pieces, Pair, parted, node_word, all_node_words, node_behind, cause_word, all_cause_words, cause_behind, IsFraction, IsMultOf, IsMult, IsOne, IsPlace, node_head, SaysNode, TreeItem, tree_head, SaysTree, IsTreeItem, Round, round_word, all_round_words, round_behind, round_head, SaysRound, IsRound, cause_head, SaysCause, IsCause}
+use Rattle.osrl_grammar.proofs.Names.{◌≡◌, ◌∙◌, ap, ap₂, sym, refl, ℕ, ℤ, pos, Option, None, Some, List, [], ◌∷◌, AllZip, Ratio, whole, ratio, Frac, ratio_once, Mult, Node, Step, Index, Turn, Whole, IsNumberText, pieces, Pair, parted, node_word, all_node_words, node_behind, cause_word, all_cause_words, cause_behind, IsFraction, IsMultOf, IsMult, IsOne, IsOneFraction, IsPlace, node_head, SaysNode, TreeItem, tree_head, SaysTree, IsTreeItem, Round, round_word, all_round_words, round_behind, round_head, SaysRound, IsRound, cause_head, SaysCause, IsCause}
 use Rattle.fraction.proofs.Equality.{one_fraction}
 use Rattle.certificate.specs.declared.nodes.Node.TheVariants as nodes
 use Rattle.certificate.specs.declared.nodes.Round.TheVariants as rounds
@@ -102,10 +102,16 @@ place_once (n ∷ t ∷ []) p q h g = absurd h
 place_once (n ∷ t ∷ s ∷ []) p q h g = same_place p q (count_once Index n p.node q.node h.0 g.0) (count_once Turn t p.turn q.turn h.1 g.1) (one_step p.step q.step (sym h.2 ∙ g.2))
 place_once (n ∷ t ∷ s ∷ r ∷ ps) p q h g = absurd h
 
+one_fraction_once : (ps : List (List ℕ)) (x y : Frac) → IsOneFraction ps x → IsOneFraction ps y → x ≡ y
+one_fraction_once [] x y h g = absurd h
+one_fraction_once (t ∷ []) x y h g = fraction_once t x y h g
+one_fraction_once (t ∷ s ∷ ps) x y h g = absurd h
+
 cause_once : (a b : why.Cause) (ps : List (List ℕ)) → cause_head a ≡ cause_head b → SaysCause a ps → SaysCause b ps → a ≡ b
 cause_once causes.Killed causes.Killed ps e h g = refl
 cause_once (causes.NodeLimit n) (causes.NodeLimit m) ps e h g = ap (λ (x : ℕ). causes.NodeLimit x) (index_once ps n m h g)
 cause_once (causes.TurnLimit n) (causes.TurnLimit m) ps e h g = ap (λ (x : ℕ). causes.TurnLimit x) (index_once ps n m h g)
+cause_once (causes.TimeLimit x) (causes.TimeLimit y) ps e h g = ap (λ (z : Frac). causes.TimeLimit z) (one_fraction_once ps x y h g)
 cause_once (causes.Wide p) (causes.Wide q) ps e h g = ap (λ (x : Place). causes.Wide x) (place_once ps p q h g)
 cause_once causes.Length causes.Length ps e h g = refl
 cause_once causes.Memory causes.Memory ps e h g = refl

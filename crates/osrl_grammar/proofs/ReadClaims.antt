@@ -49,15 +49,21 @@ module _ (ground : TextsAreOfCharacters) where
   pub text_fits : (bytes : List ℕ) (r : Report) (text : IsReportText bytes r) → ReportFits (elements_in text.root.children) r
   text_fits bytes r text = root_fits ground text.root r (ground.root bytes text.root text.document.document) text.is
 
+  claim_fits : (bytes : List ℕ) (r : Report) (c : Claim) (text : IsReportText bytes r) → r.claim ≡ Some c → ClaimFits (elements_in text.root.children) (Some c)
+  claim_fits bytes r c text is = subst (ClaimFits (elements_in text.root.children)) is (text_fits bytes r text).claim
+
   pub read_claim_fits : (bytes : List ℕ) (r : Report) (c : Claim) → IsReportText bytes r → r.claim ≡ Some c → (length (nodes_of c) < length bytes) × All IsInRange (nodes_of c)
   read_claim_fits bytes r c text is =
-      let fits : ClaimFits (elements_in text.root.children) (Some c) = subst (ClaimFits (elements_in text.root.children)) is (text_fits bytes r text).claim in
+      let fits = claim_fits bytes r c text is in
       let few = fits.0 in
       let more = fewer_elements bytes text.root text.document.document in
       (omega (arith, few, more), claim_range c fits.2)
 
   pub read_rounds_fit : (bytes : List ℕ) (r : Report) (c : Claim) → IsReportText bytes r → r.claim ≡ Some c → All (λ (d : Cert). length d.rounds < length bytes) (certs_of c)
   read_rounds_fit bytes r c text is =
-      let fits : ClaimFits (elements_in text.root.children) (Some c) = subst (ClaimFits (elements_in text.root.children)) is (text_fits bytes r text).claim in
+      let fits = claim_fits bytes r c text is in
       let more = fewer_elements bytes text.root text.document.document in
       All-weaker (HasFew (elements_in text.root.children)) (λ (d : Cert). length d.rounds < length bytes) (λ (d : Cert) few. omega (arith, few, more)) (certs_of c) fits.1
+
+  pub read_claim_back : (bytes : List ℕ) (r : Report) (c : Claim) → IsReportText bytes r → r.claim ≡ Some c → ClaimComesBack (Some c)
+  read_claim_back bytes r c text is = (claim_fits bytes r c text is).2

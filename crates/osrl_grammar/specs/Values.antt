@@ -48,6 +48,11 @@ abbrev pub IsOne : List (List ℕ) → ℕ → Type 0
 IsOne (t ∷ []) n = IsIndex t n
 IsOne ps n = ⊥
 
+-- one piece that is a number
+abbrev pub IsOneFraction : List (List ℕ) → Frac → Type 0
+IsOneFraction (t ∷ []) x = IsFraction t x
+IsOneFraction ps x = ⊥
+
 abbrev pub IsPlace : List (List ℕ) → Place → Type 0
 IsPlace (n ∷ t ∷ s ∷ []) p = IsIndex n p.node × IsTurn t p.turn × (s ≡ step_text p.step)
 IsPlace ps p = ⊥
@@ -104,6 +109,7 @@ abbrev pub cause_head : why.Cause → CauseWord
 cause_head causes.Killed = reasons.Killed
 cause_head (causes.NodeLimit n) = reasons.NodeLimit
 cause_head (causes.TurnLimit n) = reasons.TurnLimit
+cause_head (causes.TimeLimit x) = reasons.TimeLimit
 cause_head (causes.Wide p) = reasons.Wide
 cause_head causes.Length = reasons.Length
 cause_head causes.Memory = reasons.Memory
@@ -111,6 +117,7 @@ cause_head causes.Memory = reasons.Memory
 abbrev pub SaysCause : why.Cause → List (List ℕ) → Type 0
 SaysCause (causes.NodeLimit n) ps = IsOne ps n
 SaysCause (causes.TurnLimit n) ps = IsOne ps n
+SaysCause (causes.TimeLimit x) ps = IsOneFraction ps x
 SaysCause (causes.Wide p) ps = IsPlace ps p
 SaysCause c ps = ps ≡ []
 

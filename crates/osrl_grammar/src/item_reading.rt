@@ -8,11 +8,11 @@ ghost use Rattle.osrl_grammar.specs.declared.parts.NodeWord as kinds;
 ghost use Rattle.osrl_grammar.specs.declared.parts.NodeWord.TheVariants as heads;
 ghost use Rattle.osrl_grammar.specs.declared.parts.RoundWord.TheVariants as turns;
 ghost use Rattle.osrl_grammar.specs.Words.{worded};
-ghost use Rattle.osrl_grammar.specs.Numbers.{Index, Field, IsBad, IsTooGreat};
+ghost use Rattle.osrl_grammar.specs.Numbers.{Index, Exact, Field, IsBad, IsTooGreat};
 ghost use Rattle.osrl_grammar.specs.Pieces.{more, pieces};
 ghost use Rattle.osrl_grammar.specs.Items as items;
 ghost use Rattle.osrl_grammar.specs.Items.{ReadsTexts, pair_fields, mults_fields, grid_fields};
-ghost use Rattle.osrl_grammar.specs.Values.{IsMult, IsMultOf, IsOne, SaysSteps, IsPlace, IsSaidBehind, node_head, SaysNode, tree_head, SaysTree, IsTreeItem, round_head, SaysRound, IsRound, IsLevelBut, cause_head, SaysCause, IsCause};
+ghost use Rattle.osrl_grammar.specs.Values.{IsMult, IsMultOf, IsOne, IsOneFraction, SaysSteps, IsPlace, IsSaidBehind, node_head, SaysNode, tree_head, SaysTree, IsTreeItem, round_head, SaysRound, IsRound, IsLevelBut, cause_head, SaysCause, IsCause};
 ghost use Rattle.osrl_grammar.specs.Stepping.{ReadMults, gridded};
 
 use crate::numbers::{read_exact, read_index, read_turn, read_whole};
@@ -93,6 +93,19 @@ fn read_one(rest: Option<&[u8]>) -> Result<u32, Misread>
     };
     match read_index(text) {
         Ok(n) => Ok(n),
+        Err(unread) => Err(misread(unread)),
+    }
+}
+
+/// A time that stands alone, in seconds.
+fn read_time(rest: Option<&[u8]>) -> Result<Frac, Misread>
+    ensures { ReadsTexts (items.one_field Exact (more rest.entry)) result (IsOneFraction (more rest.entry)) }
+{
+    let Some(text) = one_piece(rest) else {
+        return Err(Misread::NoShape);
+    };
+    match read_exact(text) {
+        Ok(seconds) => Ok(seconds),
         Err(unread) => Err(misread(unread)),
     }
 }
@@ -480,6 +493,10 @@ fn cause_of(word: CauseWord, rest: Option<&[u8]>) -> Result<Cause, Misread>
             Ok(n) => Ok(Cause::TurnLimit(n)),
             Err(misread) => Err(misread),
         },
+        CauseWord::TimeLimit => match read_time(rest) {
+            Ok(seconds) => Ok(Cause::TimeLimit(seconds)),
+            Err(misread) => Err(misread),
+        },
         CauseWord::Wide => match read_place(rest) {
             Ok(place) => Ok(Cause::Wide(place)),
             Err(misread) => Err(misread),
@@ -488,10 +505,11 @@ fn cause_of(word: CauseWord, rest: Option<&[u8]>) -> Result<Cause, Misread>
 }
 
 /// The words of causes.
-const CAUSE_WORDS: [CauseWord; 6] = [
+const CAUSE_WORDS: [CauseWord; 7] = [
     CauseWord::Killed,
     CauseWord::NodeLimit,
     CauseWord::TurnLimit,
+    CauseWord::TimeLimit,
     CauseWord::Wide,
     CauseWord::Length,
     CauseWord::Memory,

@@ -10,6 +10,7 @@ ghost use Rattle.tag_tests.specs.Firsts.{IsFirstDecided};
 ghost use Rattle.osrl_writing.specs.declared.report.Report.{Report};
 ghost use Rattle.osrl_grammar.specs.declared.fault.OsrlFault.{OsrlFault};
 ghost use Rattle.osrl_grammar.specs.declared.fault.OsrlFault.TheVariants.{Memory};
+ghost use Rattle.osrl_grammar.specs.Back.{ClaimComesBack};
 ghost use Rattle.osrl_grammar.specs.Order.{number};
 ghost use Rattle.osrl_grammar.specs.Standing.{start};
 ghost use Rattle.osrl_grammar.specs.Marked.{osrl, marks, IsReport, IsRefused};
@@ -42,10 +43,11 @@ pub fn first_and_least_is_told()
 {}
 
 /// Law: a claim that is read has fewer nodes than its document has bytes, each of its certificates has fewer rounds, and each
-/// split is at a number of at least -(2^127 - 1).
+/// split is at a number of at least -(2^127 - 1). Such a claim can be written and read again.
 pub fn read_claims_fit()
     ensures nodes { (bytes : List ℕ) (r : Report) (c : Claim) → IsReportText bytes r → r.claim ≡ Some c → (length (nodes_of c) < length bytes) × All IsInRange (nodes_of c) }
     ensures rounds { (bytes : List ℕ) (r : Report) (c : Claim) → IsReportText bytes r → r.claim ≡ Some c → All (λ (cert : Cert). length cert.rounds < length bytes) (certs_of c) }
+    ensures back { (bytes : List ℕ) (r : Report) (c : Claim) → IsReportText bytes r → r.claim ≡ Some c → ClaimComesBack (Some c) }
 {
     texts_are_of_characters();
 }

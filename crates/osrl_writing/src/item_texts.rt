@@ -106,6 +106,15 @@ fn counted_text(alloc: Global, word: &[u8], n: u32) -> Result<Text, Memory>
     Ok(text)
 }
 
+/// The text of a time that was over, in seconds.
+fn time_text(alloc: Global, seconds: Frac) -> Result<Text, Memory>
+    ensures { IfOk result (λ t. t ≡ writing.cause_text (causes.TimeLimit seconds)) }
+{
+    let mut text = Text::from_slice(alloc, b"timeLimit ")?;
+    write_ratio(seconds, &mut text)?;
+    Ok(text)
+}
+
 /// The text of the place where a number was too wide.
 fn wide_text(alloc: Global, place: Place) -> Result<Text, Memory>
     ensures { IfOk result (λ t. t ≡ writing.cause_text (causes.Wide place)) }
@@ -126,6 +135,7 @@ pub(crate) fn cause_text(alloc: Global, cause: Cause) -> Result<Text, Memory>
         Cause::Killed => Text::from_slice(alloc, b"killed"),
         Cause::NodeLimit(n) => counted_text(alloc, b"nodeLimit ", n),
         Cause::TurnLimit(n) => counted_text(alloc, b"turnLimit ", n),
+        Cause::TimeLimit(seconds) => time_text(alloc, seconds),
         Cause::Wide(place) => wide_text(alloc, place),
         Cause::Length => Text::from_slice(alloc, b"length"),
         Cause::Memory => Text::from_slice(alloc, b"memory"),

@@ -1,12 +1,13 @@
 -- What the nodes of a level show, with trees for the cases still open.
-use Rattle.std.proofs.Common.{◌≡◌, ℕ, ◌+◌, ◌<◌, ℤ, pos, neg_ℤ, ◌*ℤ◌, Option, None, Some, List, [], ◌∷◌, ◌++◌, map, append_assoc, append-nil, arith, refl, sym, ◌∙◌, ap, subst}
+use Rattle.std.proofs.Common.{◌≡◌, inl, ℕ, ◌+◌, ◌<◌, ℤ, pos, neg_ℤ, ◌+ℤ◌, ◌*ℤ◌, Option, None, Some, List, [], ◌∷◌, ◌++◌, map, append_assoc, append-nil, arith, refl, sym, ◌∙◌, ap, subst}
 use Rattle.std.proofs.lemmas.Int.{ints}
 use Rattle.rational.specs.Ratio.{Ratio, IsSame, IsBelow, IsNumber, IsAtMost}
 use Rattle.rational.proofs.Integers.{more-times, most-from_times, neg-times}
 use Rattle.rational.proofs.Scaling.{times_swap}
 use Rattle.evidence.specs.Instance.{Instance, Sense, Minimum, Maximum, width, height, column_at, minimising, minimising_by}
-use Rattle.evidence.specs.Cases.{Multiplier, Clash, Farkas, Bound, Zero, Node, ClashAt, FarkasBy, BoundBy, SplitAt, ZeroAt, preorder, IsEmpty, IsFarkas, IsBound, IsBranch, IsZeroBranch, low_sum}
+use Rattle.evidence.specs.Cases.{Multiplier, Clash, Farkas, Bound, Zero, Node, ClashAt, FarkasBy, BoundBy, SplitAt, ZeroAt, preorder, IsEmpty, IsFarkas, IsBound, IsBranch, IsZeroBranch, low_sum, at_most, high_case}
 use Rattle.evidence.specs.PendingNodes.{anything, ProvesAll as AllProve}
+use Rattle.evidence.proofs.RowBranches.{low_variable, high_variable}
 use Rattle.evidence.proofs.PendingNodes.{split_back}
 use Rattle.search_rules.specs.Branching.{Case, split_cases, divided_cases}
 use Rattle.search_rules.specs.Search.{Found, Level, undivided, reached}
@@ -58,7 +59,11 @@ bound_first C rest ms b w after n h le o =
     (Bound ms, after, refl, record { legal = h.legal; costs = h.costs; reaches = at_most-trans w b (low_sum J (minimising J J.goal.constant) ms) n le h.reaches }, tt, o)
 
 pub split_first : (C : Case) (rest : List Case) (j : ℕ) (k : ℤ) (after : List Node) (z : Option Ratio) → IsBranch C.program j k → ProvesAll (split_cases C j k rest) after z → ProvesAll (C ∷ rest) (SplitAt j k ∷ after) z
-split_first C rest j k after z br s = split_back anything C.program (programs rest) z after j k (λ a b v w. tt) br s
+split_first C rest j k after z br s =
+    let I = C.program in
+    split_back anything I (programs rest) z after j k (λ a b v w. tt) (inl br)
+    (subst (λ J. AllProve (J ∷ high_case I j (k +ℤ pos 1) ∷ programs rest) after z) (sym (low_variable I j k br.variable))
+    (subst (λ J. AllProve (at_most I j k ∷ J ∷ programs rest) after z) (sym (high_variable I j (k +ℤ pos 1) br.variable)) s))
 
 pub zero_first : (C : Case) (rest : List Case) (j : ℕ) (after : List Node) (z : Option Ratio) → IsZeroBranch C.program j → ProvesAll (divided_cases C j rest) after z → ProvesAll (C ∷ rest) (ZeroAt j ∷ after) z
 zero_first C rest j after z br (a, ra, ea, sa, wa, (b, rb, eb, sb, wb, o)) =

@@ -24,6 +24,7 @@ use server_threads::{ServeFault, ServeLimits, serve_loop};
 use std::alloc::Global;
 use std::sync::Wait;
 use std::thread::Threads;
+use std::time::Clock;
 use workers::work_closing_shift;
 
 /// How serving ended whose links all came and whose lines were written, so many links ending for want of memory.
@@ -88,7 +89,7 @@ fn tell_end<O: Sink>(output: &mut O, served: Result<u64, ServeFault>, given: u64
 ///
 /// Workers and links have threads of their own. A worker that can't be started is missing; a link whose thread can't be
 /// started is served by the thread that accepts. `docs/rules/desk.md` and `docs/rules/conversations.md` have the rules.
-pub fn serve<N: Listener, O: Sink, R: Threads + Wait + Sync>(
+pub fn serve<N: Listener, O: Sink, R: Threads + Wait + Clock + Sync>(
     rt: &R,
     alloc: Global,
     net: &mut N,
@@ -115,15 +116,16 @@ where
     first_finish_is_kept::<SolvedJobs>();
     numbers_are_given_once::<SolvedJobs>();
     shown_documents_are_proved();
-    let service = Conversations(&Solver);
+    let solver = Solver::new(rt);
+    let service = Conversations(&solver);
     let (mut seat, served) = serve_loop(rt, alloc, &desk, seat, net, &service, setup.limits);
-    work_closing_shift(rt, alloc, &desk, &mut seat, &Solver);
+    work_closing_shift(rt, alloc, &desk, &mut seat, &solver);
     let given = desk.close(seat).issued();
     tell_end(output, served, given)
 }
 
 /// Serves links by moves of a new desk over a journal, closes it, says how many numbers were given, and gives the disk back.
-fn serve_over<N: Listener, O: Sink, D: Disk + Drop + Send + Sync, R: Threads + Wait + Sync>(
+fn serve_over<N: Listener, O: Sink, D: Disk + Drop + Send + Sync, R: Threads + Wait + Clock + Sync>(
     rt: &R,
     alloc: Global,
     desk: StoredDesk<SolvedJobs, Journal<D>>,
@@ -145,9 +147,10 @@ where
     first_finish_is_kept::<SolvedJobs>();
     numbers_are_given_once::<SolvedJobs>();
     shown_documents_are_proved_from_tables();
-    let service = Conversations(&Solver);
+    let solver = Solver::new(rt);
+    let service = Conversations(&solver);
     let (mut first, served) = serve_loop(rt, alloc, &desk, first, net, &service, setup.limits);
-    work_closing_shift(rt, alloc, &desk, &mut first, &Solver);
+    work_closing_shift(rt, alloc, &desk, &mut first, &solver);
     let (table, journal) = desk.close_stored(first);
     let given = table.issued();
     let ending = tell_end(output, served, given);
@@ -156,7 +159,12 @@ where
 
 /// Serves as [`serve`] does, over a table whose effects this journal keeps, and gives the disk back, however it ended. Numbers begin
 /// as the table's do, whatever the setup says.
-pub fn serve_stored<N: Listener, O: Sink, D: Disk + Drop + Send + Sync, R: Threads + Wait + Sync>(
+pub fn serve_stored<
+    N: Listener,
+    O: Sink,
+    D: Disk + Drop + Send + Sync,
+    R: Threads + Wait + Clock + Sync,
+>(
     rt: &R,
     alloc: Global,
     net: &mut N,

@@ -13,9 +13,10 @@ use os_io::{Sink, Source};
 use os_server::{Served, serve_ends};
 use std::alloc::Global;
 use std::sync::Wait;
+use std::time::Clock;
 
 /// Serves the conversation by moves of this seat, whatever lies in its desk's slot.
-pub(crate) fn serve_by_seat<I: Source, O: Sink, T: Slotted<SolvedJobs>, R: Wait>(
+pub(crate) fn serve_by_seat<I: Source, O: Sink, T: Slotted<SolvedJobs>, R: Wait + Clock>(
     rt: &R,
     alloc: Global,
     desk: &DeskOf<SolvedJobs, T>,
@@ -30,7 +31,7 @@ pub(crate) fn serve_by_seat<I: Source, O: Sink, T: Slotted<SolvedJobs>, R: Wait>
     ensures input_of_output { SameInput (O.tells output.old) (O.tells output.new) }
 {
     let mut mover = LentSeatOf { rt, desk, seat };
-    let served = serve_ends(alloc, input, output, &mut mover, &Solver);
+    let served = serve_ends(alloc, input, output, &mut mover, &Solver::new(rt));
     let LentSeatOf {
         rt: _,
         desk: _,

@@ -13,9 +13,10 @@ use os_io::{Sink, Source};
 use os_server::{Served, conversations_are_kept, turn_away};
 use std::alloc::Global;
 use std::sync::Wait;
+use std::time::Clock;
 
 /// Serves the conversation by moves of a new desk, which is closed behind it.
-fn serve_alone<I: Source, O: Sink, R: Wait>(
+fn serve_alone<I: Source, O: Sink, R: Wait + Clock>(
     rt: &R,
     alloc: Global,
     desk: Desk<SolvedJobs>,
@@ -37,7 +38,7 @@ fn serve_alone<I: Source, O: Sink, R: Wait>(
 
 /// Serves a session: the requests that come on an input, with the answers on an output, by moves of a desk of its own, whose
 /// numbers begin with 1. Where there is no memory for one, 503 is answered and nothing read.
-pub fn serve_session<I: Source, O: Sink, R: Wait>(
+pub fn serve_session<I: Source, O: Sink, R: Wait + Clock>(
     rt: &R,
     alloc: Global,
     input: &mut I,
@@ -47,10 +48,10 @@ pub fn serve_session<I: Source, O: Sink, R: Wait>(
     ensures output_of_input { SameOutput (I.tells input.old) (I.tells input.new) }
     ensures input_of_output { SameInput (O.tells output.old) (O.tells output.new) }
 {
-    conversations_are_kept::<SolvedJobs, Solver>();
+    conversations_are_kept::<SolvedJobs, Solver<'_, R>>();
     shown_documents_are_proved();
     match Desk::<SolvedJobs>::new(alloc, 1) {
         Ok((desk, seat)) => serve_alone(rt, alloc, desk, seat, input, output),
-        Err(_) => turn_away(input, output, &Solver),
+        Err(_) => turn_away(input, output, &Solver::new(rt)),
     }
 }

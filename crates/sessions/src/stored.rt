@@ -17,9 +17,10 @@ use os_io::{Sink, Source};
 use os_server::{Served, conversations_are_kept, turn_away};
 use std::alloc::Global;
 use std::sync::Wait;
+use std::time::Clock;
 
 /// Serves the conversation by moves of a new desk over a journal, which is closed behind it, and gives the disk back.
-fn serve_stored_alone<I: Source, O: Sink, D: Disk + Drop, R: Wait>(
+fn serve_stored_alone<I: Source, O: Sink, D: Disk + Drop, R: Wait + Clock>(
     rt: &R,
     alloc: Global,
     desk: StoredDesk<SolvedJobs, Journal<D>>,
@@ -40,7 +41,7 @@ fn serve_stored_alone<I: Source, O: Sink, D: Disk + Drop, R: Wait>(
 
 /// Serves a session by moves of a table whose effects a journal keeps, and gives the disk back. Where there is no memory for one, 503
 /// is answered and nothing read.
-pub fn serve_stored_session<I: Source, O: Sink, D: Disk + Drop, R: Wait>(
+pub fn serve_stored_session<I: Source, O: Sink, D: Disk + Drop, R: Wait + Clock>(
     rt: &R,
     alloc: Global,
     table: Table<SolvedJobs>,
@@ -55,12 +56,12 @@ pub fn serve_stored_session<I: Source, O: Sink, D: Disk + Drop, R: Wait>(
     ensures output_of_input { SameOutput (I.tells input.old) (I.tells input.new) }
     ensures input_of_output { SameInput (O.tells output.old) (O.tells output.new) }
 {
-    conversations_are_kept::<SolvedJobs, Solver>();
+    conversations_are_kept::<SolvedJobs, Solver<'_, R>>();
     shown_documents_are_proved_from_tables();
     match StoredDesk::of(alloc, table, journal) {
         Ok((desk, seat)) => serve_stored_alone(rt, alloc, desk, seat, input, output),
         Err((_, journal)) => {
-            let served = turn_away(input, output, &Solver);
+            let served = turn_away(input, output, &Solver::new(rt));
             (served, journal.into_disk())
         }
     }

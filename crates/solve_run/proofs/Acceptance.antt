@@ -1,7 +1,11 @@
 -- What a report claims is accepted, from the report's own text.
-use Rattle.std.proofs.Common.{◌≡◌, ◌∙◌, ℕ, ◌⊎◌, inl, inr, Bool, Option, None, Some, List, arith, refl, ap, sym, subst}
+use Rattle.std.proofs.Common.{◌≡◌, ◌∙◌, ℕ, ◌⊎◌, inl, inr, Bool, true, false, cond, Option, None, Some, List, length, arith, refl, ap, sym, subst}
+use Rattle.std.specs.Prelude.{nat_le}
+use Rattle.std.proofs.lemmas.Bool.{leb-true}
+use Rattle.document_tags.specs.Texts.{document_limit}
 use Rattle.evidence.specs.Instance.{Problem, IsProblem}
 use Rattle.evidence.specs.Claim.{Accepts}
+use Rattle.fraction.specs.declared.frac.Frac.{Frac}
 use Rattle.instance.specs.Parts.{Parts, IsValid}
 use Rattle.instance.specs.Program.{problem}
 use Rattle.certificate.specs.Meanings as Means
@@ -24,13 +28,19 @@ use Rattle.document_checker.specs.declared.documents.Kind.{Kind}
 use Rattle.document_checker.specs.Documents.{kind, IsAcceptedText}
 use Rattle.certificate.specs.GivenUp.{given_up}
 use Rattle.solve_run.specs.Judging.{IsShownClaim, HasFewRounds, IsFinal, IsJudged, checked}
-use Rattle.solve_run.specs.Closings.{error_report, claim_report, IsShort, IsFitted, IsToldOf}
-use Rattle.solve_run.specs.JobAnswers.{job_terms, Solved, IsJobOf, IsBestOfSearch, AnswersJob, no_options, no_instance, solved, gave_up}
+use Rattle.solve_run.specs.Closings.{error_report, claim_report, with_message, noted, IsShort, IsFitted, IsToldOf}
+use Rattle.solve_run.specs.Handing.{HandsInNone}
+use Rattle.solve_run.specs.JobAnswers.{TakesHanded, Solved, IsNoteOfJob, IsJobOf, IsBestOfSearch, AnswersJob, no_options, no_instance, handed, solved, gave_up}
+use Rattle.solve_run.specs.Untils.{job_terms, renamed}
 use Rattle.solve_run.proofs.Lengths.{IsShortName, unsure_short, error_short}
+use Rattle.solve_run.proofs.Texts.{noted_claim}
+use Rattle.solve_run.proofs.HandedMessages.{note_bare}
+use Rattle.solve_run.proofs.HandedClaims.{left_accepted, left_short}
+use Rattle.solve_run.proofs.Closings.{fitted_back}
 use Rattle.solve_run.proofs.InkedTexts.{IsMessage}
 use Rattle.solve_run.proofs.FaultMessages.{options_message, instance_message}
 use Rattle.solve_run.proofs.Names.{short_name, bare_name}
-use Rattle.solve_run.proofs.PartialClaims.{given_other, given_shown}
+use Rattle.solve_run.proofs.PartialClaims.{given_other, given_shown, renamed_shown}
 use Rattle.solve_run.proofs.ClaimNodes.{none_bounded}
 use Rattle.solve_run.proofs.WidthRefusals.{best_accepted}
 use Rattle.solve_run.proofs.RoundTrips.{shown_back, wanting_causes}
@@ -82,12 +92,19 @@ module _ (p : Parts) (job : Option (List ℕ)) (valid : IsValid p) (name : IsSho
       by None judged fitted = fitted_good found told s judged fitted
       by (Some n) judged fitted = let g = given_good found _ s in fitted_good (checked found turns (Some n)) told g.shown g.accepted fitted
 
+-- a claim that is taken, or what is told of it, is accepted, and not too long
+told_good : (p : Parts) (job : Option (List ℕ)) (c told : Claim) → IsValid p → IsShortName job → Accepts (problem p) (Means.claim c) → IsFitted job c told → ((k : Kind) → kind told ≡ Some k → Accepts (problem p) (Means.claim told)) × IsShort job told
+told_good p job c told valid name accepted (inl (short, same)) = (λ k says. subst (λ (d : Claim). Accepts (problem p) (Means.claim d)) (sym same) accepted, subst (IsShort job) (sym same) short)
+told_good p job c told valid name accepted (inr (long, same)) =
+    (λ k says. subst (λ (d : Claim). Accepts (problem p) (Means.claim d)) (sym same) (left_accepted (problem p) c causes.Length k accepted (ap kind (sym same) ∙ says)), subst (IsShort job) (sym same) (left_short p job valid name c causes.Length accepted))
+
 -- ---- reports
 
 module _ (names : (bytes : List ℕ) (o : Options) → IsOptionsText bytes o → IsNameOrNone o.job)
     (numbers : (p : Parts) → IsProblem (problem p))
     (shows : (P : Problem) (t : Terms) (o : Outcome) (c : Clock) → IsProblem P → IsSearchAnswer P t o c → IsShown P o)
-    (comes_back : (r : Report) → ComesBack r → IsReportText (report_text r) r) where
+    (comes_back : (r : Report) → ComesBack r → IsReportText (report_text r) r)
+    (read_back : (bytes : List ℕ) (r : Report) (c : Claim) → IsReportText bytes r → r.claim ≡ Some c → ClaimComesBack (Some c)) where
   -- a report of a good claim is read from its own text, and accepted
   record IsGoodReport (osil : List ℕ) (r : Report) : Type 0 where
     pub job : Option (List ℕ)
@@ -96,13 +113,17 @@ module _ (names : (bytes : List ℕ) (o : Options) → IsOptionsText bytes o →
     pub instance_text : IsInstanceText osil parts
     pub claim : Claim
     pub back : ClaimComesBack (Some claim)
-    pub good : IsGood parts job claim
-    pub is : r ≡ claim_report job claim
+    pub accepted : (k : Kind) → kind claim ≡ Some k → Accepts (problem parts) (Means.claim claim)
+    pub short : IsShort job claim
+    pub note : Option (List ℕ)
+    pub note_bare : IsBareOrNone note
+    pub is : r ≡ noted note (claim_report job claim)
 
-  solved_good : (osil osol : List ℕ) (stop : Option ℕ) (looks : ℕ) (r : Report) → Solved osil osol stop looks r → IsGoodReport osil r
-  solved_good osil osol stop looks r s =
+  solved_good : (osil osol : List ℕ) (stop : Option ℕ) (timed : Option Frac) (looks : ℕ) (r : Report) → Solved osil osol stop timed looks r → IsGoodReport osil r
+  solved_good osil osol stop timed looks r s =
       let g = s.given in
       let shown = shows (problem g.parts) (job_terms g.options stop) s.outcome _ (numbers g.parts) (searched s.ends) in
+      let good = closed_good g.parts g.options.job g.valid (short_name g.options.job (names osol g.options g.options_text)) s.turns s.found s.told (record { outcome = renamed timed s.outcome; tells = s.tells; shown = renamed_shown (problem g.parts) timed s.outcome shown }) s.closed in
       record {
         job = g.options.job;
         bare = bare_name g.options.job (names osol g.options g.options_text);
@@ -110,20 +131,49 @@ module _ (names : (bytes : List ℕ) (o : Options) → IsOptionsText bytes o →
         instance_text = g.instance_text;
         claim = s.told;
         back = s.numbers;
-        good = closed_good g.parts g.options.job g.valid (short_name g.options.job (names osol g.options g.options_text)) s.turns s.found s.told (record { outcome = s.outcome; tells = s.tells; shown = shown }) s.closed;
+        accepted = λ k says. accepts_of g.parts s.told k good.shown good.accepted says;
+        short = good.short;
+        note = s.note;
+        note_bare = note_bare g.parts s.handed.handed s.note s.handed.notes;
         is = s.is;
       }
+
+  -- a claim that is taken, or what is told of it
+  handed_good : (osil osol : List ℕ) (r : Report) → TakesHanded osil osol r → IsGoodReport osil r
+  handed_good osil osol r h =
+      let g = h.given in
+      let shown = h.handed.taken.shown in
+      let name = names osol g.options g.options_text in
+      let parts = told_good g.parts g.options.job h.claim h.told g.valid (short_name g.options.job name) shown.accepted h.fitted in
+      record {
+        job = g.options.job;
+        bare = bare_name g.options.job name;
+        parts = g.parts;
+        instance_text = g.instance_text;
+        claim = h.told;
+        back = fitted_back g.options.job h.claim h.told h.fitted (read_back h.handed.taken.text shown.report h.claim shown.report_text shown.stands);
+        accepted = parts.0;
+        short = parts.1;
+        note = None;
+        note_bare = tt;
+        is = h.is;
+      }
+
+  job_note_bare : (osil osol : List ℕ) (note : Option (List ℕ)) → IsNoteOfJob osil osol note → IsBareOrNone note
+  job_note_bare osil osol note (inl none) = subst IsBareOrNone (sym none) tt
+  job_note_bare osil osol note (inr (g, h)) = note_bare g.parts h.handed note h.notes
 
   job_bare : (osol : List ℕ) (job : Option (List ℕ)) → IsJobOf osol job → IsBareOrNone job × IsShortName job
   job_bare osol job (inl none) = (subst IsBareOrNone (sym none) tt, subst IsShortName (sym none) tt)
   job_bare osol job (inr (o, text, same)) = (subst IsBareOrNone (sym same) (bare_name o.job (names osol o text)), subst IsShortName (sym same) (short_name o.job (names osol o text)))
 
-  best_good : (osil osol : List ℕ) (job : Option (List ℕ)) (c : Claim) (r : Report) → IsJobOf osol job → IsBestOfSearch osil osol c → r ≡ claim_report job c → IsGoodReport osil r
-  best_good osil osol job c r whose b is =
+  best_good : (osil osol : List ℕ) (job note : Option (List ℕ)) (c : Claim) (r : Report) → IsJobOf osol job → IsNoteOfJob osil osol note → IsBestOfSearch osil osol c → r ≡ noted note (claim_report job c) → IsGoodReport osil r
+  best_good osil osol job note c r whose noting b is =
       let g = b.given in
       let named = job_bare osol job whose in
       let shown = shows (problem g.parts) (job_terms g.options None) (early b.moment.best causes.Memory) b.moment.clock (numbers g.parts) (given_up_at b.comes) in
       let claimed : IsShownClaim g.parts c = record { outcome = early b.moment.best causes.Memory; tells = b.tells; shown = shown } in
+      let good = other_good g.parts job g.valid named.1 c claimed (wanting c b.moment.best b.tells) in
       record {
         job = job;
         bare = named.0;
@@ -131,25 +181,37 @@ module _ (names : (bytes : List ℕ) (o : Options) → IsOptionsText bytes o →
         instance_text = g.instance_text;
         claim = c;
         back = shown_back g.parts c g.valid claimed (no_certificates g.parts c claimed (wanting c b.moment.best b.tells)) (wanting_causes c b.moment.best b.tells.cause);
-        good = other_good g.parts job g.valid named.1 c claimed (wanting c b.moment.best b.tells);
+        accepted = λ k says. accepts_of g.parts c k good.shown good.accepted says;
+        short = good.short;
+        note = note;
+        note_bare = job_note_bare osil osol note noting;
         is = is;
       }
 
   -- the claim of a report
-  same_claim : (r : Report) (job : Option (List ℕ)) (c d : Claim) → r ≡ claim_report job c → r.claim ≡ Some d → c ≡ d
-  same_claim r job c d is stands = let q = ap (λ (s : Report). s.claim) is in cc
+  same_claim : (r : Report) (job note : Option (List ℕ)) (c d : Claim) → r ≡ noted note (claim_report job c) → r.claim ≡ Some d → c ≡ d
+  same_claim r job note c d is stands = let q : ◌≡◌ {A = Option Claim} (Some c) (Some d) = sym (noted_claim note (claim_report job c)) ∙ sym (ap (λ (s : Report). s.claim) is) ∙ stands in cc
 
   claims_nothing : (r : Report) (c : Claim) → r.claim ≡ None → r.claim ≡ Some c → ⊥
   claims_nothing r c none some = cc
 
+  -- with a message or without
+  noted_read : (note job : Option (List ℕ)) (c : Claim) → IsBareOrNone note → IsBareOrNone job → IsShort job c → ClaimComesBack (Some c) → IsReportText (report_text (noted note (claim_report job c))) (noted note (claim_report job c))
+  noted_read None job c bare named short back = comes_back (claim_report job c) (record { short = short; job = named; message = tt; claim = back })
+  noted_read (Some m) job c bare named short back = by (nat_le (length (report_text (with_message m (claim_report job c)))) document_limit) refl
+    where
+      by : (b : Bool) → nat_le (length (report_text (with_message m (claim_report job c)))) document_limit ≡ b
+          → IsReportText (report_text (cond b (with_message m (claim_report job c)) (claim_report job c))) (cond b (with_message m (claim_report job c)) (claim_report job c))
+      by true few = comes_back (with_message m (claim_report job c)) (record { short = leb-true (length (report_text (with_message m (claim_report job c)))) document_limit few; job = named; message = bare; claim = back })
+      by false many = comes_back (claim_report job c) (record { short = short; job = named; message = tt; claim = back })
+
   good_read : (osil : List ℕ) (r : Report) → IsGoodReport osil r → IsReportText (report_text r) r
   good_read osil r g =
-      subst (λ (s : Report). IsReportText (report_text s) s) (sym g.is)
-      (comes_back (claim_report g.job g.claim) (record { short = g.good.short; job = g.bare; message = tt; claim = g.back }))
+      subst (λ (s : Report). IsReportText (report_text s) s) (sym g.is) (noted_read g.note g.job g.claim g.note_bare g.bare g.short g.back)
 
   good_accepted : (osil : List ℕ) (r : Report) (text : List ℕ) (c : Claim) (k : Kind) → IsReportText text r → r.claim ≡ Some c → kind c ≡ Some k → IsGoodReport osil r → IsAcceptedText osil text k
   good_accepted osil r text c k said stands says g =
-      let same = same_claim r g.job g.claim c g.is stands in
+      let same = same_claim r g.job g.note g.claim c g.is stands in
       record {
         parts = g.parts;
         report = r;
@@ -159,8 +221,7 @@ module _ (names : (bytes : List ℕ) (o : Options) → IsOptionsText bytes o →
           claim = c;
           stands = stands;
           says = says;
-          accepted = subst (λ (d : Claim). Accepts (problem g.parts) (Means.claim d)) same
-              (accepts_of g.parts g.claim k g.good.shown g.good.accepted (ap kind same ∙ says));
+          accepted = subst (λ (d : Claim). Accepts (problem g.parts) (Means.claim d)) same (g.accepted k (ap kind same ∙ says));
         };
       }
 
@@ -168,15 +229,16 @@ module _ (names : (bytes : List ℕ) (o : Options) → IsOptionsText bytes o →
   answer_good : (osil osol : List ℕ) (asked : Bool) (r : Report) (c : Claim) (k : Kind) → AnswersJob osil osol asked r → r.claim ≡ Some c → kind c ≡ Some k → IsGoodReport osil r
   answer_good osil osol asked r c k (no_options a) stands says = absurd (claims_nothing r c (ap (λ (s : Report). s.claim) a.is) stands)
   answer_good osil osol asked r c k (no_instance a) stands says = absurd (claims_nothing r c (ap (λ (s : Report). s.claim) a.is) stands)
-  answer_good osil osol asked r c k (solved stop looks may s) stands says = solved_good osil osol stop looks r s
+  answer_good osil osol asked r c k (handed h) stands says = handed_good osil osol r h
+  answer_good osil osol asked r c k (solved stop looks timed may s) stands says = solved_good osil osol stop timed looks r s
   answer_good osil osol asked r c k (gave_up a) stands says = by a.claims
     where
       by : (a.claim ≡ Has.Unsure causes.Memory None) ⊎ IsBestOfSearch osil osol a.claim → IsGoodReport osil r
       by (inl unsure) =
-          let same = same_claim r a.job a.claim c a.is stands in
+          let same = same_claim r a.job a.note a.claim c a.is stands in
           let told : kind c ≡ None = ap kind (sym same ∙ unsure) in
           absurd (cc)
-      by (inr best) = best_good osil osol a.job a.claim r a.whose best a.is
+      by (inr best) = best_good osil osol a.job a.note a.claim r a.whose a.noting best a.is
 
   -- the report of an error is read too
   error_read : (job : Option (List ℕ)) (message : List ℕ) (r : Report) → IsBareOrNone job → IsShortName job → IsMessage message → r ≡ error_report job message → IsReportText (report_text r) r
@@ -185,24 +247,24 @@ module _ (names : (bytes : List ℕ) (o : Options) → IsOptionsText bytes o →
       (comes_back (error_report job message) (record { short = error_short job short message told.short; job = bare; message = told.bare; claim = tt }))
 
   -- and so is one that tells nothing
-  unsure_read : (job : Option (List ℕ)) (c : Cause) (r : Report) → IsBareOrNone job → IsShortName job → CauseComesBack c → r ≡ claim_report job (Has.Unsure c None) → IsReportText (report_text r) r
-  unsure_read job c r bare short back is =
-      subst (λ (s : Report). IsReportText (report_text s) s) (sym is)
-      (comes_back (claim_report job (Has.Unsure c None)) (record { short = unsure_short job short c; job = bare; message = tt; claim = (back, tt) }))
+  unsure_read : (job note : Option (List ℕ)) (c : Cause) (r : Report) → IsBareOrNone note → IsBareOrNone job → IsShortName job → CauseComesBack c → r ≡ noted note (claim_report job (Has.Unsure c None)) → IsReportText (report_text r) r
+  unsure_read job note c r told bare short back is =
+      subst (λ (s : Report). IsReportText (report_text s) s) (sym is) (noted_read note job (Has.Unsure c None) told bare (unsure_short job short c) (back, tt))
 
   pub answer_read : (osil osol : List ℕ) (asked : Bool) (r : Report) → AnswersJob osil osol asked r → IsReportText (report_text r) r
   answer_read osil osol asked r (no_options a) = error_read None a.message r tt tt (options_message a.fault a.message a.says) a.is
   answer_read osil osol asked r (no_instance a) =
       let name = names osol a.options a.options_text in
       error_read a.options.job a.message r (bare_name a.options.job name) (short_name a.options.job name) (instance_message osil a.fault a.message a.fails a.says) a.is
-  answer_read osil osol asked r (solved stop looks may s) = good_read osil r (solved_good osil osol stop looks r s)
+  answer_read osil osol asked r (handed h) = good_read osil r (handed_good osil osol r h)
+  answer_read osil osol asked r (solved stop looks timed may s) = good_read osil r (solved_good osil osol stop timed looks r s)
   answer_read osil osol asked r (gave_up a) = by a.claims
     where
       by : (a.claim ≡ Has.Unsure causes.Memory None) ⊎ IsBestOfSearch osil osol a.claim → IsReportText (report_text r) r
       by (inl unsure) =
           let named = job_bare osol a.job a.whose in
-          unsure_read a.job causes.Memory r named.0 named.1 tt (a.is ∙ ap (claim_report a.job) unsure)
-      by (inr best) = good_read osil r (best_good osil osol a.job a.claim r a.whose best a.is)
+          unsure_read a.job a.note causes.Memory r (job_note_bare osil osol a.note a.noting) named.0 named.1 tt (a.is ∙ ap (λ (c : Claim). noted a.note (claim_report a.job c)) unsure)
+      by (inr best) = good_read osil r (best_good osil osol a.job a.note a.claim r a.whose a.noting best a.is)
 
   -- from each text that is read as it
   pub text_accepted : (osil osol : List ℕ) (asked : Bool) (r : Report) (text : List ℕ) (c : Claim) (k : Kind) → AnswersJob osil osol asked r → IsReportText text r → r.claim ≡ Some c → kind c ≡ Some k → IsAcceptedText osil text k

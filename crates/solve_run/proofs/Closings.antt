@@ -26,18 +26,18 @@ checked_back : (c : Claim) (turns : ℕ) (width : Option ℕ) → turns < 2 ^ 64
 checked_back c turns None few node h = h
 checked_back c turns (Some n) few node h = given_back c (wide_check n turns) (node, few) h
 
-fitted_back : (job : Option (List ℕ)) (c told : Claim) → IsFitted job c told → ClaimComesBack (Some c) → ClaimComesBack (Some told)
+pub fitted_back : (job : Option (List ℕ)) (c told : Claim) → IsFitted job c told → ClaimComesBack (Some c) → ClaimComesBack (Some told)
 fitted_back job c told (inl (short, same)) h = subst (λ (d : Claim). ClaimComesBack (Some d)) (sym same) h
 fitted_back job c told (inr (long, same)) h = subst (λ (d : Claim). ClaimComesBack (Some d)) (sym same) (given_back c causes.Length tt h)
 
 -- a claim that is shown, of few rounds, checked and fitted is told
-pub told : (p : Parts) (ns : NameLists) (job : Option (List ℕ)) (turns : ℕ) (found : Claim) (width : Option ℕ) (doc : Document)
+pub told : (p : Parts) (ns : NameLists) (note job : Option (List ℕ)) (turns : ℕ) (found : Claim) (width : Option ℕ) (doc : Document)
     → IsValid p → IsShownClaim p found → HasFewRounds found → HasCauses found → turns < 2 ^ 64 → IfSome width (λ n. n < 2 ^ 32)
-    → IsJudged p found width → IsFittedDocument ns job (checked found turns width) doc → IsClaimTold p ns job turns found doc
-told p ns job turns found width doc valid shown fewer causes few node judged (inl (c, fitted, is)) = inl (record {
+    → IsJudged p found width → IsFittedDocument ns note job (checked found turns width) doc → IsClaimTold p ns note job turns found doc
+told p ns note job turns found width doc valid shown fewer causes few node judged (inl (c, fitted, is)) = inl (record {
   told = c;
   closed = record { width = width; judged = judged; fitted = fitted };
   numbers = fitted_back job (checked found turns width) c fitted (checked_back found turns width few node (shown_back p found valid shown fewer causes));
   is = is;
 })
-told p ns job turns found width doc valid shown fewer causes few node judged (inr memory) = inr memory
+told p ns note job turns found width doc valid shown fewer causes few node judged (inr memory) = inr memory

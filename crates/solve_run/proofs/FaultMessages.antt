@@ -20,19 +20,19 @@ use Rattle.solve_run.proofs.InkedTexts.{IsPiece, piece_behind, is_word, word_pie
 use Rattle.solve_run.proofs.RefusedNames.{HasName, refused_name}
 
 -- a word behind a space
-spaced : (n : ℕ) (text : List ℕ) → IsPiece n text → IsPiece (1 + n) (32 ∷ text)
+pub spaced : (n : ℕ) (text : List ℕ) → IsPiece n text → IsPiece (1 + n) (32 ∷ text)
 spaced n text piece = piece_behind 1 n (32 ∷ []) text ((lit≤ tt, lit< tt), tt) (omega arith) piece
 
 -- words, one behind the other
-worded : (n : ℕ) (word text : List ℕ) → is_word word ≡ true → IsPiece n text → IsPiece (64 + n) (word ++ text)
+pub worded : (n : ℕ) (word text : List ℕ) → is_word word ≡ true → IsPiece n text → IsPiece (64 + n) (word ++ text)
 worded n word text is piece = let w = word_piece word is in piece_behind 64 n word text w.printable w.short piece
 
-placed : (document name : List ℕ) (n : ℕ) → is_word document ≡ true → is_word name ≡ true → IsPiece 197 (refusal_at document name n)
+pub placed : (document name : List ℕ) (n : ℕ) → is_word document ≡ true → is_word name ≡ true → IsPiece 197 (refusal_at document name n)
 placed document name n is named =
     let at : IsPiece 68 (codes " at " ++ decimal n) = piece_behind 4 64 (codes " at ") (decimal n) (list_printable (codes " at ") refl) (omega arith) (number_piece n) in
     worded 133 document (32 ∷ (name ++ (codes " at " ++ decimal n))) is (spaced 132 (name ++ (codes " at " ++ decimal n)) (worded 68 name (codes " at " ++ decimal n) named at))
 
-unplaced : (document name : List ℕ) → is_word document ≡ true → is_word name ≡ true → IsPiece 129 (refusal_of document name)
+pub unplaced : (document name : List ℕ) → is_word document ≡ true → is_word name ≡ true → IsPiece 129 (refusal_of document name)
 unplaced document name is named = worded 65 document (32 ∷ name) is (spaced 64 name (word_piece name named))
 
 -- of a kind of document

@@ -144,9 +144,9 @@ untrimmed c cs first e =
     ∙ ap reverse (sym turned)
     ∙ reverse-reverse (c ∷ cs)
 
+pub bare_of : (n : ℕ) (text : List ℕ) → StartsSo text → IsPiece n text → IsBare text
+bare_of n [] first piece = absurd first
+bare_of n (c ∷ cs) first piece = record { some = λ e. cc; bare = untrimmed c cs first piece.ends; characters = printable_text (c ∷ cs) piece.printable }
+
 pub message_of : (n : ℕ) (text : List ℕ) → n ≤ 300 → StartsSo text → IsPiece n text → IsMessage text
-message_of n [] few first piece = absurd first
-message_of n (c ∷ cs) few first piece = record {
-  bare = record { some = λ e. cc; bare = untrimmed c cs first piece.ends; characters = printable_text (c ∷ cs) piece.printable };
-  short = let s = piece.short in omega (arith, s, few);
-}
+message_of n text few first piece = record { bare = bare_of n text first piece; short = let s = piece.short in omega (arith, s, few) }

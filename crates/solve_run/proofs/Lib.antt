@@ -10,11 +10,15 @@ pub mod InkedTexts
 pub mod DocumentNames
 pub mod RefusedNames
 pub mod FaultMessages
+pub mod HandedMessages
 pub mod RoundLimits
 pub mod RoundTrips
+pub mod HandedClaims
 pub mod Closings
 pub mod Runs
+pub mod Untils
 pub mod OneClaim
+pub mod OneHanding
 pub mod OneAnswer
 pub mod Acceptance
 pub mod Texts

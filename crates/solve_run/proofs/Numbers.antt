@@ -1,16 +1,18 @@
 -- The columns of a tree that shows something of an instance are the instance's, and its splits are at numbers that fit.
-use Rattle.std.proofs.Common.{◌≡◌, ℕ, ◌+◌, ◌^◌, ◌<◌, ◌≤◌, pos, ◌+ℤ◌, Option, None, Some, List, [], ◌∷◌, ◌++◌, length, sym, subst, arith}
+use Rattle.std.proofs.Common.{◌≡◌, inl, inr, ℕ, ◌+◌, ◌-◌, ◌^◌, ◌<◌, ◌≤◌, pos, ◌+ℤ◌, Option, None, Some, List, [], ◌∷◌, ◌++◌, length, sym, subst, arith}
 use Rattle.std.specs.Prelude.{neg_ℤ, ◌≤ℤ◌, ◌<ℤ◌}
 use Rattle.std.specs.List.{All}
+use Rattle.std.proofs.lemmas.List.{length-set}
 use Rattle.std.proofs.lemmas.List.Elements.{All-nil, All-cons, All-head, All-tail, All-append}
 use Rattle.rational.specs.Ratio.{Ratio, whole}
 use Rattle.rational.specs.Width.{most}
 use Rattle.evidence.specs.Sums.{none}
-use Rattle.evidence.specs.Instance.{Range, Instance, width, height, variable_at}
+use Rattle.evidence.specs.Instance.{Range, Instance, width, height, variable_at, row_at}
 use Rattle.evidence.specs.Cases as Of
-use Rattle.evidence.specs.Cases.{Multiplier, Tree, preorder, Shows, AreLegal, lesser_end, greater_end, both, or_free, with_range, at_most, at_least, at_zero, unless_zero}
+use Rattle.evidence.specs.Cases.{Multiplier, Tree, preorder, Shows, AreLegal, lesser_end, greater_end, both, or_free, with_range, with_row_range, at_most, at_least, row_at_most, row_at_least, at_zero, unless_zero}
 use Rattle.certificate.specs.declared.nodes.Node.{Node}
 use Rattle.certificate.specs.declared.nodes.Node.TheVariants.{Split, Zero, Clash, Farkas, Bound, Grid, FarkasRows, BoundRows, GridRows}
+use Rattle.evidence.proofs.RowBranches.{low_variable, high_variable, low_past, high_past}
 use Rattle.evidence.proofs.Branches.{width_with}
 use Rattle.certificate.specs.Meanings.{node, nodes}
 use Rattle.certificate.specs.Nodes.{IsInRange}
@@ -38,6 +40,9 @@ all_of_one n x h = All-cons (IsWithin n) x [] h (All-nil (IsWithin n))
 few_with : (n : ℕ) (I : Instance) (j : ℕ) (r : Range) → width I + height I ≤ n → width (with_range I j r) + height I ≤ n
 few_with n I j r few = let same = width_with I j r in omega (arith, same)
 
+few_with_row : (n : ℕ) (I : Instance) (i : ℕ) (r : Range) → width I + height I ≤ n → width I + height (with_row_range I i r) ≤ n
+few_with_row n I i r few = let same = length-set I.rows i r in omega (arith, same)
+
 -- so are the columns of rows that are completed to legal multipliers
 rows_within : (n : ℕ) (I : Instance) (ms : List Multiplier) (z : Option Ratio) → width I + height I ≤ n → AreLegal I (all_of I ms z) → All (HasColumn n) ms
 rows_within n I ms z few legal = λ k d h. let l = (parts_of I ms z legal).0 in let below = l.columns k d h in omega (arith, below)
@@ -54,12 +59,19 @@ tree_within n I (Of.BoundRows ms) None few s = absurd s
 tree_within n I (Of.BoundRows ms) (Some z) few s = all_of_one n (Of.BoundByRows ms) (rows_within n I ms (Some z) few s.1.legal)
 tree_within n I (Of.GridRows g ms) None few s = absurd s
 tree_within n I (Of.GridRows g ms) (Some z) few s = all_of_one n (Of.GridByRows g ms) (rows_within n I ms (Some z) few s.1.legal)
-tree_within n I (Of.Split j k a b) z few (branch, first, second) =
+tree_within n I (Of.Split j k a b) z few (inl branch, first, second) =
     let inside = branch.variable in
     All-cons (IsWithin n) (Of.SplitAt j k) (preorder a ++ preorder b) (omega (arith, inside), branch.low, branch.high)
     (All-append (IsWithin n) (preorder a) (preorder b)
-    (tree_within n (at_most I j k) a z (few_with n I j (record (variable_at I j).range { ub = lesser_end (variable_at I j).range.ub (whole k) }) few) first)
-    (tree_within n (at_least I j (k +ℤ pos 1)) b z (few_with n I j (record (variable_at I j).range { lb = greater_end (variable_at I j).range.lb (whole (k +ℤ pos 1)) }) few) second))
+    (tree_within n (at_most I j k) a z (few_with n I j (record (variable_at I j).range { ub = lesser_end (variable_at I j).range.ub (whole k) }) few) (subst (λ J. Shows J a z) (low_variable I j k inside) first))
+    (tree_within n (at_least I j (k +ℤ pos 1)) b z (few_with n I j (record (variable_at I j).range { lb = greater_end (variable_at I j).range.lb (whole (k +ℤ pos 1)) }) few) (subst (λ J. Shows J b z) (high_variable I j (k +ℤ pos 1) inside) second)))
+tree_within n I (Of.Split c k a b) z few (inr branch, first, second) =
+    let inside = branch.inside in
+    let i : ℕ = c - width I in
+    All-cons (IsWithin n) (Of.SplitAt c k) (preorder a ++ preorder b) (omega (arith, inside), branch.low, branch.high)
+    (All-append (IsWithin n) (preorder a) (preorder b)
+    (tree_within n (row_at_most I i k) a z (few_with_row n I i (record (row_at I i) { ub = lesser_end (row_at I i).ub (whole k) }) few) (subst (λ J. Shows J a z) (low_past I c k branch.past) first))
+    (tree_within n (row_at_least I i (k +ℤ pos 1)) b z (few_with_row n I i (record (row_at I i) { lb = greater_end (row_at I i).lb (whole (k +ℤ pos 1)) }) few) (subst (λ J. Shows J b z) (high_past I c (k +ℤ pos 1) branch.past) second)))
 tree_within n I (Of.Zero j a b) z few (branch, first, second) =
     let inside = branch.variable in
     All-cons (IsWithin n) (Of.ZeroAt j) (preorder a ++ preorder b) (omega (arith, inside))

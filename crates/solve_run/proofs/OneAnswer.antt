@@ -1,5 +1,6 @@
 -- A job is answered by one report, but for want of memory and for the look that stops it.
 use Rattle.std.proofs.Common.{◌≡◌, ◌≢◌, ◌∙◌, ℕ, ◌⊎◌, inl, inr, false, Option, None, Some, List, refl, ap, ap₂, sym, subst}
+use Rattle.fraction.specs.declared.frac.Frac.{Frac}
 use Rattle.instance.specs.Parts.{Parts}
 use Rattle.instance.specs.Program.{problem}
 use Rattle.certificate.specs.Meanings as Means
@@ -20,11 +21,14 @@ use Rattle.osil_grammar.specs.Reading.{IsInstanceText}
 use Rattle.osil_grammar.specs.Reading as instances
 use Rattle.osrl_writing.specs.declared.report.Report.{Report}
 use Rattle.solve_run.specs.Judging.{IsWideAt, IsJudged, checked}
-use Rattle.solve_run.specs.Closings.{error_report, claim_report, IsShort, IsFitted, IsToldOf}
-use Rattle.solve_run.specs.JobAnswers.{job_terms, RefusesOptions, RefusesInstance, AreJobTexts, Solved, GaveUp, MayStop, AnswersJob, no_options, no_instance, solved, gave_up}
+use Rattle.solve_run.specs.Closings.{error_report, claim_report, noted, IsShort, IsFitted, IsToldOf}
+use Rattle.solve_run.specs.Handing.{HandsInClaim, HandsInNone}
+use Rattle.solve_run.specs.JobAnswers.{RefusesOptions, RefusesInstance, AreJobTexts, TakesHanded, Solved, GaveUp, MayStop, AnswersJob, no_options, no_instance, handed, solved, gave_up}
+use Rattle.solve_run.specs.Untils.{job_terms, renamed}
 use Rattle.document_checker.specs.Grounds.{InstancesAreOne}
-use Rattle.solve_run.specs.Grounds.{OptionsAreOne, SearchesAreOne}
+use Rattle.solve_run.specs.Grounds.{OptionsAreOne, SearchesAreOne, HandedAreOne}
 use Rattle.solve_run.proofs.OneClaim.{claim_once}
+use Rattle.solve_run.proofs.OneHanding.{claim_handed_once, note_once, claim_or_note}
 
 -- want of memory is told in no text
 untold_options : (f : OsolFault) (text : List ℕ) → options_texts.IsFaultText f text → f ≢ options_faults.Memory
@@ -45,11 +49,22 @@ module _ (options : OptionsAreOne) (instances_one : InstancesAreOne) where
   pub options_instance : (osil osol : List ℕ) (r s : Report) → RefusesOptions osol r → RefusesInstance osil osol s → ⊥
   options_instance osil osol r s a b = no_options_given osol b.options r a b.options_text
 
-  pub options_search : (osil osol : List ℕ) (stop : Option ℕ) (looks : ℕ) (r s : Report) → RefusesOptions osol r → Solved osil osol stop looks s → ⊥
-  options_search osil osol stop looks r s a b = no_options_given osol b.given.options r a b.given.options_text
+  pub options_search : (osil osol : List ℕ) (stop : Option ℕ) (timed : Option Frac) (looks : ℕ) (r s : Report) → RefusesOptions osol r → Solved osil osol stop timed looks s → ⊥
+  options_search osil osol stop timed looks r s a b = no_options_given osol b.given.options r a b.given.options_text
 
-  pub instance_search : (osil osol : List ℕ) (stop : Option ℕ) (looks : ℕ) (r s : Report) → RefusesInstance osil osol r → Solved osil osol stop looks s → ⊥
-  instance_search osil osol stop looks r s a b = no_instance_given osil osol b.given.parts r a b.given.instance_text
+  pub instance_search : (osil osol : List ℕ) (stop : Option ℕ) (timed : Option Frac) (looks : ℕ) (r s : Report) → RefusesInstance osil osol r → Solved osil osol stop timed looks s → ⊥
+  instance_search osil osol stop timed looks r s a b = no_instance_given osil osol b.given.parts r a b.given.instance_text
+
+  pub options_handed : (osil osol : List ℕ) (r s : Report) → RefusesOptions osol r → TakesHanded osil osol s → ⊥
+  options_handed osil osol r s a b = no_options_given osol b.given.options r a b.given.options_text
+
+  pub instance_handed : (osil osol : List ℕ) (r s : Report) → RefusesInstance osil osol r → TakesHanded osil osol s → ⊥
+  instance_handed osil osol r s a b = no_instance_given osil osol b.given.parts r a b.given.instance_text
+
+  pub handed_search : HandedAreOne → (osil osol : List ℕ) (stop : Option ℕ) (timed : Option Frac) (looks : ℕ) (r s : Report) → TakesHanded osil osol r → Solved osil osol stop timed looks s → ⊥
+  handed_search laws osil osol stop timed looks r s a b =
+      let parts = instances_one.once osil b.given.parts a.given.parts b.given.instance_text a.given.instance_text in
+      claim_or_note laws osil a.given.parts a.given.instance_text osol a.given.options a.given.options_text a.claim b.note a.handed (subst (λ (p : Parts). HandsInNone osol p b.note) parts b.handed)
 
   pub options_once : (osol : List ℕ) (r s : Report) → RefusesOptions osol r → RefusesOptions osol s → r ≡ s
   options_once osol r s a b =
@@ -87,49 +102,59 @@ module _ (laws : SearchesAreOne) where
       fitted_once job (checked c turns b.width) s t (subst (λ (w : Option ℕ). IsFitted job (checked c turns w) s) width a.fitted) b.fitted
 
   -- a search of an instance that ended, and what is told of it
-  record Ended (o : Options) (p : Parts) (stop : Option ℕ) (looks : ℕ) (r : Report) : Type 0 where
+  record Ended (osol : List ℕ) (o : Options) (p : Parts) (stop : Option ℕ) (timed : Option Frac) (looks : ℕ) (r : Report) : Type 0 where
     turns : ℕ
     outcome : Outcome
     ends : Search (problem p) (job_terms o stop) outcome (record { turns = turns; looks = looks })
     found : Claim
-    tells : ClaimTells found outcome
+    tells : ClaimTells found (renamed timed outcome)
     told : Claim
     closed : IsToldOf p o.job turns found told
-    is : r ≡ claim_report o.job told
+    note : Option (List ℕ)
+    none_handed : HandsInNone osol p note
+    is : r ≡ noted note (claim_report o.job told)
 
-  ended : (osil osol : List ℕ) (stop : Option ℕ) (looks : ℕ) (r : Report) (s : Solved osil osol stop looks r) → Ended s.given.options s.given.parts stop looks r
-  ended osil osol stop looks r s = record { turns = s.turns; outcome = s.outcome; ends = s.ends; found = s.found; tells = s.tells; told = s.told; closed = s.closed; is = s.is }
+  ended : (osil osol : List ℕ) (stop : Option ℕ) (timed : Option Frac) (looks : ℕ) (r : Report) (s : Solved osil osol stop timed looks r) → Ended osol s.given.options s.given.parts stop timed looks r
+  ended osil osol stop timed looks r s = record { turns = s.turns; outcome = s.outcome; ends = s.ends; found = s.found; tells = s.tells; told = s.told; closed = s.closed; note = s.note; none_handed = s.handed; is = s.is }
 
-  ended_once : (o : Options) (p : Parts) (stop : Option ℕ) (looks more : ℕ) (r s : Report) → Ended o p stop looks r → Ended o p stop more s → (r ≡ s) × (looks ≡ more)
-  ended_once o p stop looks more r s a b =
+  ended_once : (osol : List ℕ) (o : Options) (p : Parts) (stop : Option ℕ) (timed : Option Frac) (looks more : ℕ) (r s : Report) → ((n m : Option (List ℕ)) → HandsInNone osol p n → HandsInNone osol p m → n ≡ m) → Ended osol o p stop timed looks r → Ended osol o p stop timed more s → (r ≡ s) × (looks ≡ more)
+  ended_once osol o p stop timed looks more r s once a b =
       let both = laws.once (problem p) (job_terms o stop) a.outcome b.outcome _ _ (laws.numbers p) a.ends b.ends in
-      let found = claim_once laws.fractions a.found b.found b.outcome (subst (ClaimTells a.found) both.0 a.tells) b.tells in
+      let found = claim_once laws.fractions a.found b.found (renamed timed b.outcome) (subst (λ (c : Outcome). ClaimTells a.found (renamed timed c)) both.0 a.tells) b.tells in
       let turns = ap (λ (c : Clock). c.turns) both.1 in
       let closed : IsToldOf p o.job b.turns b.found a.told = subst (λ (t : ℕ). IsToldOf p o.job t b.found a.told) turns (subst (λ (c : Claim). IsToldOf p o.job a.turns c a.told) found a.closed) in
       let told = closed_once p o.job b.turns b.found a.told b.told closed b.closed in
-      (a.is ∙ ap (claim_report o.job) told ∙ sym b.is, ap (λ (c : Clock). c.looks) both.1)
+      (a.is ∙ ap₂ noted (once a.note b.note a.none_handed b.none_handed) (ap (claim_report o.job) told) ∙ sym b.is, ap (λ (c : Clock). c.looks) both.1)
 
-  module _ (options : OptionsAreOne) (instances_one : InstancesAreOne) where
-    moved : (osil osol : List ℕ) (g h : AreJobTexts osil osol) (stop : Option ℕ) (looks : ℕ) (r : Report) → Ended g.options g.parts stop looks r → Ended h.options h.parts stop looks r
-    moved osil osol g h stop looks r e =
-        subst (λ (o : Options). Ended o h.parts stop looks r) (options.once osol g.options h.options g.options_text h.options_text)
-        (subst (λ (p : Parts). Ended g.options p stop looks r) (instances_one.once osil g.parts h.parts g.instance_text h.instance_text) e)
+  module _ (options : OptionsAreOne) (instances_one : InstancesAreOne) (handed_one : HandedAreOne) where
+    moved : (osil osol : List ℕ) (g h : AreJobTexts osil osol) (stop : Option ℕ) (timed : Option Frac) (looks : ℕ) (r : Report) → Ended osol g.options g.parts stop timed looks r → Ended osol h.options h.parts stop timed looks r
+    moved osil osol g h stop timed looks r e =
+        subst (λ (o : Options). Ended osol o h.parts stop timed looks r) (options.once osol g.options h.options g.options_text h.options_text)
+        (subst (λ (p : Parts). Ended osol g.options p stop timed looks r) (instances_one.once osil g.parts h.parts g.instance_text h.instance_text) e)
 
-    pub search_once : (osil osol : List ℕ) (stop : Option ℕ) (looks more : ℕ) (r s : Report) → Solved osil osol stop looks r → Solved osil osol stop more s → (r ≡ s) × (looks ≡ more)
-    search_once osil osol stop looks more r s a b =
-        ended_once b.given.options b.given.parts stop looks more r s (moved osil osol a.given b.given stop looks r (ended osil osol stop looks r a)) (ended osil osol stop more s b)
+    pub search_once : (osil osol : List ℕ) (stop : Option ℕ) (timed : Option Frac) (looks more : ℕ) (r s : Report) → Solved osil osol stop timed looks r → Solved osil osol stop timed more s → (r ≡ s) × (looks ≡ more)
+    search_once osil osol stop timed looks more r s a b =
+        ended_once osol b.given.options b.given.parts stop timed looks more r s (note_once handed_one osil b.given.parts b.given.instance_text osol b.given.options b.given.options_text) (moved osil osol a.given b.given stop timed looks r (ended osil osol stop timed looks r a)) (ended osil osol stop timed more s b)
+
+    pub handed_once : (osil osol : List ℕ) (r s : Report) → TakesHanded osil osol r → TakesHanded osil osol s → r ≡ s
+    handed_once osil osol r s a b =
+        let job = ap (λ (o : Options). o.job) (options.once osol a.given.options b.given.options a.given.options_text b.given.options_text) in
+        let parts = instances_one.once osil a.given.parts b.given.parts a.given.instance_text b.given.instance_text in
+        let claim = claim_handed_once handed_one osil b.given.parts b.given.instance_text osol b.given.options b.given.options_text a.claim b.claim (subst (λ (p : Parts). HandsInClaim osol p a.claim) parts a.handed) b.handed in
+        let fitted : IsFitted b.given.options.job b.claim a.told = subst (λ (c : Claim). IsFitted b.given.options.job c a.told) claim (subst (λ (j : Option (List ℕ)). IsFitted j a.claim a.told) job a.fitted) in
+        a.is ∙ ap₂ claim_report job (fitted_once b.given.options.job b.claim a.told b.told fitted b.fitted) ∙ sym b.is
 
     -- a search that ends with a claim that is refused for no width, and isn't too long, is told
     complete : (osil osol : List ℕ) (o : Options) (p : Parts) (oc : Outcome) (found : Claim) (c : Clock) (r : Report) → IsOptionsText osol o → IsInstanceText osil p → Search (problem p) (job_terms o None) oc c → ClaimTells found oc
-        → ((q : Refused) (n : ℕ) → IsRefusedFor (problem p) (Means.claim found) q → IsWideAt q n → ⊥) → IsShort o.job found → (looks : ℕ) → Solved osil osol None looks r → r ≡ claim_report o.job found
+        → ((q : Refused) (n : ℕ) → IsRefusedFor (problem p) (Means.claim found) q → IsWideAt q n → ⊥) → IsShort o.job found → (looks : ℕ) → Solved osil osol None None looks r → (note : Option (List ℕ)) × HandsInNone osol p note × (r ≡ noted note (claim_report o.job found))
     complete osil osol o p oc found c r options_text instance_text ends tells fits short looks s =
-        let here = ended osil osol None looks r s in
-        let moved_here = subst (λ (x : Options). Ended x p None looks r) (options.once osol s.given.options o s.given.options_text options_text)
-        (subst (λ (q : Parts). Ended s.given.options q None looks r) (instances_one.once osil s.given.parts p s.given.instance_text instance_text) here) in
+        let here = ended osil osol None None looks r s in
+        let moved_here = subst (λ (x : Options). Ended osol x p None None looks r) (options.once osol s.given.options o s.given.options_text options_text)
+        (subst (λ (q : Parts). Ended osol s.given.options q None None looks r) (instances_one.once osil s.given.parts p s.given.instance_text instance_text) here) in
         let both = laws.once (problem p) (job_terms o None) moved_here.outcome oc _ c (laws.numbers p) moved_here.ends ends in
         let same = claim_once laws.fractions moved_here.found found oc (subst (ClaimTells moved_here.found) both.0 moved_here.tells) tells in
         let closed : IsToldOf p o.job moved_here.turns found moved_here.told = subst (λ (x : Claim). IsToldOf p o.job moved_here.turns x moved_here.told) same moved_here.closed in
-        moved_here.is ∙ ap (claim_report o.job) (by moved_here.turns moved_here.told closed.width closed.judged closed.fitted)
+        (moved_here.note, moved_here.none_handed, moved_here.is ∙ ap (λ (c : Claim). noted moved_here.note (claim_report o.job c)) (by moved_here.turns moved_here.told closed.width closed.judged closed.fitted))
       where
         by : (turns : ℕ) (told : Claim) (width : Option ℕ) → IsJudged p found width → IsFitted o.job (checked found turns width) told → told ≡ found
         by turns told None judged (inl (few, same)) = same
@@ -137,12 +162,16 @@ module _ (laws : SearchesAreOne) where
         by turns told (Some n) (final, q, refused, wide) fitted = absurd (fits q n refused wide)
 
     pub told_at_end : (osil osol : List ℕ) (o : Options) (p : Parts) (oc : Outcome) (found : Claim) (c : Clock) (r : Report) → IsOptionsText osol o → IsInstanceText osil p → Search (problem p) (job_terms o None) oc c → ClaimTells found oc → ((q : Refused) (n : ℕ) → IsRefusedFor (problem p) (Means.claim found) q → IsWideAt q n → ⊥) → IsShort o.job found → AnswersJob osil osol false r
-        → (r ≡ claim_report o.job found) ⊎ GaveUp osil osol r
+        → ((note : Option (List ℕ)) × HandsInNone osol p note × (r ≡ noted note (claim_report o.job found))) ⊎ TakesHanded osil osol r ⊎ GaveUp osil osol r ⊎ ((s : Frac) × (looks : ℕ) × (o.seconds ≡ Some s) × Solved osil osol (Some looks) (Some s) looks r)
     told_at_end osil osol o p oc found c r options_text instance_text ends tells fits short (no_options a) = absurd (no_options_given options instances_one osol o r a options_text)
     told_at_end osil osol o p oc found c r options_text instance_text ends tells fits short (no_instance a) = absurd (no_instance_given options instances_one osil osol p r a instance_text)
-    told_at_end osil osol o p oc found c r options_text instance_text ends tells fits short (solved stop looks may s) = inl (complete osil osol o p oc found c r options_text instance_text ends tells fits short looks (subst (λ (x : Option ℕ). Solved osil osol x looks r) (none may) s))
+    told_at_end osil osol o p oc found c r options_text instance_text ends tells fits short (handed h) = inr (inl h)
+    told_at_end osil osol o p oc found c r options_text instance_text ends tells fits short (solved stop looks None may s) = inl (complete osil osol o p oc found c r options_text instance_text ends tells fits short looks (subst (λ (x : Option ℕ). Solved osil osol x None looks r) (none may) s))
       where
         none : MayStop false stop looks → stop ≡ None
         none (inl is) = is
         none (inr (asked, is)) = absurd (cc)
-    told_at_end osil osol o p oc found c r options_text instance_text ends tells fits short (gave_up a) = inr a
+    told_at_end osil osol o p oc found c r options_text instance_text ends tells fits short (solved stop looks (Some x) (says, at) s) =
+        let its = options.once osol says.0 o says.1 options_text in
+        inr (inr (inr (x, looks, sym (ap (λ (q : Options). q.seconds) its) ∙ says.2, subst (λ (k : Option ℕ). Solved osil osol k (Some x) looks r) at s)))
+    told_at_end osil osol o p oc found c r options_text instance_text ends tells fits short (gave_up a) = inr (inr (inl a))

@@ -2,25 +2,27 @@
 use Rattle.std.proofs.Common.{◌≡◌, ◌∙◌, ℕ, zero, suc, ◌+◌, ◌≤◌, inl, inr, Bool, true, false, Option, None, Some, Result, Ok, List, [], ◌∷◌, ◌++◌, length, slice_index_or, arith, refl, ap, sym, subst}
 use Rattle.std.specs.Prelude.{IfOk}
 use Rattle.std.specs.List.{All}
+use Rattle.std.proofs.lemmas.List.Elements.{All-nil}
 use Rattle.std.proofs.lemmas.Result.{IfOk-weaker}
 use Rattle.std.proofs.lemmas.List.{length-map, get_or-map}
 use Rattle.os_io.specs.Looks.{stops_of}
 use Rattle.evidence.specs.Instance.{Problem, IsProblem}
 use Rattle.evidence.specs.Rounds.{Certificate}
+use Rattle.fraction.specs.declared.frac.Frac.{Frac}
 use Rattle.instance.specs.Parts.{Parts, IsValid}
 use Rattle.instance.specs.Program.{problem}
 use Rattle.certificate.specs.Nodes.{certs_of}
 use Rattle.certificate.specs.declared.nodes.Cert.{Cert}
 use Rattle.certificate.specs.Meanings as Means
-use Rattle.certificate.specs.declared.causes.Cause.TheVariants.{Memory}
+use Rattle.certificate.specs.declared.causes.Cause.{Cause}
+use Rattle.certificate.specs.declared.causes.Cause.TheVariants.{Memory, TimeLimit}
 use Rattle.certificate.specs.declared.claims.Claim.{Claim}
 use Rattle.certificate.specs.declared.claims.Claim.TheVariants as Has
 use Rattle.simplex_rules.specs.Ends.{Terms, Clock}
-use Rattle.simplex_rules.specs.Looks.{answers, went_on, AgreesWith as Agrees, looks_after, stop_after}
-use Rattle.simplex_rules.proofs.Looks.{agrees}
-use Rattle.search_rules.specs.Search.{Found, Outcome, BestSoFar, Unsure, SearchMoment, ComesInSearch, Search, IsSearchAnswer, early, searched, given_up as given_up_at, given_up_after}
+use Rattle.simplex_rules.specs.Looks.{answers, went_on, looks_after, stop_after}
+use Rattle.search_rules.specs.Search.{Found, Outcome, Optimal, Infeasible, Unbounded, BestSoFar, Unsure, SearchMoment, ComesInSearch, Search, IsSearchAnswer, early, searched, given_up as given_up_at, given_up_after}
 use Rattle.search_rules.specs.Outcomes.{IsShown}
-use Rattle.branch_bound.specs.Claims.{ClaimTells, is_killed}
+use Rattle.branch_bound.specs.Claims.{ClaimTells, said, is_killed}
 use Rattle.osol_grammar.specs.declared.options.Options.{Options}
 use Rattle.osol_grammar.specs.declared.fault.OsolFault.{OsolFault}
 use Rattle.osol_grammar.specs.Meaning.{IsOptionsText}
@@ -34,15 +36,18 @@ use Rattle.osrl_writing.specs.declared.told_names.NameLists.{NameLists}
 use Rattle.osrl_writing.specs.declared.report.Report.{Report}
 use Rattle.solve_run.specs.declared.document.Document.{Document}
 use Rattle.solve_run.specs.Judging.{IsShownClaim, AreFewRounds, HasFewRounds, IsFinal, IsJudged, checked}
-use Rattle.solve_run.specs.Closings.{claim_report, error_report, IsShort, IsFitted, IsToldOf}
-use Rattle.solve_run.specs.JobAnswers.{job_terms, AreJobTexts, IsJobOf, MayStop, AnswersJob, Right}
+use Rattle.solve_run.specs.Closings.{claim_report, error_report, noted, IsShort, IsFitted, IsToldOf}
+use Rattle.solve_run.specs.Handing.{HandsInClaim, HandsInNone}
+use Rattle.solve_run.specs.Untils.{job_terms, stop_by, looks_by, is_stopped_by, MayTime, left, renamed, FindsUntil}
+use Rattle.solve_run.specs.JobAnswers.{AreJobTexts, IsJobOf, MayStop, MayEnd, AnswersJob, Right}
 use Rattle.solve_run.specs.JobAnswers as right
-use Rattle.solve_run.specs.Runs.{Reports, no_options, no_instance, solved, gave_up, TellsOutcome, TellsText, TellsDocument, IsRight, Ran, ClosesClaim, IsClaimTold, IsMemoryDocument, IsErrorDocument, AreDueNames}
+use Rattle.solve_run.specs.Runs.{MayTimeOut, Reports, no_options, no_instance, handed, solved, gave_up, TellsOutcome, TellsText, TellsDocument, IsRight, Ran, ClosesClaim, IsClaimTold, IsFittedDocument, IsMemoryDocument, IsErrorDocument, AreDueNames}
 use Rattle.solve_run.proofs.Lengths.{IsShortName, best_short, unsure_short}
 use Rattle.solve_run.proofs.Names.{short_name}
 use Rattle.solve_run.proofs.ToldNames.{nameless, named_answer}
 use Rattle.solve_run.proofs.WidthRefusals.{decided, few_values}
-use Rattle.solve_run.proofs.ClaimNodes.{carried, none_bounded}
+use Rattle.solve_run.proofs.ClaimNodes.{said_certificates, carried, none_bounded}
+use Rattle.solve_run.proofs.PartialClaims.{renamed_shown}
 use Rattle.solve_run.proofs.FewRounds.{answer_few}
 
 -- ---- claims that are given up
@@ -78,23 +83,29 @@ memory_killed (Some f) = refl
 
 -- ---- what is reported
 
-abbrev clock_after : (turns n : ℕ) (killed : Bool) → Clock
-clock_after turns n killed = record { turns = turns; looks = looks_after 0 n killed }
+abbrev clock_after : (turns looks : ℕ) → Clock
+clock_after turns looks = record { turns = turns; looks = looks }
 
-module _ (osil osol : List ℕ) (o : Options) (p : Parts) (valid : IsValid p) (options_text : IsOptionsText osol o) (name : IsNameOrNone o.job) (instance_text : IsInstanceText osil p) (ns : NameLists) (due : AreDueNames osil o ns) where
+module _ (osil osol : List ℕ) (o : Options) (p : Parts) (valid : IsValid p) (options_text : IsOptionsText osol o) (name : IsNameOrNone o.job) (instance_text : IsInstanceText osil p) (ns : NameLists) (due : AreDueNames osil o ns) (note : Option (List ℕ)) (none_handed : HandsInNone osol p note) where
   abbrev given : AreJobTexts osil osol
   given = record { options = o; options_text = options_text; parts = p; valid = valid; instance_text = instance_text }
 
-  module _ (found : Claim) (turns n : ℕ) (doc : Document) where
+  -- the options that say the time are those of the job
+  may_out : (killed : Bool) (timed : Option Frac) → MayTime o killed timed → MayTimeOut osol killed timed
+  may_out killed None may = tt
+  may_out killed (Some s) (says, went) = ((o, options_text, says), went)
+
+  module _ (found : Claim) (turns n : ℕ) (doc : Document) (killed : Bool) where
     -- memory was wanting in the search: the claim of its moment is told
-    wanted : (oc : Outcome) (m : SearchMoment) → ClaimTells found oc → IsShown (problem p) oc → ComesInSearch (problem p) (job_terms o (stop_after n (is_killed oc))) m → early m.best Memory ≡ oc → ClosesClaim p ns o.job turns found doc → TellsOutcome osil osol n (is_killed oc) doc
-    wanted oc m tells shown comes is closes =
+    wanted : (timed : Option Frac) (oc : Outcome) (m : SearchMoment) → ClaimTells found (renamed timed oc) → is_killed oc ≡ is_stopped_by killed timed → IsShown (problem p) oc → ComesInSearch (problem p) (job_terms o (stop_by n killed timed)) m → early m.best Memory ≡ oc → ClosesClaim p ns note o.job turns found doc → TellsOutcome osil osol n killed doc
+    wanted (Some s) oc m tells stopped shown comes is closes = let went : true ≡ false = sym stopped ∙ ap is_killed (sym is) ∙ memory_killed m.best in absurd (cc)
+    wanted None oc m tells stopped shown comes is closes =
         let early_told : ClaimTells found (early m.best Memory) = subst (ClaimTells found) (sym is) tells in
         let other = wanting found m.best early_told in
         let same = kept p o.job turns found closes.told other (claim_short p o.job found valid (short_name o.job name) (record { outcome = oc; tells = tells; shown = shown }) other) closes.closed in
-        let went : is_killed oc ≡ false = ap is_killed (sym is) ∙ memory_killed m.best in
+        let went : killed ≡ false = sym stopped ∙ ap is_killed (sym is) ∙ memory_killed m.best in
         record {
-          report = claim_report o.job closes.told;
+          report = noted note (claim_report o.job closes.told);
           reports = gave_up (record {
             job = o.job;
             whose = inr (o, options_text, refl);
@@ -105,78 +116,97 @@ module _ (osil osol : List ℕ) (o : Options) (p : Parts) (valid : IsValid p) (o
               comes = subst (λ (k : Bool). ComesInSearch (problem p) (job_terms o (stop_after n k)) m) went comes;
               tells = subst (λ (c : Claim). ClaimTells c (early m.best Memory)) (sym same) early_told;
             });
+            note = note;
+            noting = inr (given, none_handed);
             is = refl;
           });
-          is = named_answer osil osol o options_text p instance_text ns due (claim_report o.job closes.told) doc closes.is;
+          is = named_answer osil osol o options_text p instance_text ns due (noted note (claim_report o.job closes.told)) doc closes.is;
         }
 
-    ended : (oc : Outcome) → ClaimTells found oc → Search (problem p) (job_terms o (stop_after n (is_killed oc))) oc (clock_after turns n (is_killed oc)) → ClosesClaim p ns o.job turns found doc → TellsOutcome osil osol n (is_killed oc) doc
-    ended oc tells ends closes = record {
-      report = claim_report o.job closes.told;
-      reports = solved (record {
-        given = given;
-        turns = turns;
-        outcome = oc;
-        ends = ends;
-        found = found;
-        tells = tells;
-        told = closes.told;
-        closed = closes.closed;
-        numbers = closes.numbers;
-        is = refl;
-      });
-      is = named_answer osil osol o options_text p instance_text ns due (claim_report o.job closes.told) doc closes.is;
-    }
+    module _ (timed : Option Frac) (may : MayTime o killed timed) where
+      ended : (oc : Outcome) → ClaimTells found (renamed timed oc) → Search (problem p) (job_terms o (stop_by n killed timed)) oc (clock_after turns (looks_by n killed timed)) → ClosesClaim p ns note o.job turns found doc → TellsOutcome osil osol n killed doc
+      ended oc tells ends closes = record {
+        report = noted note (claim_report o.job closes.told);
+        reports = solved timed (may_out killed timed may) (record {
+          given = given;
+          turns = turns;
+          outcome = oc;
+          ends = ends;
+          found = found;
+          tells = tells;
+          told = closes.told;
+          closed = closes.closed;
+          numbers = closes.numbers;
+          note = note;
+          handed = none_handed;
+          is = refl;
+        });
+        is = named_answer osil osol o options_text p instance_text ns due (noted note (claim_report o.job closes.told)) doc closes.is;
+      }
 
-    answered : (oc of : Outcome) (d : Clock) → of ≡ oc → d ≡ clock_after turns n (is_killed oc) → ClaimTells found oc → IsShown (problem p) oc → IsSearchAnswer (problem p) (job_terms o (stop_after n (is_killed oc))) of d → ClosesClaim p ns o.job turns found doc → TellsOutcome osil osol n (is_killed oc) doc
-    answered oc of d e f tells shown (searched s) closes =
-        ended oc tells (subst (λ (x : Outcome). Search (problem p) (job_terms o (stop_after n (is_killed oc))) x (clock_after turns n (is_killed oc))) e
-        (subst (λ (x : Clock). Search (problem p) (job_terms o (stop_after n (is_killed oc))) of x) f s)) closes
-    answered oc of d e f tells shown (given_up_at {m} c) closes = wanted oc m tells shown c e closes
-    answered oc of d e f tells shown (given_up_after {m} c r) closes = wanted oc m tells shown c e closes
+      answered : (oc of : Outcome) (d : Clock) → of ≡ oc → d ≡ clock_after turns (looks_by n killed timed) → ClaimTells found (renamed timed oc) → is_killed oc ≡ is_stopped_by killed timed → IsShown (problem p) oc → IsSearchAnswer (problem p) (job_terms o (stop_by n killed timed)) of d → ClosesClaim p ns note o.job turns found doc → TellsOutcome osil osol n killed doc
+      answered oc of d e f tells stopped shown (searched s) closes =
+          ended oc tells (subst (λ (x : Outcome). Search (problem p) (job_terms o (stop_by n killed timed)) x (clock_after turns (looks_by n killed timed))) e
+          (subst (λ (x : Clock). Search (problem p) (job_terms o (stop_by n killed timed)) of x) f s)) closes
+      answered oc of d e f tells stopped shown (given_up_at {m} c) closes = wanted timed oc m tells stopped shown c e closes
+      answered oc of d e f tells stopped shown (given_up_after {m} c r) closes = wanted timed oc m tells stopped shown c e closes
 
 -- nothing is told for want of memory, of this job
 untold : (osil osol : List ℕ) (n : ℕ) (killed : Bool) (job : Option (List ℕ)) (doc : Document) → IsJobOf osol job → IsMemoryDocument job doc → TellsOutcome osil osol n killed doc
 untold osil osol n killed job doc whose is = record {
   report = claim_report job (Has.Unsure Memory None);
-  reports = gave_up (record { job = job; whose = whose; claim = Has.Unsure Memory None; claims = inl refl; is = refl });
+  reports = gave_up (record { job = job; whose = whose; claim = Has.Unsure Memory None; claims = inl refl; note = None; noting = inl refl; is = refl });
   is = nameless osil osol (claim_report job (Has.Unsure Memory None)) doc (λ ns. refl) is;
 }
 
+-- no certificate that the outcome carries has more rounds than these
+abbrev AreFewOf : ℕ → Outcome → Type 0
+AreFewOf n oc = All (λ (c : Certificate). length c.rounds ≤ n) (said_certificates (said oc))
+
 -- the run of an instance
-pub ran : {E : Type 0} (Came : List Bool → Type 0) (osil osol : List ℕ) (o : Options) (p : Parts) (ns : NameLists) (found : Claim) (turns n : ℕ) (oc : Outcome) (result : Result Document E)
-    → IsValid p → IsNameOrNone o.job → IsOptionsText osol o → IsInstanceText osil p → AreDueNames osil o ns → ClaimTells found oc → IsShown (problem p) oc
-    → Came (answers n (is_killed oc))
-    → ((stop : Option ℕ) → Agrees stop 0 n (is_killed oc) → IsSearchAnswer (problem p) (job_terms o stop) oc (clock_after turns n (is_killed oc)))
-    → IfOk result (IsClaimTold p ns o.job turns found) → Ran Came osil osol (TellsDocument osil osol result)
-ran {E} Came osil osol o p ns found turns n oc result valid name options_text instance_text due tells shown came answer told =
-    let is = answer (stop_after n (is_killed oc)) (agrees n (is_killed oc)) in
-    record {
-      went_on = n;
-      killed = is_killed oc;
-      came = came;
-      looks = inr (record { given = given osil osol o p valid options_text name instance_text ns due; turns = turns; outcome = oc; answers = is });
-      tells = IfOk-weaker result (IsClaimTold p ns o.job turns found) (TellsOutcome osil osol n (is_killed oc)) (by is) told;
-    }
-  where
-    by : IsSearchAnswer (problem p) (job_terms o (stop_after n (is_killed oc))) oc (clock_after turns n (is_killed oc)) → (doc : Document) → IsClaimTold p ns o.job turns found doc → TellsOutcome osil osol n (is_killed oc) doc
-    by is doc (inl closes) = answered osil osol o p valid options_text name instance_text ns due found turns n doc oc oc (clock_after turns n (is_killed oc)) refl refl tells shown is closes
-    by is doc (inr memory) = untold osil osol n (is_killed oc) o.job doc (inr (o, options_text, refl)) memory
+module _ (p : Parts) (o : Options) (Came : List Bool → Type 0) (found : Claim) (turns : ℕ) (f : FindsUntil p o Came found turns) where
+  pub ran : {E : Type 0} (osil osol : List ℕ) (ns : NameLists) (note : Option (List ℕ)) (result : Result Document E)
+      → IsValid p → IsNameOrNone o.job → IsOptionsText osol o → IsInstanceText osil p → AreDueNames osil o ns → HandsInNone osol p note → IsShown (problem p) f.outcome
+      → IfOk result (IsClaimTold p ns note o.job turns found) → Ran Came osil osol (TellsDocument osil osol result)
+  ran {E} osil osol ns note result valid name options_text instance_text due none_handed shown told =
+      record {
+        went_on = f.went_on;
+        killed = f.killed;
+        came = f.came;
+        looks = inr (record { given = given osil osol o p valid options_text name instance_text ns due note none_handed; turns = turns; outcome = f.outcome; timed = f.timed; may = f.may; answers = f.answer });
+        tells = IfOk-weaker result (IsClaimTold p ns note o.job turns found) (TellsOutcome osil osol f.went_on f.killed) by told;
+      }
+    where
+      by : (doc : Document) → IsClaimTold p ns note o.job turns found doc → TellsOutcome osil osol f.went_on f.killed doc
+      by doc (inl closes) = answered osil osol o p valid options_text name instance_text ns due note none_handed found turns f.went_on doc f.killed f.timed f.may f.outcome f.outcome (clock_after turns (looks_by f.went_on f.killed f.timed)) refl refl f.tells f.stopped shown f.answer closes
+      by doc (inr memory) = untold osil osol f.went_on f.killed o.job doc (inr (o, options_text, refl)) memory
 
--- what was found is shown
-pub shown_by : ((P : Problem) (t : Terms) (oc : Outcome) (c : Clock) → IsProblem P → IsSearchAnswer P t oc c → IsShown P oc) → ((q : Parts) → IsProblem (problem q))
-    → (p : Parts) (o : Options) (turns n : ℕ) (oc : Outcome) → ((stop : Option ℕ) → Agrees stop 0 n (is_killed oc) → IsSearchAnswer (problem p) (job_terms o stop) oc (clock_after turns n (is_killed oc))) → IsShown (problem p) oc
-shown_by shows numbers p o turns n oc answer =
-    shows (problem p) _ oc _ (numbers p) (answer (stop_after n (is_killed oc)) (agrees n (is_killed oc)))
+  -- what was found is shown
+  pub shown_by : ((P : Problem) (t : Terms) (oc : Outcome) (c : Clock) → IsProblem P → IsSearchAnswer P t oc c → IsShown P oc) → ((q : Parts) → IsProblem (problem q)) → IsShown (problem p) f.outcome
+  shown_by shows numbers = shows (problem p) _ f.outcome _ (numbers p) f.answer
 
--- with no more rounds than the options ask for
-pub few_by : (p : Parts) (o : Options) (turns n : ℕ) (found : Claim) (oc : Outcome) → AreFewRounds o.rounds → ClaimTells found oc → ((stop : Option ℕ) → Agrees stop 0 n (is_killed oc) → IsSearchAnswer (problem p) (job_terms o stop) oc (clock_after turns n (is_killed oc))) → HasFewRounds found
-few_by p o turns n found oc asked tells answer i d h =
-    let few = answer_few (problem p) (job_terms o (stop_after n (is_killed oc))) oc _ (answer (stop_after n (is_killed oc)) (agrees n (is_killed oc))) in
-    let each : All (λ (c : Certificate). length c.rounds ≤ o.rounds) (Means.certificates (certs_of found)) = subst (All (λ (c : Certificate). length c.rounds ≤ o.rounds)) (carried found oc tells) few in
-    let cert : Cert = slice_index_or (certs_of found) i d in
-    let less = each i (Means.certificate d) (omega (arith, h, length-map (certs_of found) Means.certificate)) in
-    omega (arith, asked, less, ap (λ (c : Certificate). length c.rounds) (get_or-map Means.certificate (certs_of found) i d (Means.certificate d) h), length-map cert.rounds Means.round)
+  pub claim_shown : IsShown (problem p) f.outcome → IsShownClaim p found
+  claim_shown shown = record { outcome = renamed f.timed f.outcome; tells = f.tells; shown = renamed_shown (problem p) f.timed f.outcome shown }
+
+  -- with no more rounds than the options ask for
+  pub few_by : AreFewRounds o.rounds → HasFewRounds found
+  few_by asked i d h =
+      let few = renamed_few f.timed f.outcome (answer_few (problem p) (job_terms o (stop_by f.went_on f.killed f.timed)) f.outcome _ f.answer) in
+      let each : All (λ (c : Certificate). length c.rounds ≤ o.rounds) (Means.certificates (certs_of found)) = subst (All (λ (c : Certificate). length c.rounds ≤ o.rounds)) (carried found (renamed f.timed f.outcome) f.tells) few in
+      let cert : Cert = slice_index_or (certs_of found) i d in
+      let less = each i (Means.certificate d) (omega (arith, h, length-map (certs_of found) Means.certificate)) in
+      omega (arith, asked, less, ap (λ (c : Certificate). length c.rounds) (get_or-map Means.certificate (certs_of found) i d (Means.certificate d) h), length-map cert.rounds Means.round)
+    where
+      left_few : (oc : Outcome) (c : Cause) → AreFewOf o.rounds (left oc c)
+      left_few (Optimal x vs cs) c = All-nil (λ (c : Certificate). length c.rounds ≤ o.rounds)
+      left_few (Infeasible cert) c = All-nil (λ (c : Certificate). length c.rounds ≤ o.rounds)
+      left_few (Unbounded x vs cs r) c = All-nil (λ (c : Certificate). length c.rounds ≤ o.rounds)
+      left_few (BestSoFar x vs k) c = All-nil (λ (c : Certificate). length c.rounds ≤ o.rounds)
+      left_few (Unsure k) c = All-nil (λ (c : Certificate). length c.rounds ≤ o.rounds)
+
+      renamed_few : (timed : Option Frac) (oc : Outcome) → AreFewOf o.rounds oc → AreFewOf o.rounds (renamed timed oc)
+      renamed_few None oc few = few
+      renamed_few (Some s) oc few = left_few oc (TimeLimit s)
 
 -- ---- no search
 
@@ -215,6 +245,19 @@ quiet_instance {E} Came osil osol o fault message result came options_text fails
     }
     by doc (inr memory) = untold osil osol 0 false o.job doc (inr (o, options_text, refl)) memory
 
+-- the claim of a result that is handed in is told
+pub quiet_handed : {E : Type 0} (Came : List Bool → Type 0) (osil osol : List ℕ) (o : Options) (p : Parts) (ns : NameLists) (c : Claim) (result : Result Document E) → Came [] → IsValid p → IsOptionsText osol o → IsInstanceText osil p → AreDueNames osil o ns → HandsInClaim osol p c → IfOk result (IsFittedDocument ns None o.job c) → Ran Came osil osol (TellsDocument osil osol result)
+quiet_handed {E} Came osil osol o p ns c result came valid options_text instance_text due hands is =
+    quiet Came osil osol result came (IfOk-weaker result (IsFittedDocument ns None o.job c) (TellsOutcome osil osol 0 false) by is)
+  where
+    by : (doc : Document) → IsFittedDocument ns None o.job c doc → TellsOutcome osil osol 0 false doc
+    by doc (inl (told, fitted, written)) = record {
+      report = claim_report o.job told;
+      reports = handed (record { given = record { options = o; options_text = options_text; parts = p; valid = valid; instance_text = instance_text }; claim = c; handed = hands; told = told; fitted = fitted; is = refl });
+      is = named_answer osil osol o options_text p instance_text ns due (claim_report o.job told) doc written;
+    }
+    by doc (inr memory) = untold osil osol 0 false o.job doc (inr (o, options_text, refl)) memory
+
 -- ---- the verdict
 
 one_stop : (n : ℕ) → stops_of (went_on n ++ true ∷ []) ≡ 1
@@ -227,11 +270,16 @@ Asked killed asked = killed ≡ true → asked ≡ true
 answers_right : (osil osol : List ℕ) (n : ℕ) (killed asked : Bool) (r : Report) → Asked killed asked → Reports osil osol n killed r → AnswersJob osil osol asked r
 answers_right osil osol n killed asked r only (no_options h) = right.no_options h
 answers_right osil osol n killed asked r only (no_instance h) = right.no_instance h
-answers_right osil osol n killed asked r only (solved h) = right.solved (stop_after n killed) (looks_after 0 n killed) (stops killed only) h
+answers_right osil osol n killed asked r only (handed h) = right.handed h
+answers_right osil osol n killed asked r only (solved timed may h) = right.solved (stop_by n killed timed) (looks_by n killed timed) timed (ends timed may) h
   where
     stops : (k : Bool) → Asked k asked → MayStop asked (stop_after n k) (looks_after 0 n k)
     stops false only = inl refl
     stops true only = inr (only refl, ap Some (omega arith))
+
+    ends : (timed : Option Frac) → MayTimeOut osol killed timed → MayEnd osol asked (stop_by n killed timed) (looks_by n killed timed) timed
+    ends None may = stops killed only
+    ends (Some s) (says, went) = (says, refl)
 answers_right osil osol n killed asked r only (gave_up h) = right.gave_up h
 
 -- only a look that says so asks a job to stop

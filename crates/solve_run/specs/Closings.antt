@@ -1,5 +1,5 @@
 -- What a search's claim becomes before it is told: where a sum by which it is checked doesn't fit, or its document would be too long, it is given up, but for its point.
-use Rattle.std.specs.Prelude.{◌≡◌, ◌⊎◌, ℕ, ◌≤◌, Option, None, Some, true, false, List, length}
+use Rattle.std.specs.Prelude.{◌≡◌, ◌⊎◌, ℕ, ◌≤◌, Option, None, Some, true, false, cond, nat_le, List, length}
 use Rattle.instance.specs.Parts.{Parts}
 use Rattle.document_tags.specs.Texts.{document_limit}
 use Rattle.certificate.specs.declared.causes.Cause.TheVariants as causes
@@ -17,6 +17,19 @@ error_report job message = record { error = true; job = job; message = Some mess
 -- the report of a finished job with this claim
 abbrev pub claim_report : (job : Option (List ℕ)) → Claim → Report
 claim_report job c = record { error = false; job = job; message = None; status = Finished; claim = Some c }
+
+-- the first report, if its document isn't too long, or else the second
+abbrev pub unless_long : (wanted instead : Report) → Report
+unless_long r s = cond (nat_le (length (report_text r)) document_limit) r s
+
+-- the report with this message
+abbrev pub with_message : List ℕ → Report → Report
+with_message m r = record r { message = Some m }
+
+-- the report with this message, if there is one; without it where its document would be too long with it
+abbrev pub noted : (note : Option (List ℕ)) → Report → Report
+noted None r = r
+noted (Some m) r = unless_long (with_message m r) r
 
 -- the document of the claim, under this job's name, isn't too long
 abbrev pub IsShort : (job : Option (List ℕ)) → Claim → Type 0

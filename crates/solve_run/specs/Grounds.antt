@@ -1,5 +1,5 @@
 -- What the laws of the crates below say of all options, instances, searches, claims and reports.
-use Rattle.std.specs.Prelude.{◌≡◌, ◌≢◌, ℕ, List}
+use Rattle.std.specs.Prelude.{◌≡◌, ◌≢◌, ℕ, Result, MatchResult, List}
 use Rattle.rational.specs.Ratio.{IsSame}
 use Rattle.fraction.specs.Frac.{ratio}
 use Rattle.fraction.specs.declared.frac.Frac.{Frac}
@@ -18,6 +18,15 @@ use Rattle.osol_grammar.specs.declared.fault.OsolFault.TheVariants as options_fa
 use Rattle.osol_grammar.specs.Meaning.{IsOptionsText}
 use Rattle.osol_grammar.specs.Reading as options
 use Rattle.osol_grammar.specs.Texts as options_texts
+use Rattle.osrl_writing.specs.declared.report.Report.{Report}
+use Rattle.osrl_grammar.specs.Reading.{IsReportText}
+use Rattle.document_checker.specs.declared.documents.Kind.{Kind}
+use Rattle.document_checker.specs.declared.fault.CheckFault.{CheckFault}
+use Rattle.document_checker.specs.declared.fault.CheckFault.TheVariants as check_faults
+use Rattle.document_checker.specs.Documents.{IsAcceptedText, DocsRefuse}
+use Rattle.document_checker.specs.Texts.{IsAnswerText}
+use Rattle.handed_results.specs.declared.handed.Handed.{Handed}
+use Rattle.handed_results.specs.Reading.{HandsIn}
 
 -- texts are one kind of options, or are refused in one text
 pub record OptionsAreOne : Type 0 where
@@ -33,3 +42,10 @@ pub record SearchesAreOne : Type 0 where
   pub fractions : (x y : Frac) → IsSame (ratio x) (ratio y) → x ≡ y
   pub refusal : (P : Problem) (claim : Says.Claim) (r s : Refused) → IsProblem P → IsRefusedFor P claim r → IsRefusedFor P claim s → r ≡ s
   pub apart : (P : Problem) (claim : Says.Claim) (r : Refused) → IsProblem P → IsRefusedFor P claim r → Accepts P claim → ⊥
+
+-- options hand in one thing, a result document is one report, and with an instance's document it has one answer
+pub record HandedAreOne : Type 0 where
+  pub once : (bytes : List ℕ) (o : Options) (h k : Handed) → IsOptionsText bytes o → HandsIn bytes h → HandsIn bytes k → h ≡ k
+  pub report : (bytes : List ℕ) (r s : Report) → IsReportText bytes r → IsReportText bytes s → r ≡ s
+  pub apart : (osil osrl : List ℕ) (k : Kind) (f : CheckFault) → IsAcceptedText osil osrl k → DocsRefuse osil osrl f → f ≡ check_faults.Memory
+  pub answer : (osil osrl : List ℕ) (a b : Result Kind CheckFault) (s t : List ℕ) → MatchResult a (IsAcceptedText osil osrl) (DocsRefuse osil osrl) → MatchResult b (IsAcceptedText osil osrl) (DocsRefuse osil osrl) → IsAnswerText a s → IsAnswerText b t → s ≡ t

@@ -1,11 +1,11 @@
 -- Which documents answer a job: the texts of its instance and its options decide it, but for want of memory and for the look that stops the search.
 use Rattle.std.specs.Prelude.{◌≡◌, ◌⊎◌, ℕ, Bool, true, Option, None, Some, List}
+use Rattle.fraction.specs.declared.frac.Frac.{Frac}
 use Rattle.instance.specs.Parts.{Parts, IsValid}
 use Rattle.instance.specs.Program.{problem}
 use Rattle.certificate.specs.declared.causes.Cause.TheVariants.{Memory}
 use Rattle.certificate.specs.declared.claims.Claim.{Claim}
 use Rattle.certificate.specs.declared.claims.Claim.TheVariants.{Unsure}
-use Rattle.simplex_rules.specs.Ends.{Terms}
 use Rattle.search_rules.specs.Search.{Outcome, SearchMoment, ComesInSearch, Search, early}
 use Rattle.branch_bound.specs.Claims.{ClaimTells}
 use Rattle.osol_grammar.specs.declared.options.Options.{Options}
@@ -22,11 +22,9 @@ use Rattle.osrl_writing.specs.Labels.{no_names}
 use Rattle.osrl_writing.specs.Writing.{told_text}
 use Rattle.instance_names.specs.Reading.{GivesNames}
 use Rattle.osrl_grammar.specs.Back.{ClaimComesBack}
-use Rattle.solve_run.specs.Closings.{error_report, claim_report, IsToldOf}
-
--- a search within the options' limits, stopped by this look, if by one
-abbrev pub job_terms : Options → (stop : Option ℕ) → Terms
-job_terms o stop = record { nodes = o.nodes; turns = o.turns; rounds = o.rounds; stop = stop }
+use Rattle.solve_run.specs.Closings.{error_report, claim_report, noted, IsFitted, IsToldOf}
+use Rattle.solve_run.specs.Handing.{HandsInClaim, HandsInNone}
+use Rattle.solve_run.specs.Untils.{job_terms, renamed}
 
 -- the options are refused: the report is an error's of no job, and says why
 pub record RefusesOptions (osol : List ℕ) (r : Report) : Type 0 where
@@ -54,18 +52,29 @@ pub record AreJobTexts (osil osol : List ℕ) : Type 0 where
   pub valid : IsValid parts
   pub instance_text : IsInstanceText osil parts
 
--- the search of the instance within the options' limits ends after so many looks, of which the given one stops it, and the report tells what it found; the claim's numbers are those of their types
-pub record Solved (osil osol : List ℕ) (stop : Option ℕ) (looks : ℕ) (r : Report) : Type 0 where
+-- the options hand in a result whose claim is shown of the instance: the report tells it, or what is told of it where that would be too long, and there is no search
+pub record TakesHanded (osil osol : List ℕ) (r : Report) : Type 0 where
+  pub given : AreJobTexts osil osol
+  pub claim : Claim
+  pub handed : HandsInClaim osol given.parts claim
+  pub told : Claim
+  pub fitted : IsFitted given.options.job claim told
+  pub is : r ≡ claim_report given.options.job told
+
+-- no such result is handed in, the search of the instance within the options' limits ends after so many looks, of which the given one stops it, for a time that is over, or not, and the report tells what it found, with that time as its cause, and with the message about what is handed in; the claim's numbers are those of their types
+pub record Solved (osil osol : List ℕ) (stop : Option ℕ) (timed : Option Frac) (looks : ℕ) (r : Report) : Type 0 where
   pub given : AreJobTexts osil osol
   pub turns : ℕ
   pub outcome : Outcome
   pub ends : Search (problem given.parts) (job_terms given.options stop) outcome (record { turns = turns; looks = looks })
   pub found : Claim
-  pub tells : ClaimTells found outcome
+  pub tells : ClaimTells found (renamed timed outcome)
   pub told : Claim
   pub closed : IsToldOf given.parts given.options.job turns found told
   pub numbers : ClaimComesBack (Some told)
-  pub is : r ≡ claim_report given.options.job told
+  pub note : Option (List ℕ)
+  pub handed : HandsInNone osol given.parts note
+  pub is : r ≡ noted note (claim_report given.options.job told)
 
 -- a job's name that is told: none, or that of the options
 abbrev pub IsJobOf : List ℕ → Option (List ℕ) → Type 0
@@ -78,23 +87,39 @@ pub record IsBestOfSearch (osil osol : List ℕ) (c : Claim) : Type 0 where
   pub comes : ComesInSearch (problem given.parts) (job_terms given.options None) moment
   pub tells : ClaimTells c (early moment.best Memory)
 
+-- no message, or that about what the options hand in
+abbrev pub IsNoteOfJob : (osil osol : List ℕ) → Option (List ℕ) → Type 0
+IsNoteOfJob osil osol note = (note ≡ None) ⊎ ((g : AreJobTexts osil osol) × HandsInNone osol g.parts note)
+
 -- memory was wanting: nothing is claimed, or the best point of some moment of the search
 pub record GaveUp (osil osol : List ℕ) (r : Report) : Type 0 where
   pub job : Option (List ℕ)
   pub whose : IsJobOf osol job
   pub claim : Claim
   pub claims : (claim ≡ Unsure Memory None) ⊎ IsBestOfSearch osil osol claim
-  pub is : r ≡ claim_report job claim
+  pub note : Option (List ℕ)
+  pub noting : IsNoteOfJob osil osol note
+  pub is : r ≡ noted note (claim_report job claim)
 
 -- no look stops the search, or, only where the job was asked to stop, its last one
 abbrev pub MayStop : (asked : Bool) → (stop : Option ℕ) → (looks : ℕ) → Type 0
 MayStop asked stop looks = (stop ≡ None) ⊎ ((asked ≡ true) × (stop ≡ Some looks))
 
+-- the options say these seconds
+abbrev pub SaysSeconds : List ℕ → Frac → Type 0
+SaysSeconds osol s = (o : Options) × IsOptionsText osol o × (o.seconds ≡ Some s)
+
+-- the same; or its last look does, for a time that is over, only where the options say that very one
+abbrev pub MayEnd : (osol : List ℕ) → (asked : Bool) → (stop : Option ℕ) → (looks : ℕ) → (timed : Option Frac) → Type 0
+MayEnd osol asked stop looks None = MayStop asked stop looks
+MayEnd osol asked stop looks (Some s) = SaysSeconds osol s × (stop ≡ Some looks)
+
 -- the report answers a job with these texts
 pub data AnswersJob (osil osol : List ℕ) (asked : Bool) (r : Report) : Type 0 where
   no_options : RefusesOptions osol r → AnswersJob osil osol asked r
   no_instance : RefusesInstance osil osol r → AnswersJob osil osol asked r
-  solved : (stop : Option ℕ) (looks : ℕ) → MayStop asked stop looks → Solved osil osol stop looks r → AnswersJob osil osol asked r
+  handed : TakesHanded osil osol r → AnswersJob osil osol asked r
+  solved : (stop : Option ℕ) (looks : ℕ) (timed : Option Frac) → MayEnd osol asked stop looks timed → Solved osil osol stop timed looks r → AnswersJob osil osol asked r
   gave_up : GaveUp osil osol r → AnswersJob osil osol asked r
 
 -- the options ask for names

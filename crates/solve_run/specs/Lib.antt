@@ -10,8 +10,10 @@ pub use Rattle.osrl_writing.specs.Writing
 pub use Rattle.osrl_grammar.specs.Back
 pub use Rattle.cert_checker.specs.Refusals
 pub use Rattle.document_checker.specs.Documents
+pub mod Untils
 pub mod Judging
 pub mod Closings
+pub mod Handing
 pub mod JobAnswers
 pub mod Runs
 pub mod Grounds

@@ -1,11 +1,12 @@
 -- What the run of a job answers after its looks, of which the last may have stopped it.
 use Rattle.std.specs.Prelude.{◌≡◌, ◌⊎◌, ℕ, Bool, false, Option, None, Some, Result, Ok, IfOk, List}
+use Rattle.fraction.specs.declared.frac.Frac.{Frac}
 use Rattle.instance.specs.Parts.{Parts}
 use Rattle.instance.specs.Program.{problem}
 use Rattle.certificate.specs.declared.causes.Cause.TheVariants.{Memory}
 use Rattle.certificate.specs.declared.claims.Claim.{Claim}
 use Rattle.certificate.specs.declared.claims.Claim.TheVariants.{Optimal, Infeasible, Unbounded, BestSoFar, Unsure}
-use Rattle.simplex_rules.specs.Looks.{answers, looks_after, stop_after}
+use Rattle.simplex_rules.specs.Looks.{answers}
 use Rattle.search_rules.specs.Search.{Outcome, IsSearchAnswer}
 use Rattle.osrl_writing.specs.declared.report.Report.{Report}
 use Rattle.osrl_writing.specs.declared.told_names.NameLists.{NameLists}
@@ -14,26 +15,40 @@ use Rattle.osrl_writing.specs.Writing.{report_text, told_text}
 use Rattle.instance_names.specs.Reading.{MayGiveNames}
 use Rattle.osol_grammar.specs.declared.options.Options.{Options}
 use Rattle.osrl_grammar.specs.Back.{CauseComesBack, ClaimComesBack}
-use Rattle.solve_run.specs.Closings.{claim_report, error_report, IsFitted, IsToldOf}
+use Rattle.solve_run.specs.Closings.{claim_report, error_report, noted, IsFitted, IsToldOf}
+use Rattle.solve_run.specs.Handing.{IsNoteOf, HandsInClaim, HandsInNone}
+use Rattle.solve_run.specs.declared.handing.Handing.{Handing}
+use Rattle.solve_run.specs.declared.handing.Handing.TheVariants.{Taken, Passed}
+use Rattle.document_checker.specs.Documents.{IsShownIn}
+use Rattle.handed_results.specs.declared.handed.Handed.TheVariants.{Once}
 use Rattle.solve_run.specs.declared.document.Document.{Document}
-use Rattle.solve_run.specs.JobAnswers.{job_terms, RefusesOptions, RefusesInstance, AreJobTexts, Solved, GaveUp, AnswersJob, TellsReport}
+use Rattle.solve_run.specs.Untils.{job_terms, stop_by, looks_by, MayTime}
+use Rattle.solve_run.specs.JobAnswers.{SaysSeconds, RefusesOptions, RefusesInstance, AreJobTexts, TakesHanded, Solved, GaveUp, AnswersJob, TellsReport}
 
--- the looks are those of the search of the instance, up to its end or to where memory was wanting
+-- the looks are those of the search of the instance, up to its end or to where memory was wanting; or a time that the options say was over at the last one
 pub record AreSearched (osil osol : List ℕ) (n : ℕ) (killed : Bool) : Type 0 where
   pub given : AreJobTexts osil osol
   pub turns : ℕ
   pub outcome : Outcome
-  pub answers : IsSearchAnswer (problem given.parts) (job_terms given.options (stop_after n killed)) outcome (record { turns = turns; looks = looks_after 0 n killed })
+  pub timed : Option Frac
+  pub may : MayTime given.options killed timed
+  pub answers : IsSearchAnswer (problem given.parts) (job_terms given.options (stop_by n killed timed)) outcome (record { turns = turns; looks = looks_by n killed timed })
 
 -- there were no looks, or those of the search
 abbrev pub AreSearchLooks : (osil osol : List ℕ) → ℕ → Bool → Type 0
 AreSearchLooks osil osol n killed = ((n ≡ 0) × (killed ≡ false)) ⊎ AreSearched osil osol n killed
 
--- the report that is answered after n looks that went on, and one more where it stopped the search
+-- a time was over only where the options say that very one, and the job's own watch went on
+abbrev pub MayTimeOut : (osol : List ℕ) → (killed : Bool) → (timed : Option Frac) → Type 0
+MayTimeOut osol killed None = Unit {0}
+MayTimeOut osol killed (Some s) = SaysSeconds osol s × (killed ≡ false)
+
+-- the report that is answered after n looks at which the job's own watch went on, and one more where that stopped the search
 pub data Reports (osil osol : List ℕ) (n : ℕ) (killed : Bool) (r : Report) : Type 0 where
   no_options : RefusesOptions osol r → Reports osil osol n killed r
   no_instance : RefusesInstance osil osol r → Reports osil osol n killed r
-  solved : Solved osil osol (stop_after n killed) (looks_after 0 n killed) r → Reports osil osol n killed r
+  handed : TakesHanded osil osol r → Reports osil osol n killed r
+  solved : (timed : Option Frac) → MayTimeOut osol killed timed → Solved osil osol (stop_by n killed timed) timed (looks_by n killed timed) r → Reports osil osol n killed r
   gave_up : GaveUp osil osol r → Reports osil osol n killed r
 
 -- the document is this report's, and says whether it reports an error
@@ -98,9 +113,23 @@ IsErrorDocument {E} job message doc = ((m : List ℕ) × (message ≡ Ok m) × I
 abbrev pub IsNamedTextOf : NameLists → Report → Document → Type 0
 IsNamedTextOf ns r doc = IsNamedDocument ns r doc ⊎ IsMemoryDocument r.job doc
 
--- the document of a report with this claim, or with what is told of it where that is too long, with these names, or memory was wanting
-abbrev pub IsFittedDocument : NameLists → (job : Option (List ℕ)) → Claim → Document → Type 0
-IsFittedDocument ns job c doc = ((told : Claim) × IsFitted job c told × IsNamedDocument ns (claim_report job told) doc) ⊎ IsMemoryDocument job doc
+-- the same with this message, if there is one
+abbrev pub IsNotedTextOf : NameLists → (note : Option (List ℕ)) → Report → Document → Type 0
+IsNotedTextOf ns note r doc = IsNamedDocument ns (noted note r) doc ⊎ IsMemoryDocument r.job doc
+
+-- the document of a report with this claim, or with what is told of it where that is too long, with these names and this message, if there is one, or memory was wanting
+abbrev pub IsFittedDocument : NameLists → (note job : Option (List ℕ)) → Claim → Document → Type 0
+IsFittedDocument ns note job c doc = ((told : Claim) × IsFitted job c told × IsNamedDocument ns (noted note (claim_report job told)) doc) ⊎ IsMemoryDocument job doc
+
+-- what becomes of a result of this text, for a job with this instance
+abbrev pub IsTextHanding : Parts → List ℕ → Handing → Type 0
+IsTextHanding p text (Taken c) = IsShownIn p text c
+IsTextHanding p text (Passed note) = IsNoteOf p (Once text) note
+
+-- what becomes of what the options hand in
+abbrev pub IsHandingOf : (osol : List ℕ) → Parts → Handing → Type 0
+IsHandingOf osol p (Taken c) = HandsInClaim osol p c
+IsHandingOf osol p (Passed note) = HandsInNone osol p note
 
 -- the numbers of a claim's cause are those of their types
 abbrev pub HasCauses : Claim → Type 0
@@ -110,13 +139,13 @@ HasCauses (Unbounded x vs cs r) = Unit {0}
 HasCauses (BestSoFar x vs c b) = CauseComesBack c
 HasCauses (Unsure c b) = CauseComesBack c
 
--- what is told of a claim that was found, closed, with these names
-pub record ClosesClaim (p : Parts) (ns : NameLists) (job : Option (List ℕ)) (turns : ℕ) (found : Claim) (doc : Document) : Type 0 where
+-- what is told of a claim that was found, closed, with these names and this message
+pub record ClosesClaim (p : Parts) (ns : NameLists) (note job : Option (List ℕ)) (turns : ℕ) (found : Claim) (doc : Document) : Type 0 where
   pub told : Claim
   pub closed : IsToldOf p job turns found told
   pub numbers : ClaimComesBack (Some told)
-  pub is : IsNamedDocument ns (claim_report job told) doc
+  pub is : IsNamedDocument ns (noted note (claim_report job told)) doc
 
 -- the document tells what was found, or memory was wanting
-abbrev pub IsClaimTold : (p : Parts) (ns : NameLists) (job : Option (List ℕ)) (turns : ℕ) (found : Claim) → Document → Type 0
-IsClaimTold p ns job turns found doc = ClosesClaim p ns job turns found doc ⊎ IsMemoryDocument job doc
+abbrev pub IsClaimTold : (p : Parts) (ns : NameLists) (note job : Option (List ℕ)) (turns : ℕ) (found : Claim) → Document → Type 0
+IsClaimTold p ns note job turns found doc = ClosesClaim p ns note job turns found doc ⊎ IsMemoryDocument job doc

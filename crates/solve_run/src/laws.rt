@@ -20,22 +20,31 @@ ghost use Rattle.cert_checker.specs.declared.refused.Refused.{Refused};
 ghost use Rattle.cert_checker.specs.Refusals.{IsRefusedFor};
 ghost use Rattle.document_checker.specs.Documents.{kind, IsAcceptedText};
 ghost use Rattle.solve_run.specs.Judging.{IsFinal, IsWideAt};
-ghost use Rattle.solve_run.specs.Closings.{IsShort, claim_report};
-ghost use Rattle.solve_run.specs.JobAnswers.{job_terms, RefusesOptions, RefusesInstance, Solved, GaveUp, AnswersJob, TellsReport, Right};
-ghost use Rattle.solve_run.specs.Grounds.{OptionsAreOne, SearchesAreOne};
+ghost use Rattle.solve_run.specs.Closings.{IsShort, claim_report, noted};
+ghost use Rattle.solve_run.specs.Handing.{HandsInNone};
+ghost use Rattle.solve_run.specs.JobAnswers.{RefusesOptions, RefusesInstance, TakesHanded, Solved, GaveUp, AnswersJob, TellsReport, Right};
+ghost use Rattle.solve_run.specs.Grounds.{OptionsAreOne, SearchesAreOne, HandedAreOne};
+ghost use Rattle.fraction.specs.declared.frac.Frac.{Frac};
+ghost use Rattle.solve_run.specs.Untils.{job_terms};
 
 use cert_checker::{
     claims_have_one_refusal, refused_is_not_accepted, shown_is_refused_for_width_alone,
 };
-use document_checker::{accepted_documents_are_true, instances_are_one};
+use document_checker::{
+    accepted_documents_are_not_refused, accepted_documents_are_true, documents_have_one_answer,
+    instances_are_one,
+};
 use document_tags::tree_faults_have_one_text;
 use fraction::equal_fractions;
+use handed_results::options_hand_in_one;
 use instance::problems_have_numbers;
 use instance_names::names_are_of_characters;
 use osol_grammar::{
     document_has_one_refusal, document_says_one, options_are_not_refused, options_have_names,
 };
-use osrl_grammar::{named_texts_are_reports, written_texts_are_reports};
+use osrl_grammar::{
+    document_has_one_report, named_texts_are_reports, read_claims_fit, written_texts_are_reports,
+};
 use search_rules::{answers_are_shown, outcomes_are_shown, searches_have_one_outcome};
 
 /// The laws of options' texts.
@@ -59,26 +68,44 @@ fn searches_are_one()
     refused_is_not_accepted();
 }
 
-/// Law: whether the options are refused, the instance is, or it is searched, is decided by their texts, but for want of memory.
+/// The laws of results that are handed in.
+fn handed_are_one()
+    ensures { HandedAreOne }
+{
+    options_hand_in_one();
+    document_has_one_report();
+    accepted_documents_are_not_refused();
+    documents_have_one_answer();
+}
+
+/// Law: whether the options are refused, the instance is, a result that is handed in is taken, or the instance is searched, is decided
+/// by their texts, but for want of memory.
 pub fn answers_exclude_each_other()
     ensures options_instance { (osil osol : List ℕ) (r s : Report) → RefusesOptions osol r → RefusesInstance osil osol s → ⊥ }
-    ensures options_search { (osil osol : List ℕ) (stop : Option ℕ) (looks : ℕ) (r s : Report) → RefusesOptions osol r → Solved osil osol stop looks s → ⊥ }
-    ensures instance_search { (osil osol : List ℕ) (stop : Option ℕ) (looks : ℕ) (r s : Report) → RefusesInstance osil osol r → Solved osil osol stop looks s → ⊥ }
+    ensures options_search { (osil osol : List ℕ) (stop : Option ℕ) (timed : Option Frac) (looks : ℕ) (r s : Report) → RefusesOptions osol r → Solved osil osol stop timed looks s → ⊥ }
+    ensures instance_search { (osil osol : List ℕ) (stop : Option ℕ) (timed : Option Frac) (looks : ℕ) (r s : Report) → RefusesInstance osil osol r → Solved osil osol stop timed looks s → ⊥ }
+    ensures options_handed { (osil osol : List ℕ) (r s : Report) → RefusesOptions osol r → TakesHanded osil osol s → ⊥ }
+    ensures instance_handed { (osil osol : List ℕ) (r s : Report) → RefusesInstance osil osol r → TakesHanded osil osol s → ⊥ }
+    ensures handed_search { (osil osol : List ℕ) (stop : Option ℕ) (timed : Option Frac) (looks : ℕ) (r s : Report) → TakesHanded osil osol r → Solved osil osol stop timed looks s → ⊥ }
 {
     options_are_one();
     instances_are_one();
+    handed_are_one();
 }
 
-/// Law: a job has one answer of each kind: one for refused options, one for a refused instance, and one for a search that no
-/// look stops, or that the same look stops, after so many looks.
+/// Law: a job has one answer of each kind: one for refused options, one for a refused instance, one for a result that is handed in
+/// and taken, and one for a search that no look stops, or that the same look
+/// stops, for the same time or for none, after so many looks.
 pub fn answers_are_one()
     ensures options { (osol : List ℕ) (r s : Report) → RefusesOptions osol r → RefusesOptions osol s → r ≡ s }
     ensures instance { (osil osol : List ℕ) (r s : Report) → RefusesInstance osil osol r → RefusesInstance osil osol s → r ≡ s }
-    ensures search { (osil osol : List ℕ) (stop : Option ℕ) (looks more : ℕ) (r s : Report) → Solved osil osol stop looks r → Solved osil osol stop more s → (r ≡ s) × (looks ≡ more) }
+    ensures search { (osil osol : List ℕ) (stop : Option ℕ) (timed : Option Frac) (looks more : ℕ) (r s : Report) → Solved osil osol stop timed looks r → Solved osil osol stop timed more s → (r ≡ s) × (looks ≡ more) }
+    ensures handed { (osil osol : List ℕ) (r s : Report) → TakesHanded osil osol r → TakesHanded osil osol s → r ≡ s }
 {
     options_are_one();
     instances_are_one();
     searches_are_one();
+    handed_are_one();
 }
 
 /// Law: a claim that a search finds, that a point is optimal, that none is feasible or that points have no best value, is refused
@@ -92,14 +119,16 @@ pub fn found_claims_are_refused_for_width_alone()
 }
 
 /// Law: where the search of a job that isn't asked to stop ends with a claim that is refused for no width, and whose document
-/// isn't too long, the job's answer tells it, or memory is wanting. Such is each claim that a point is optimal, that none is
-/// feasible or that points have no best value, and that the checker accepts.
+/// isn't too long, the job's answer tells it, with the message about a result that is handed in and isn't taken, if there is such;
+/// or such a result is taken, or memory is wanting, or a time that its options say was over at a look. Such is each claim that a point is optimal, that none is feasible or that points
+/// have no best value, and that the checker accepts.
 pub fn ended_searches_are_told()
-    ensures { (osil osol : List ℕ) (o : kinds.Options) (p : Parts) (oc : Outcome) (found : Claim) (c : Clock) (r : Report) → IsOptionsText osol o → IsInstanceText osil p → Search (problem p) (job_terms o None) oc c → ClaimTells found oc → ((q : Refused) (n : ℕ) → IsRefusedFor (problem p) (Means.claim found) q → IsWideAt q n → ⊥) → IsShort o.job found → AnswersJob osil osol false r → (r ≡ claim_report o.job found) ⊎ GaveUp osil osol r }
+    ensures { (osil osol : List ℕ) (o : kinds.Options) (p : Parts) (oc : Outcome) (found : Claim) (c : Clock) (r : Report) → IsOptionsText osol o → IsInstanceText osil p → Search (problem p) (job_terms o None) oc c → ClaimTells found oc → ((q : Refused) (n : ℕ) → IsRefusedFor (problem p) (Means.claim found) q → IsWideAt q n → ⊥) → IsShort o.job found → AnswersJob osil osol false r → ((note : Option (List ℕ)) × HandsInNone osol p note × (r ≡ noted note (claim_report o.job found))) ⊎ TakesHanded osil osol r ⊎ GaveUp osil osol r ⊎ ((s : Frac) × (looks : ℕ) × (o.seconds ≡ Some s) × Solved osil osol (Some looks) (Some s) looks r) }
 {
     options_are_one();
     instances_are_one();
     searches_are_one();
+    handed_are_one();
 }
 
 /// Law: whatever an answer says, be it a claim, that nothing is known, or why the options or the instance were refused, its document
@@ -114,6 +143,7 @@ pub fn result_documents_are_read_back()
     options_have_names();
     problems_have_numbers();
     answers_are_shown();
+    read_claims_fit();
     written_texts_are_reports();
 }
 
@@ -128,6 +158,7 @@ pub fn claims_are_accepted()
     options_have_names();
     problems_have_numbers();
     answers_are_shown();
+    read_claims_fit();
     written_texts_are_reports();
     accepted_documents_are_true();
 }

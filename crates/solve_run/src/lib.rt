@@ -4,7 +4,8 @@
 //! lets it, and writes a report: an error where one of the texts is refused, or else what the search claims. A claim that a
 //! point is optimal, that none is feasible, or that points have no best value is checked by `cert_checker` before it is told.
 //! Where a sum of that check doesn't fit 128 bits, or where the document would be longer than a document may be, only the claim's
-//! point is told, with that cause. [`answer_job`] does the same, and its [`Document`] says too whether the report is of an error.
+//! point is told, with that cause. Where the options hand in a result whose claim the checker accepts of the instance, that claim is
+//! told, and nothing is searched. [`answer_job`] does the same, and its [`Document`] says too whether the report is of an error.
 //!
 //! `Right` says which documents answer a job: for one pair of texts there is one, but for want of memory and for the look that
 //! stops the search. The laws say so, that a search which comes to its end is told, that each document, whatever it says, is read
@@ -15,6 +16,7 @@
 mod closing;
 mod document;
 mod finding;
+mod handing;
 mod laws;
 mod running;
 mod telling;

@@ -4,12 +4,14 @@ ghost use Rattle.instance.specs.Parts.{IsValid};
 ghost use Rattle.osol_grammar.specs.Meaning.{IsOptionsText};
 ghost use Rattle.osil_grammar.specs.Reading.{IsInstanceText};
 ghost use Rattle.solve_run.specs.Judging.{AreFewRounds};
+ghost use Rattle.solve_run.specs.Handing.{HandsInNone};
 ghost use Rattle.solve_run.specs.JobAnswers.{Right};
 ghost use Rattle.solve_run.specs.Runs.{Ran, IsRight, AreDueNames, TellsDocument, TellsText};
 
 use crate::document::Document;
-use crate::finding::find;
-use crate::telling::{found_document, memory_document, refusal};
+use crate::finding::find_until;
+use crate::handing::{Handing, judge_handed};
+use crate::telling::{fitted, found_document, memory_document, refusal};
 use branch_bound::Searched;
 use instance::{Instance, problems_have_numbers};
 use instance_names::read_names;
@@ -19,6 +21,7 @@ use osol_grammar::{Options, OsolFault, options_have_names, read_options_come_bac
 use osrl_writing::NameLists;
 use search_rules::answers_are_shown;
 use std::alloc::Global;
+use std::time::Clock;
 
 /// The names that a job's result is told with: those of its instance's document, where its options ask for them.
 fn due_names(alloc: Global, osil: &[u8], options: &Options) -> Result<NameLists, Memory>
@@ -30,58 +33,90 @@ fn due_names(alloc: Global, osil: &[u8], options: &Options) -> Result<NameLists,
     read_names(alloc, osil)
 }
 
-/// Runs a job whose options, instance and names are read.
-fn run_instance<W: Watch>(
+/// Runs a job whose options, instance and names are read, and whose options hand in no result that is taken. This message is due about
+/// what they hand in.
+fn run_instance<W: Watch, T: Clock>(
     alloc: Global,
     instance: &Instance,
     names: &NameLists,
+    note: Option<Text>,
     options: Options,
+    clock: &T,
     watch: &mut W,
 ) -> Result<Document, Memory>
     requires valid { IsValid instance.now }
     requires rounds { AreFewRounds options.rounds }
     requires stops { W.stops watch.old < 2 ^ 64 - 1 }
-    ensures { (osil osol : List ℕ) → IsOptionsText osol options → IsInstanceText osil instance.now → AreDueNames osil options names.now → Ran (W.came watch.old watch.new) osil osol (TellsDocument osil osol result) }
+    ensures { (osil osol : List ℕ) → IsOptionsText osol options → IsInstanceText osil instance.now → AreDueNames osil options names.now → HandsInNone osol instance.now note → Ran (W.came watch.old watch.new) osil osol (TellsDocument osil osol result) }
 {
-    let Searched { claim, turns } = find(alloc, instance, &options, watch);
+    let Searched { claim, turns } = find_until(alloc, instance, &options, clock, watch);
     options_have_names();
     problems_have_numbers();
     answers_are_shown();
-    found_document(alloc, instance, names, options.job, claim, turns)
+    found_document(alloc, instance, names, note, options.job, claim, turns)
 }
 
-/// Runs a job whose options and instance are read.
-fn run_read<W: Watch>(
+/// Runs a job whose options, instance and names are read. A result that its options hand in is its answer where it is shown of
+/// the instance; else there is a search.
+fn run_named<W: Watch, T: Clock>(
     alloc: Global,
-    osil: &[u8],
+    osol: &[u8],
     instance: &Instance,
+    names: &NameLists,
     options: Options,
+    clock: &T,
     watch: &mut W,
 ) -> Result<Document, Memory>
     requires valid { IsValid instance.now }
     requires rounds { AreFewRounds options.rounds }
     requires stops { W.stops watch.old < 2 ^ 64 - 1 }
-    ensures { (osol : List ℕ) → IsOptionsText osol options → IsInstanceText osil.now instance.now → Ran (W.came watch.old watch.new) osil.now osol (TellsDocument osil.now osol result) }
+    ensures { (osil : List ℕ) → IsOptionsText osol.now options → IsInstanceText osil instance.now → AreDueNames osil options names.now → Ran (W.came watch.old watch.new) osil osol.now (TellsDocument osil osol.now result) }
+{
+    match judge_handed(alloc, instance, osol) {
+        Ok(Handing::Taken(claim)) => fitted(alloc, names, None, options.job, claim),
+        Ok(Handing::Passed(note)) => run_instance(
+            alloc, instance, names, note, options, clock, watch,
+        ),
+        Err(_) => memory_document(alloc, options.job),
+    }
+}
+
+/// Runs a job whose options and instance are read.
+fn run_read<W: Watch, T: Clock>(
+    alloc: Global,
+    osil: &[u8],
+    osol: &[u8],
+    instance: &Instance,
+    options: Options,
+    clock: &T,
+    watch: &mut W,
+) -> Result<Document, Memory>
+    requires valid { IsValid instance.now }
+    requires rounds { AreFewRounds options.rounds }
+    requires stops { W.stops watch.old < 2 ^ 64 - 1 }
+    ensures { IsOptionsText osol.now options → IsInstanceText osil.now instance.now → Ran (W.came watch.old watch.new) osil.now osol.now (TellsDocument osil.now osol.now result) }
 {
     match due_names(alloc, osil, &options) {
-        Ok(names) => run_instance(alloc, instance, &names, options, watch),
+        Ok(names) => run_named(alloc, osol, instance, &names, options, clock, watch),
         Err(_) => memory_document(alloc, options.job),
     }
 }
 
 /// Runs a job whose options are read.
-fn run_options<W: Watch>(
+fn run_options<W: Watch, T: Clock>(
     alloc: Global,
     osil: &[u8],
+    osol: &[u8],
     options: Options,
+    clock: &T,
     watch: &mut W,
 ) -> Result<Document, Memory>
     requires rounds { AreFewRounds options.rounds }
     requires stops { W.stops watch.old < 2 ^ 64 - 1 }
-    ensures { (osol : List ℕ) → IsOptionsText osol options → Ran (W.came watch.old watch.new) osil.now osol (TellsDocument osil.now osol result) }
+    ensures { IsOptionsText osol.now options → Ran (W.came watch.old watch.new) osil.now osol.now (TellsDocument osil.now osol.now result) }
 {
     match osil_grammar::decode(alloc, osil) {
-        Ok(instance) => run_read(alloc, osil, &instance, options, watch),
+        Ok(instance) => run_read(alloc, osil, osol, &instance, options, clock, watch),
         Err(OsilFault::Memory) => memory_document(alloc, options.job),
         Err(fault) => {
             let message = osil_grammar::refusal_text(alloc, &fault);
@@ -91,10 +126,11 @@ fn run_options<W: Watch>(
 }
 
 /// Runs a job, whose options are read first.
-fn run_texts<W: Watch>(
+fn run_texts<W: Watch, T: Clock>(
     alloc: Global,
     osil: &[u8],
     osol: &[u8],
+    clock: &T,
     watch: &mut W,
 ) -> Result<Document, Memory>
     requires { W.stops watch.old < 2 ^ 64 - 1 }
@@ -102,7 +138,7 @@ fn run_texts<W: Watch>(
 {
     read_options_come_back();
     match osol_grammar::decode(alloc, osol) {
-        Ok(options) => run_options(alloc, osil, options, watch),
+        Ok(options) => run_options(alloc, osil, osol, options, clock, watch),
         Err(OsolFault::Memory) => memory_document(alloc, None),
         Err(fault) => {
             let message = osol_grammar::refusal_text(alloc, fault);
@@ -112,36 +148,40 @@ fn run_texts<W: Watch>(
 }
 
 /// Runs a job: its result document, from the texts of its instance and of its options. The options are read before the
-/// instance; a text of white space alone says none. The watch is asked by the looks of the search alone.
+/// instance; a text of white space alone says none. The watch is asked by the looks of the search alone, and the clock too, where the
+/// options say a time.
 ///
 /// Where memory is wanting, the document says so, and may have the best point of some moment of the search; where there is
 /// none for such a document either, there is no document. Where the options ask for names, the instance's document is read
-/// for them before the search.
-pub fn answer_job<W: Watch>(
+/// for them before the search. Where they hand in a result whose claim the checker accepts of the instance, that claim is told, and
+/// nothing is searched.
+pub fn answer_job<W: Watch, T: Clock>(
     alloc: Global,
     osil: &[u8],
     osol: &[u8],
+    clock: &T,
     watch: &mut W,
 ) -> Result<Document, Memory>
     requires { W.stops watch.old < 2 ^ 64 - 1 }
     ensures ran { Ran (W.came watch.old watch.new) osil.now osol.now (TellsDocument osil.now osol.now result) }
     ensures right { (asked : Bool) → (asked ≡ false → W.stops watch.new ≡ W.stops watch.old) → IfOk result (IsRight osil.now osol.now asked) }
 {
-    run_texts(alloc, osil, osol, watch)
+    run_texts(alloc, osil, osol, clock, watch)
 }
 
 /// Runs a job, as [`answer_job`] does: the text of its result document.
-pub fn run_job<W: Watch>(
+pub fn run_job<W: Watch, T: Clock>(
     alloc: Global,
     osil: &[u8],
     osol: &[u8],
+    clock: &T,
     watch: &mut W,
 ) -> Result<Text, Memory>
     requires { W.stops watch.old < 2 ^ 64 - 1 }
     ensures ran { Ran (W.came watch.old watch.new) osil.now osol.now (λ n killed. IfOk result (TellsText osil.now osol.now n killed)) }
     ensures right { (asked : Bool) → (asked ≡ false → W.stops watch.new ≡ W.stops watch.old) → IfOk result (λ doc. Right osil.now osol.now asked (Some doc)) }
 {
-    match answer_job(alloc, osil, osol, watch) {
+    match answer_job(alloc, osil, osol, clock, watch) {
         Ok(document) => Ok(document.text),
         Err(memory) => Err(memory),
     }

@@ -1,13 +1,15 @@
 //! The documents of reports.
-ghost use Rattle.std.specs.Prelude.{◌≡◌, ℕ, Option, List, IfOk};
+ghost use Rattle.std.specs.Prelude.{◌≡◌, ℕ, Option, None, Some, List, length, IfOk};
 ghost use Rattle.instance.specs.Parts.{IsValid};
 ghost use Rattle.certificate.specs.declared.causes.Cause.TheVariants as causes;
 ghost use Rattle.certificate.specs.declared.claims.Claim.{Claim as OneClaim};
 ghost use Rattle.osrl_grammar.specs.Back.{CauseComesBack};
+ghost use Rattle.osrl_writing.specs.declared.report.Report.{Report as TheReport};
+ghost use Rattle.osrl_writing.specs.Writing.{report_text};
 ghost use Rattle.certificate.specs.GivenUp.{given_up};
 ghost use Rattle.solve_run.specs.Judging.{IsShownClaim, HasFewRounds};
 ghost use Rattle.solve_run.specs.Closings as specs;
-ghost use Rattle.solve_run.specs.Runs.{IsClaimTold, IsTextOf, IsNamedTextOf, IsFittedDocument, IsMemoryDocument, IsErrorDocument, HasCauses};
+ghost use Rattle.solve_run.specs.Runs.{IsClaimTold, IsTextOf, IsNamedTextOf, IsNotedTextOf, IsFittedDocument, IsMemoryDocument, IsErrorDocument, HasCauses};
 
 use crate::closing::{checked, judge};
 use crate::document::Document;
@@ -105,30 +107,62 @@ fn shortened(mut report: Report) -> Report
     report
 }
 
-/// The document of a report with a claim and these names. The claim is given up where its document without names would be
-/// longer than one may be.
-fn fitted(
+/// The report without its message where its document, which has so many bytes, is longer than one may be.
+fn unless_long(mut report: Report, bytes: usize) -> Report
+    ensures { (m : List ℕ) (plain : TheReport) → report ≡ specs.with_message m plain → plain.message ≡ None → bytes ≡ length (report_text report) → result ≡ specs.noted (Some m) plain }
+{
+    if bytes as u64 > MOST_BYTES {
+        report.message = None;
+    }
+    report
+}
+
+/// The document of a report that has no message, with these names and with this message, if there is one. It is told without
+/// the message where its document with it, without names, would be longer than one may be.
+fn noted_or_memory(
     alloc: Global,
     names: &NameLists,
+    note: Option<Text>,
+    mut report: Report,
+) -> Result<Document, Memory>
+    requires { report.message ≡ None }
+    ensures { IfOk result (IsNotedTextOf names.now note report) }
+{
+    let Some(message) = note else {
+        return named_or_memory(alloc, names, report);
+    };
+    report.message = Some(message);
+    let Ok(text) = encode(alloc, &report) else {
+        return memory_document(alloc, report.job.take());
+    };
+    named_or_memory(alloc, names, unless_long(report, text.len()))
+}
+
+/// The document of a report with a claim, with these names and with this message, if there is one. The claim is given up where
+/// its document without both would be longer than one may be.
+pub fn fitted(
+    alloc: Global,
+    names: &NameLists,
+    note: Option<Text>,
     job: Option<Text>,
     claim: Claim,
 ) -> Result<Document, Memory>
-    ensures { IfOk result (IsFittedDocument names.now job claim) }
+    ensures { IfOk result (IsFittedDocument names.now note job claim) }
 {
     let mut report = claim_report(job, claim);
     let Ok(text) = encode(alloc, &report) else {
         return memory_document(alloc, report.job.take());
     };
     if text.len() as u64 > MOST_BYTES {
-        return named_or_memory(alloc, names, shortened(report));
+        return noted_or_memory(alloc, names, note, shortened(report));
     }
-    if names.is_none() {
+    if names.is_none() && note.is_none() {
         return Ok(Document {
             text,
             is_error: false,
         });
     }
-    named_or_memory(alloc, names, report)
+    noted_or_memory(alloc, names, note, report)
 }
 
 /// Reads the numbers of a cause, each of which is one of its type.
@@ -138,6 +172,7 @@ fn read_cause(cause: Cause)
     match cause {
         Cause::NodeLimit(_nodes) => {}
         Cause::TurnLimit(_turns) => {}
+        Cause::TimeLimit(_seconds) => {}
         Cause::Wide(_place) => {}
         _ => {}
     }
@@ -154,11 +189,13 @@ fn read_causes(claim: &Claim)
     }
 }
 
-/// The document that tells what a search found after so many turns, once it is checked and fitted, with these names.
+/// The document that tells what a search found after so many turns, once it is checked and fitted, with these names and with
+/// this message, if there is one.
 pub fn found_document(
     alloc: Global,
     instance: &Instance,
     names: &NameLists,
+    note: Option<Text>,
     job: Option<Text>,
     found: Claim,
     turns: u64,
@@ -166,11 +203,11 @@ pub fn found_document(
     requires valid { IsValid instance.now }
     requires shown { IsShownClaim instance.now found }
     requires few { HasFewRounds found }
-    ensures { IfOk result (IsClaimTold instance.now names.now job turns found) }
+    ensures { IfOk result (IsClaimTold instance.now names.now note job turns found) }
 {
     read_causes(&found);
     match judge(alloc, instance, &found) {
-        Ok(width) => fitted(alloc, names, job, checked(found, turns, width)),
+        Ok(width) => fitted(alloc, names, note, job, checked(found, turns, width)),
         Err(_) => memory_document(alloc, job),
     }
 }

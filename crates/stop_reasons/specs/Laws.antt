@@ -5,17 +5,18 @@ use Rattle.std.proofs.Math.Nat.{add_right_comm}
 use Rattle.std.proofs.lemmas.List.{map-append}
 use Rattle.os_io.specs.Looks.{stops_of}
 use Rattle.os_io.specs.Laws.{stops_more}
+use Rattle.fraction.specs.declared.frac.Frac.{Frac}
 use Rattle.stop_reasons.specs.declared.until.Reason.{Reason}
 use Rattle.stop_reasons.specs.declared.until.Reason.TheVariants.{Killed, Time}
 use Rattle.stop_reasons.specs.Reasons.{says_stop, says_killed, says_time, CameUntil}
 
 -- no look
-pub until_without : (Came : List Bool → Type 0) (limit : Option ℕ) (times : ℕ) → Came [] → CameUntil Came limit times times []
+pub until_without : (Came : List Bool → Type 0) (limit : Option Frac) (times : ℕ) → Came [] → CameUntil Came limit times times []
 until_without Came limit times came = record { told = []; are = refl; came = came; counted = sym (add-zero times); limited = λ _. refl }
 
 -- looks after looks
 pub until_then : (first second both : List Bool → Type 0) → ((a b : List Bool) → first a → second b → both (a ++ b))
-    → (l m : Option ℕ) → m ≡ l → (i j k : ℕ) (a b : List Bool) → CameUntil first l i j a → CameUntil second m j k b → CameUntil both l i k (a ++ b)
+    → (l m : Option Frac) → m ≡ l → (i j k : ℕ) (a b : List Bool) → CameUntil first l i j a → CameUntil second m j k b → CameUntil both l i k (a ++ b)
 until_then first second both joins l m same i j k a b p q = record {
   told = p.told ++ q.told;
   are = ap₂ (λ (x y : List Bool). x ++ y) p.are q.are ∙ sym (map-append says_stop p.told q.told);
@@ -36,7 +37,7 @@ stops_by (Some Time ∷ told) = ap (λ n. n + 1) (stops_by told) ∙ add_assoc (
 
 -- the stops of both are counted
 pub until_counts : (Came : List Bool → Type 0) (old new : ℕ) → ((inside : List Bool) → Came inside → new ≡ old + stops_of inside)
-    → (limit : Option ℕ) (before after : ℕ) (answers : List Bool) → CameUntil Came limit before after answers → new + after ≡ (old + before) + stops_of answers
+    → (limit : Option Frac) (before after : ℕ) (answers : List Bool) → CameUntil Came limit before after answers → new + after ≡ (old + before) + stops_of answers
 until_counts Came old new counts limit before after answers p =
     ap₂ (λ (x y : ℕ). x + y) (counts (map says_killed p.told) p.came) p.counted
     ∙ four old (stops_of (map says_killed p.told)) before (stops_of (map says_time p.told))

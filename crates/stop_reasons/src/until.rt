@@ -1,7 +1,9 @@
 //! A watch that says to stop once a time is over.
 ghost use Rattle.std.specs.Prelude.{◌≡◌, None, false};
 
+use fraction::Frac;
 use os_io::Watch;
+use std::cmp::Ordering;
 use std::time::{Clock, Duration, Instant};
 
 /// Why a look said to stop.
@@ -14,27 +16,52 @@ pub enum Reason {
 }
 
 /// A time that is over once so many seconds have gone since it began, by this clock. What a clock tells is said by no contract. Where
-/// it can't be read, the time isn't over; where it couldn't when the time was to begin, it begins at the first reading.
-#[derive(Drop)]
-pub struct Deadline<T> {
-    clock: T,
+/// it can't be read, the time isn't over; where it couldn't when the time was to begin, it begins at the first reading. No seconds are
+/// over at once, with a clock that can be read or without.
+#[derive(Clone, Copy)]
+pub struct Deadline<'c, T: Clock> {
+    clock: &'c T,
     begun: Option<Instant>,
-    limit: Option<u64>,
+    limit: Option<Frac>,
 }
 
-impl<T: Clock> Deadline<T> {
+/// Whether at least so many seconds have gone.
+fn have_gone(gone: Duration, seconds: Frac) -> bool {
+    match Frac::of(gone.as_nanos() as i128, 1_000_000_000) {
+        Ok(gone) => gone.cmp(&seconds) != Ordering::Less,
+        Err(_) => true,
+    }
+}
+
+impl<'c, T: Clock> Deadline<'c, T> {
     /// So many seconds from now on, or, without a limit, a time that is never over.
-    pub fn new(clock: T, limit: Option<u64>) -> Deadline<T>
+    pub fn new(clock: &'c T, limit: Option<Frac>) -> Deadline<'c, T>
         ensures { result.limit ≡ limit }
     {
         let begun = match limit {
-            Some(_) => Instant::now(&clock).ok(),
+            Some(_) => Instant::now(clock).ok(),
             None => None,
         };
         Deadline {
             clock,
             begun,
             limit,
+        }
+    }
+
+    /// Whether so many seconds have gone since it began.
+    fn has_passed(&mut self, seconds: Frac) -> bool
+        ensures { self.new.limit ≡ self.old.limit }
+    {
+        match self.begun {
+            Some(begun) => match begun.elapsed(self.clock) {
+                Ok(gone) => have_gone(gone, seconds),
+                Err(_) => false,
+            },
+            None => {
+                self.begun = Instant::now(self.clock).ok();
+                false
+            }
         }
     }
 
@@ -46,26 +73,19 @@ impl<T: Clock> Deadline<T> {
         let Some(seconds) = self.limit else {
             return false;
         };
-        let Some(begun) = self.begun else {
-            self.begun = Instant::now(&self.clock).ok();
-            return seconds == 0;
-        };
-        match begun.elapsed(&self.clock) {
-            Ok(gone) => gone >= Duration::from_secs(seconds),
-            Err(_) => false,
-        }
+        seconds.numer() <= 0 || self.has_passed(seconds)
     }
 }
 
 /// A watch around another one, which is asked first at each look; where that one says to go on, it says to stop if the time is over.
-pub struct Until<'a, W: Watch, T: Clock> {
+pub struct Until<'a, 'c, W: Watch, T: Clock> {
     pub watch: &'a mut W,
-    pub deadline: Deadline<T>,
+    pub deadline: Deadline<'c, T>,
     /// How often it was the time that said to stop.
     pub times: u64,
 }
 
-impl<'a, W: Watch, T: Clock> Watch for Until<'a, W, T> {
+impl<'a, 'c, W: Watch, T: Clock> Watch for Until<'a, 'c, W, T> {
     ghost use Rattle.std.specs.Prelude.{◌≡◌, ◌+◌, List, Bool};
     ghost use Rattle.std.proofs.Common.{refl, ◌∙◌};
     ghost use Rattle.stop_reasons.specs.Laws.{until_without, until_then, until_counts};

@@ -1,6 +1,7 @@
 //! Options documents (`docs/rules/options.md`).
 
 use cases::{DocumentCases, Documents};
+use decimal_text::write_ratio;
 use itoa::Buffer;
 use os_io::{Memory, Text};
 use osol_grammar::{Options, OsolFault, decode, encode, refusal_text};
@@ -38,6 +39,10 @@ impl Documents for Osol {
         }
         if options.names > 0 {
             put_amount(&mut text, b" names ", options.names)?;
+        }
+        if let Some(seconds) = options.seconds {
+            text.extend(b" seconds ")?;
+            write_ratio(seconds, &mut text)?;
         }
         if let Some(job) = &options.job {
             text.extend(b" job ")?;

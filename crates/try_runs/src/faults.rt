@@ -11,11 +11,12 @@ pub(crate) use listing::put_group;
 use os_io::DiskFiles;
 use std::sync::Wait;
 use std::thread::Threads;
+use std::time::Clock;
 use std::{fs, io};
 use world::World;
 
 /// Compares the answers of each of these tables.
-pub(crate) fn try_tables<R: Threads + Wait + Sync + fs::Files + Print + AllocGlobal>(
+pub(crate) fn try_tables<R: Threads + Wait + Clock + Sync + fs::Files + Print + AllocGlobal>(
     rt: &R,
     tables: &mut Tables<'_, R>,
 ) -> io::Result<()> {

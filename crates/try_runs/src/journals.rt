@@ -10,6 +10,7 @@ use os_io::DiskFiles;
 use running::{Keeper, Kind};
 use std::sync::Wait;
 use std::thread::Threads;
+use std::time::Clock;
 use std::{fs, io};
 
 /// The tables, and what each gives in a case.
@@ -20,7 +21,7 @@ const TABLES: [(&str, Kind); 3] = [
 ];
 
 /// Compares the answers of each of these tables.
-pub(crate) fn try_tables<R: Threads + Wait + Sync + fs::Files + Print + AllocGlobal>(
+pub(crate) fn try_tables<R: Threads + Wait + Clock + Sync + fs::Files + Print + AllocGlobal>(
     rt: &R,
     tables: &mut Tables<'_, R>,
 ) -> io::Result<()> {

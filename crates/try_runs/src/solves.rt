@@ -11,10 +11,11 @@ use jobs::{answer_job, answer_program};
 use os_io::DiskFiles;
 use std::sync::Wait;
 use std::thread::Threads;
+use std::time::Clock;
 use std::{fs, io};
 
 /// Compares the answers of each of these tables.
-pub(crate) fn try_tables<R: Threads + Wait + Sync + fs::Files + Print + AllocGlobal>(
+pub(crate) fn try_tables<R: Threads + Wait + Clock + Sync + fs::Files + Print + AllocGlobal>(
     rt: &R,
     tables: &mut Tables<'_, R>,
 ) -> io::Result<()> {

@@ -106,7 +106,7 @@ fn ask_in_turn<R: Net<Stream = TcpStream> + Clock>(
 }
 
 /// Serves two links, both at once.
-fn serve_two<N: Listener, R: Threads + Wait + Sync>(
+fn serve_two<N: Listener, R: Threads + Wait + Clock + Sync>(
     rt: &R,
     alloc: Global,
     net: &mut N,

@@ -56,7 +56,7 @@ pub(crate) fn serve_two_links<R: Threads + Wait + Clock + Sync>(
 }
 
 /// Serves a link on which jobs are sent until a knock says that one runs, beside a worker.
-pub(crate) fn knock_beside_a_worker<R: Threads + Wait + Sync>(
+pub(crate) fn knock_beside_a_worker<R: Threads + Wait + Clock + Sync>(
     rt: &R,
     alloc: Global,
 ) -> Result<String, Memory> {
@@ -70,7 +70,7 @@ pub(crate) fn knock_beside_a_worker<R: Threads + Wait + Sync>(
 }
 
 /// Serves a link whose second request comes only behind the answer to the first.
-pub(crate) fn answer_before_reading_on<R: Threads + Wait + Sync>(
+pub(crate) fn answer_before_reading_on<R: Threads + Wait + Clock + Sync>(
     rt: &R,
     alloc: Global,
 ) -> Result<String, Memory> {

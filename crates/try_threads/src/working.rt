@@ -3,6 +3,7 @@
 ghost use Rattle.desk.specs.SeatMoves.{desk_id, IsSeatOf};
 
 use crate::names::state_name;
+use crate::searches::{GREATEST_LIMITS, HALVES, JobTexts, odd_sum};
 use crate::waiting::wait_for;
 use desk::{Desk, Seat};
 use job_solver::{SolvedJobs, Solver};
@@ -16,10 +17,6 @@ use std::sync::atomic::Ordering::SeqCst;
 use std::thread::{Threads, join};
 use std::time::Clock;
 use workers::{Gate, work_one_by_seat};
-
-/// max x0 in whole numbers, 2 x0 <= 5. The third look comes before the third node: then the best point so far is 2.
-const HALVES: &[u8] =
-    b"<osil><instanceData><variables><var type=\"I\"/></variables><objectives><obj maxOrMin=\"max\"><coef idx=\"0\">1</coef></obj></objectives><constraints><con ub=\"5\"/></constraints><linearConstraintCoefficients><start><el>0</el><el>1</el></start><rowIdx><el>0</el></rowIdx><value><el>2</el></value></linearConstraintCoefficients></instanceData></osil>";
 
 /// The look that is held.
 const HELD: u64 = 3;
@@ -71,18 +68,19 @@ fn line_of_shown(alloc: Global, shown: &Retrieved) -> Result<String, Memory> {
     }
 }
 
-/// A job that waits.
+/// A job of these texts, which waits.
 fn send<R: Wait>(
     rt: &R,
     alloc: Global,
     desk: &Desk<SolvedJobs>,
     seat: &mut Seat<SolvedJobs>,
+    texts: JobTexts<'_>,
 ) -> Result<(), Memory>
     requires { IsSeatOf (desk_id desk.now) seat.old }
     ensures { IsSeatOf (desk_id desk.now) seat.new }
 {
-    let osil = Twin::new(alloc, Text::from_slice(alloc, HALVES)?)?;
-    let osol = Twin::new(alloc, Text::new(alloc))?;
+    let osil = Twin::new(alloc, Text::from_slice(alloc, texts.osil)?)?;
+    let osol = Twin::new(alloc, Text::from_slice(alloc, texts.osol)?)?;
     let number = match desk.ask(rt, seat, Issue) {
         Ok(number) => number,
         Err(_) => return Err(AllocError),
@@ -101,7 +99,15 @@ fn work<R: Wait + Clock>(
 )
     requires { IsSeatOf (desk_id desk.now) seat }
 {
-    work_one_by_seat(rt, alloc, desk, &mut seat, &Solver, true, &mut gate);
+    work_one_by_seat(
+        rt,
+        alloc,
+        desk,
+        &mut seat,
+        &Solver::new(rt),
+        true,
+        &mut gate,
+    );
 }
 
 /// A knock, and then a kill of the job.
@@ -141,14 +147,15 @@ fn kill_at_the_gate<R: Wait + Clock>(
     (seat, lines)
 }
 
-/// Kills a job while a worker is held at a look, and shows what comes of it.
-pub(crate) fn kill_beside_a_worker<R: Threads + Wait + Clock + Sync>(
+/// Kills a job of these texts while a worker is held at a look, and shows what comes of it.
+fn kill_beside_a_worker<R: Threads + Wait + Clock + Sync>(
     rt: &R,
     alloc: Global,
+    texts: JobTexts<'_>,
 ) -> Result<String, Memory> {
     let (desk, mut seat) = Desk::<SolvedJobs>::new(alloc, 1)?;
     let worker = desk.split(&mut seat);
-    send(rt, alloc, &desk, &mut seat)?;
+    send(rt, alloc, &desk, &mut seat, texts)?;
     let is_reached = AtomicBool::new(false);
     let is_open = AtomicBool::new(false);
     let gate = HeldGate {
@@ -167,4 +174,29 @@ pub(crate) fn kill_beside_a_worker<R: Threads + Wait + Clock + Sync>(
     let after = desk.ask(rt, &mut seat, Knock)?;
     lines.push_str(line_of_all(alloc, &after)?.as_str())?;
     Ok(lines)
+}
+
+/// Kills a job that has found a point.
+pub(crate) fn kill_with_a_point<R: Threads + Wait + Clock + Sync>(
+    rt: &R,
+    alloc: Global,
+) -> Result<String, Memory> {
+    let texts = JobTexts {
+        osil: HALVES,
+        osol: b"",
+    };
+    kill_beside_a_worker(rt, alloc, texts)
+}
+
+/// Kills a job whose search would take hours. A run that searched before it is watched would take them.
+pub(crate) fn kill_a_long_search<R: Threads + Wait + Clock + Sync>(
+    rt: &R,
+    alloc: Global,
+) -> Result<String, Memory> {
+    let osil = odd_sum(alloc)?;
+    let texts = JobTexts {
+        osil: osil.as_bytes(),
+        osol: GREATEST_LIMITS,
+    };
+    kill_beside_a_worker(rt, alloc, texts)
 }

@@ -3,7 +3,7 @@
 use super::links::{asked_text, called_text};
 use job_solver::{SolvedJobs, Solver};
 use job_table::Table;
-use memory_ends::MemLink;
+use memory_ends::{MemLink, UnreadClock};
 use os_io::{Memory, Text};
 use os_server::serve_one;
 use std::alloc::Global;
@@ -14,7 +14,7 @@ const ROOM: usize = 4000;
 /// What a server over this table of jobs writes to a request.
 fn served(alloc: Global, jobs: &mut Table<SolvedJobs>, request: &[u8]) -> Result<Text, Memory> {
     let link = MemLink::new(alloc, request, request.len(), ROOM, &[])?;
-    let (_, link) = serve_one(alloc, link, jobs, &Solver);
+    let (_, link) = serve_one(alloc, link, jobs, &Solver::new(&UnreadClock));
     Text::from_slice(alloc, link.as_slice())
 }
 

@@ -3,7 +3,7 @@ use effects::NotStored;
 use job_solver::{SolvedJobs, Solver};
 use job_table::moves::Move;
 use job_table::{IssueFault, Job, Mover, Statistics, Table, Twin};
-use memory_ends::{MemSink, MemSource};
+use memory_ends::{MemSink, MemSource, UnreadClock};
 use os_io::Memory;
 use os_server::{Served, serve_ends};
 use std::alloc::{AllocError, Global};
@@ -72,7 +72,13 @@ impl CountingMover {
         if let Some(other) = &mut self.other {
             if other.number == number {
                 let (input, output) = (&mut other.input, &mut other.output);
-                let end = serve_ends(self.alloc, input, output, &mut self.table, &Solver);
+                let end = serve_ends(
+                    self.alloc,
+                    input,
+                    output,
+                    &mut self.table,
+                    &Solver::new(&UnreadClock),
+                );
                 other.end = Some(end);
             }
         }

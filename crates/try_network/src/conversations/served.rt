@@ -4,7 +4,7 @@ use super::conditions::Conditions;
 use super::mover::CountingMover;
 use cases::count_left;
 use job_solver::Solver;
-use memory_ends::{MemLink, MemSink, MemSource};
+use memory_ends::{MemLink, MemSink, MemSource, UnreadClock};
 use os_io::{Memory, Text};
 use os_server::{Served, serve_ends, serve_one};
 use std::alloc::Global;
@@ -65,7 +65,13 @@ fn served(
         Way::Ends(piece) => {
             let mut input = MemSource::new(alloc, bytes, piece, &[conditions.read])?;
             let mut output = MemSink::new(alloc, room, &[conditions.write])?;
-            let end = serve_ends(alloc, &mut input, &mut output, mover, &Solver);
+            let end = serve_ends(
+                alloc,
+                &mut input,
+                &mut output,
+                mover,
+                &Solver::new(&UnreadClock),
+            );
             let faults = (input.faults(), output.faults());
             let left = count_left(&mut input, bytes.len()).saturating_add(conditions.taken);
             let sent = output.handed_on().len();
@@ -81,7 +87,7 @@ fn served(
         }
         Way::Link(piece) => {
             let link = MemLink::new(alloc, bytes, piece, room, &[conditions.link])?;
-            let (end, mut link) = serve_one(alloc, link, mover, &Solver);
+            let (end, mut link) = serve_one(alloc, link, mover, &Solver::new(&UnreadClock));
             let faults = (link.read_faults(), link.write_faults());
             let left = count_left(&mut link, bytes.len());
             let sent = link.handed_on().len();

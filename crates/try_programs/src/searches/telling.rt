@@ -104,6 +104,10 @@ fn put_cause(text: &mut Text, cause: Cause) -> Result<(), Memory> {
             text.extend(b" turnLimit ")?;
             put_count(text, count as u64)
         }
+        Cause::TimeLimit(seconds) => {
+            text.extend(b" timeLimit ")?;
+            write_ratio(seconds, text)
+        }
         Cause::Wide(place) => {
             text.extend(b" wide ")?;
             put_count(text, place.node as u64)?;

@@ -6,6 +6,7 @@ use os_io::{Files, Memory, Text};
 use std::alloc::Global;
 use std::sync::Wait;
 use std::thread::Threads;
+use std::time::Clock;
 
 /// More calls of a kind than any run here makes.
 const MOST: u64 = 1_000;
@@ -60,7 +61,7 @@ pub(crate) struct Listing<'r, R, F> {
     world: World<'r, R, F>,
 }
 
-impl<'r, R: Threads + Wait + Sync, F: Files> Listing<'r, R, F> {
+impl<'r, R: Threads + Wait + Clock + Sync, F: Files> Listing<'r, R, F> {
     pub(crate) fn new(world: World<'r, R, F>) -> Self {
         Listing { world }
     }

@@ -10,6 +10,7 @@ use os_io::{Files, Memory, Text};
 use std::alloc::Global;
 use std::sync::Wait;
 use std::thread::Threads;
+use std::time::Clock;
 
 /// Room for all that a run writes on its output, or on a link.
 const ROOM: usize = 9_000;
@@ -74,7 +75,7 @@ pub(crate) struct World<'r, R, F> {
     disk: F,
 }
 
-impl<'r, R: Threads + Wait + Sync, F: Files> World<'r, R, F> {
+impl<'r, R: Threads + Wait + Clock + Sync, F: Files> World<'r, R, F> {
     pub(crate) fn new(rt: &'r R, disk: F) -> Self {
         World { rt, disk }
     }

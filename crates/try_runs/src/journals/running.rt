@@ -12,6 +12,7 @@ use os_io::{Memory, Text};
 use std::alloc::Global;
 use std::sync::Wait;
 use std::thread::Threads;
+use std::time::Clock;
 
 /// Room for all that a run writes.
 const ROOM: usize = 20_000;
@@ -76,7 +77,7 @@ pub(crate) struct Keeper<'r, R> {
     rt: &'r R,
 }
 
-impl<'r, R: Threads + Wait + Sync> Keeper<'r, R> {
+impl<'r, R: Threads + Wait + Clock + Sync> Keeper<'r, R> {
     pub(crate) fn new(rt: &'r R) -> Self {
         Keeper { rt }
     }
@@ -125,7 +126,7 @@ impl<'r, R: Threads + Wait + Sync> Keeper<'r, R> {
     }
 }
 
-impl<'r, R: Threads + Wait + Sync> Keeper<'r, R> {
+impl<'r, R: Threads + Wait + Clock + Sync> Keeper<'r, R> {
     /// Given the file's bytes, what is in the bodies of requests, and which call of the disk fails: what the session comes to, and the
     /// file's bytes then.
     fn kept(&mut self, alloc: Global, given: &[Vec<u8>]) -> Result<Text, Memory> {
@@ -140,7 +141,7 @@ impl<'r, R: Threads + Wait + Sync> Keeper<'r, R> {
     }
 }
 
-impl<'r, R: Threads + Wait + Sync> Keeper<'r, R> {
+impl<'r, R: Threads + Wait + Clock + Sync> Keeper<'r, R> {
     /// What a session on a new file comes to of which the disk makes no call from this one on, and what the next one on what is left
     /// then; and whether all calls were made.
     fn stopped(
@@ -189,7 +190,7 @@ impl<'r, R: Threads + Wait + Sync> Keeper<'r, R> {
     }
 }
 
-impl<'r, R: Threads + Wait + Sync> Keeper<'r, R> {
+impl<'r, R: Threads + Wait + Clock + Sync> Keeper<'r, R> {
     /// Given words, the bytes of the files `old` and `new`, and which call of one of them fails, as `old 2`: the status, what is written,
     /// and what those have that were given back, in order.
     fn copied(&mut self, alloc: Global, given: &[Vec<u8>]) -> Result<Text, Memory> {

@@ -10,6 +10,7 @@ use os_io::{Files, Memory, Text};
 use std::alloc::Global;
 use std::sync::Wait;
 use std::thread::Threads;
+use std::time::Clock;
 
 /// No call fails.
 const NONE: Fails = Fails {
@@ -69,7 +70,7 @@ pub(crate) struct World<'r, R, F> {
     disk: F,
 }
 
-impl<'r, R: Threads + Wait + Sync, F: Files> World<'r, R, F> {
+impl<'r, R: Threads + Wait + Clock + Sync, F: Files> World<'r, R, F> {
     pub(crate) fn new(rt: &'r R, disk: F) -> Self {
         World { rt, disk }
     }
@@ -123,7 +124,7 @@ impl<'r, R: Threads + Wait + Sync, F: Files> World<'r, R, F> {
     }
 }
 
-impl<'r, R: Threads + Wait + Sync, F: Files> World<'r, R, F> {
+impl<'r, R: Threads + Wait + Clock + Sync, F: Files> World<'r, R, F> {
     /// Given words, an input, and what fails or how much room there is. Where nothing fails, the input comes byte by byte too.
     fn run_whole(&mut self, alloc: Global, given: &[Vec<u8>]) -> Result<Text, Memory> {
         let [words, input, failing] = given else {
@@ -145,7 +146,7 @@ impl<'r, R: Threads + Wait + Sync, F: Files> World<'r, R, F> {
     }
 }
 
-impl<'r, R: Threads + Wait + Sync, F: Files> World<'r, R, F> {
+impl<'r, R: Threads + Wait + Clock + Sync, F: Files> World<'r, R, F> {
     /// Given words alone: the status, and what is written.
     fn run_words(&mut self, alloc: Global, given: &[Vec<u8>]) -> Result<Text, Memory> {
         match given {
@@ -155,7 +156,7 @@ impl<'r, R: Threads + Wait + Sync, F: Files> World<'r, R, F> {
     }
 }
 
-impl<'r, R: Threads + Wait + Sync, F: Files> World<'r, R, F> {
+impl<'r, R: Threads + Wait + Clock + Sync, F: Files> World<'r, R, F> {
     /// Given words and an input, each byte of which is one read: what all runs answer of which one read fails, one run for each
     /// read.
     fn run_every_read(&mut self, alloc: Global, given: &[Vec<u8>]) -> Result<Text, Memory> {
@@ -211,7 +212,7 @@ fn are_back(alloc: Global, net: &mut MemListener, texts: &[u8]) -> Result<bool, 
     Ok(net.take_back().is_none())
 }
 
-impl<'r, R: Threads + Wait + Sync, F: Files> World<'r, R, F> {
+impl<'r, R: Threads + Wait + Clock + Sync, F: Files> World<'r, R, F> {
     /// Given words, the bytes of the links that come, with `|` between, what fails, and for each link that is to be given back a text,
     /// with `|` between, that is to stand in what was written on it: the run's answer, if just these are given back.
     fn run_linked(&mut self, alloc: Global, given: &[Vec<u8>]) -> Result<Text, Memory> {
@@ -239,7 +240,7 @@ pub(crate) enum Kind {
     Linked,
 }
 
-impl<'r, R: Threads + Wait + Sync, F: Files> World<'r, R, F> {
+impl<'r, R: Threads + Wait + Clock + Sync, F: Files> World<'r, R, F> {
     /// The answers of cases of a kind.
     pub(crate) fn answers(
         &mut self,

@@ -8,6 +8,7 @@ use osrl_grammar::decode;
 use std::alloc::Global;
 use std::sync::Wait;
 use std::thread::Threads;
+use std::time::Clock;
 
 /// Given an example's name: the status of `solve`, that of `check` with its line, and whether what is claimed is what the stored
 /// result claims.
@@ -17,7 +18,7 @@ pub(crate) struct Examples<'r, R, F> {
     disk: F,
 }
 
-impl<'r, R: Threads + Wait + Sync, F: Files> Examples<'r, R, F> {
+impl<'r, R: Threads + Wait + Clock + Sync, F: Files> Examples<'r, R, F> {
     pub(crate) fn new(rt: &'r R, disk: F) -> Self {
         Examples { rt, disk }
     }
@@ -56,7 +57,7 @@ fn claim_the_same(alloc: Global, osrl: &[u8], stored: &[u8]) -> bool {
     }
 }
 
-impl<'r, R: Threads + Wait + Sync, F: Files> Examples<'r, R, F> {
+impl<'r, R: Threads + Wait + Clock + Sync, F: Files> Examples<'r, R, F> {
     /// The answer of one case.
     pub(crate) fn answer(&mut self, alloc: Global, given: &[Vec<u8>]) -> Result<Text, Memory> {
         let [name] = given else {

@@ -7,6 +7,7 @@ use os_io::{Memory, Text};
 use std::alloc::Global;
 use std::sync::Wait;
 use std::thread::Threads;
+use std::time::Clock;
 
 /// Room for each whole answer.
 const ROOM: usize = 20_000;
@@ -30,7 +31,7 @@ fn words_of(alloc: Global, words: &[&str]) -> Result<Vec<String>, Memory> {
 }
 
 /// A run of these words over these files: its status, and what it wrote.
-fn ran<R: Threads + Wait + Sync>(
+fn ran<R: Threads + Wait + Clock + Sync>(
     rt: &R,
     alloc: Global,
     words: &[&str],
@@ -82,7 +83,7 @@ fn solving_words(
 }
 
 /// Solves a job, with the safe limit of turns or without, and checks what is written of it.
-pub(crate) fn solve<R: Threads + Wait + Sync>(
+pub(crate) fn solve<R: Threads + Wait + Clock + Sync>(
     rt: &R,
     alloc: Global,
     osil: &[u8],
@@ -107,7 +108,7 @@ pub(crate) fn solve<R: Threads + Wait + Sync>(
 
 /// Given the texts of an instance and of options, of which an empty one isn't named: the status of `solve`, that of `check` with
 /// its line, and the document.
-pub(crate) fn answer_job<R: Threads + Wait + Sync>(
+pub(crate) fn answer_job<R: Threads + Wait + Clock + Sync>(
     rt: &R,
     alloc: Global,
     given: &[Vec<u8>],
@@ -137,7 +138,7 @@ fn value_items(document: &str) -> &str {
 }
 
 /// Given the text of an instance: what the checker says of its result, and behind an optimum the values of its goals.
-pub(crate) fn answer_program<R: Threads + Wait + Sync>(
+pub(crate) fn answer_program<R: Threads + Wait + Clock + Sync>(
     rt: &R,
     alloc: Global,
     given: &[Vec<u8>],

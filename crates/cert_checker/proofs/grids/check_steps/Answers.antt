@@ -1,16 +1,8 @@
-use Rattle.std.proofs.Common.{subst}
 use Rattle.std.proofs.lemmas.Result.{on_ok_weaker, IfErr-weaker}
-use Rattle.rational.specs.Ratio.{Ratio, IsSame}
 use Rattle.fraction.specs.Frac.{ratio}
-use Rattle.fraction.specs.declared.frac.Frac.{Frac}
-use Rattle.evidence.specs.Instance.{Instance, IsInstance}
-use Rattle.evidence.specs.Cases.{Multiplier, low_sum, AreLegal}
-use Rattle.evidence.specs.Sums.{none}
-use Rattle.evidence.specs.Width.{LowFits}
-use Rattle.evidence.proofs.UniqueRows.{low-number}
 use Rattle.certificate.specs.Meanings.{multipliers}
 use Rattle.case_tree.specs.Cuts.{cut}
-use Rattle.cert_checker.specs.Grids.{IsLow, StepsRefuse}
+use Rattle.cert_checker.specs.Grids.{StepsRefuse}
 use Rattle.cert_checker.proofs.Widths.{cut-instance}
 use Rattle.cert_checker.proofs.GridSteps.{is_low}
 use Rattle.cert_checker.proofs.grids.check_steps.Goals as goal

@@ -57,7 +57,7 @@ put-requires c =
     let t = c.loop-level-test.true in
     let long = c.loop-level.auto.added in
     let h : c.loop-level.level < length c.loop-level.added = (let r = c.requires.rows in omega arith) in
-    let q = c.loop-level.invariant.wide (length c.args.cuts.now) c.requires.wide c.loop-level.level c.index-added-level.result h in
+    let q = c.loop-level.invariant.wide (length c.args.slots.now) c.requires.wide c.loop-level.level c.index-added-level.result h in
     let a = c.reached.auto.slots in
     let b = c.check_at.auto.slots in
     let d = c.loop-level.auto.slots in
@@ -77,7 +77,6 @@ loop-level-preserved c =
     let b = c.check_at.auto.slots in
     let d = c.loop-level.auto.slots in
     let e = c.requires.slots in
-    let f = c.requires.cuts in
     record {
       wide = λ n w. let q = c.loop-level.invariant.wide n w k c.index-added-level.result h in wide_with c.loop-level.added k c.put.new.row n (omega arith) (c.loop-level.invariant.wide n w);
       leads = λ end.

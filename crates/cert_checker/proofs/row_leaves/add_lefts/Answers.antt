@@ -1,4 +1,4 @@
-use Rattle.std.proofs.Common.{◌≡◌, ◌∙◌, ◌<◌, None, Some, IsTrue, false, length, arith, refl, sym, ap, subst, inl, inr, below_more}
+use Rattle.std.proofs.Common.{◌≡◌, ◌∙◌, IsTrue, false, length, arith, refl, ap, subst, inl, inr, below_more}
 use Rattle.std.proofs.lemmas.List.{length-map}
 use Rattle.fraction.specs.Frac.{ratio}
 use Rattle.evidence.specs.Cases.{end_by, end_of, left_at, or_none}

@@ -1,4 +1,4 @@
-use Rattle.std.proofs.Common.{◌≡◌, ◌<◌, ◌≤◌, ℕ, IsTrue, false, length, arith, refl, sym, ap, subst, inl, inr}
+use Rattle.std.proofs.Common.{IsTrue, false, refl, sym, ap, subst, inl, inr}
 use Rattle.std.proofs.lemmas.Result.{err_from_is_err_and}
 use Rattle.fraction.specs.Frac.{ratio}
 use Rattle.evidence.specs.Cases.{Multiplier, AreOfRows, end_of, left_at, or_none}

@@ -1,4 +1,3 @@
-use Rattle.certificate.specs.Meanings.{multipliers}
 use Rattle.case_tree.specs.Cuts.{cut}
 use Rattle.cert_checker.specs.Cuts as Of
 use Rattle.cert_checker.proofs.Widths.{cut-instance}

@@ -1,7 +1,7 @@
 use mir.Val.{SFits, of_z, to_z}
 use mir.Syntax.{w128}
 use Rattle.std.proofs.Math.Facts.{to_z-of_z}
-use Rattle.std.proofs.Common.{rules, ◌≡◌, ◌<◌, ℕ, ℤ, IsTrue, false, arith, refl, sym, ap, subst, inl, inr}
+use Rattle.std.proofs.Common.{rules, ◌≡◌, ℤ, IsTrue, false, arith, refl, sym, ap, subst, inl, inr}
 use Rattle.std.proofs.lemmas.Result.{err_from_is_err_and}
 use Rattle.evidence.specs.Sums.{none}
 use Rattle.evidence.specs.Cases.{Multiplier, AreOfRows, end_of, left_at, or_none}

@@ -1,4 +1,4 @@
-use Rattle.std.proofs.Common.{◌+◌, ◌++◌, ◌∷◌, [], map, take, arith, sym, ◌∙◌, ap, ap₂}
+use Rattle.std.proofs.Common.{◌≡◌, ◌+◌, ◌++◌, ◌∷◌, [], length, map, take, arith, sym, ◌∙◌, ap, ap₂}
 use Rattle.std.proofs.lemmas.List.{length-map, map-set, take_more_set, take_all, get_or-map}
 use Rattle.evidence.specs.Instance.{Variable, no_variable}
 use Rattle.instance.specs.Program.{variable}
@@ -25,4 +25,6 @@ returns c =
     let size = length-map c.args.vars.now variable in
     let a = c.loop-j.auto.cuts in
     let t = c.loop-j-test.false in
-    sym (take_all c.loop-j.j (map cut_variable c.loop-j.cuts) (omega arith)) ∙ c.loop-j.invariant ∙ take_all c.loop-j.j (map variable c.args.vars.now) (omega arith)
+    let end = c.loop-j.auto.j-end in
+    let e : length c.args.vars.now ≡ c.loop-j.j = omega arith in
+    ap (λ n. take n (map cut_variable c.loop-j.cuts)) e ∙ c.loop-j.invariant ∙ take_all c.loop-j.j (map variable c.args.vars.now) (omega arith)

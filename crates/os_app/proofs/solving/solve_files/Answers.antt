@@ -4,7 +4,7 @@ use Rattle.os_app.proofs.solving.solve_files.Goals as goal
 
 pub returns-in-Ok-clause-ok : goal.returns-in-Ok-clause-ok
 returns-in-Ok-clause-ok g c =
-    document_about _ _ _ c.in_ok-instance.instance c.in_ok-options.options _ c.in-Ok.document c.in_ok-instance.ensures.ok
+    document_about _ _ _ _ c.in_ok-instance.instance c.in_ok-options.options _ c.in-Ok.document c.in_ok-instance.ensures.ok
     (named_still _ _ c.args.options _ c.in_ok-instance.ensures.held c.in_ok-options.ensures.ok)
     c.solve_status.ensures
-    (right_of_texts _ _ _ _ _ c.in-Ok.document c.as_slice.ensures c.as_slice-2.ensures c.in-Ok.ensures)
+    (right_of_texts _ _ _ _ _ _ c.in-Ok.document c.as_slice.ensures c.as_slice-2.ensures c.in-Ok.ensures)

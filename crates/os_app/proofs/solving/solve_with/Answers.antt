@@ -6,7 +6,7 @@ use Rattle.os_app.specs.Solves.{IsRightWith}
 use Rattle.os_app.proofs.solving.solve_with.Goals as goal
 
 pub returns-in-None : goal.returns-in-None
-returns-in-None c =
+returns-in-None g c =
     let a = c.args in
     let none : HasNoSafeText a.osil.now a.osol.now = subst (IsSafeOrNone a.osil.now a.osol.now) c.in-None.is c.in_ok-text.ensures in
     let asked : a.safe ≡ true = c.if-not-safe.false in

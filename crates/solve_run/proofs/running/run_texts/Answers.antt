@@ -7,7 +7,7 @@ pub run_options-requires-clause-rounds : goal.run_options-requires-clause-rounds
 run_options-requires-clause-rounds g c = few_rounds c.in-Ok.options (c.read_options_come_back.ensures c.args.osol.now c.in-Ok.options c.in-Ok.ensures.ok)
 
 pub returns-in-Ok : goal.returns-in-Ok
-returns-in-Ok g c = c.run_options.ensures c.args.osol.now c.in-Ok.ensures.ok
+returns-in-Ok g c = c.run_options.ensures c.in-Ok.ensures.ok
 
 pub returns-in-Err-Memory : goal.returns-in-Err-Memory
 returns-in-Err-Memory g c =

@@ -7,6 +7,7 @@ use Rattle.evidence.specs.Width.{RowFits}
 use Rattle.instance.specs.Program.{program}
 use Rattle.instance.proofs.Terms.{if_ok, on_err}
 use Rattle.cert_checker.specs.Programs.{at_hand}
+use Rattle.cert_checker.proofs.PartedCases.{in_hand}
 use Rattle.cert_checker.proofs.HandRows.{rows_width, hand_width, hand_inside, hand_old_entry, hand_new_number, activity_by, fits_by, by_fits}
 use Rattle.cert_checker.proofs.at_hand.Program.activity_at.Goals as goal
 
@@ -18,7 +19,7 @@ activity_at-requires c =
 pub added_at-added-requires : goal.added_at-added-requires
 added_at-added-requires c =
     let s = c.self.inside in
-    hand_inside s.instance.now s.added.now s.goal.now c.args.i (length c.rows-rows.result.now) (subst (λ (I : Of.Instance). c.args.i < Of.height I) (sym c.self.view_is) c.requires.inside) (ap length c.rows-rows.ensures.value) c.if-i-rows.false
+    hand_inside s.instance.now s.added.now s.goal.now c.args.i (length c.rows-rows.result.now) (in_hand s.cut.now (at_hand s.instance.now s.added.now s.goal.now) c.args.i (subst (λ (I : Of.Instance). c.args.i < Of.height I) (sym c.self.view_is) c.requires.inside)) (ap length c.rows-rows.ensures.value) c.if-i-rows.false
 
 pub returns-then-i-rows-clause-ok : goal.returns-then-i-rows-clause-ok
 returns-then-i-rows-clause-ok c =
@@ -52,7 +53,7 @@ pub returns-else-i-rows-clause-ok : goal.returns-else-i-rows-clause-ok
 returns-else-i-rows-clause-ok c =
     let s = c.self.inside in
     let m : length c.args.point.now ≡ Of.width (at_hand s.instance.now s.added.now s.goal.now) = subst (λ (I : Of.Instance). length c.args.point.now ≡ Of.width I) (sym c.self.view_is) c.requires.count in
-    let inside = hand_inside s.instance.now s.added.now s.goal.now c.args.i (length c.rows-rows.result.now) (subst (λ (I : Of.Instance). c.args.i < Of.height I) (sym c.self.view_is) c.requires.inside) (ap length c.rows-rows.ensures.value) c.if-i-rows.false in
+    let inside = hand_inside s.instance.now s.added.now s.goal.now c.args.i (length c.rows-rows.result.now) (in_hand s.cut.now (at_hand s.instance.now s.added.now s.goal.now) c.args.i (subst (λ (I : Of.Instance). c.args.i < Of.height I) (sym c.self.view_is) c.requires.inside)) (ap length c.rows-rows.ensures.value) c.if-i-rows.false in
     let new = hand_new_number s.instance.now s.added.now s.goal.now c.args.i (length c.rows-rows.result.now) c.added_at-added.result.now (ap length c.rows-rows.ensures.value) c.if-i-rows.false inside c.added_at-added.ensures c.as_slice.result.now (length c.args.point.now) c.as_slice.ensures.value m in
     let e = activity_by (at_hand s.instance.now s.added.now s.goal.now) (ratios c.args.point.now) c.args.i (length c.args.point.now) (value_at (ratios c.as_slice.result.now)) (sym m) new in
     subst (λ (I : Of.Instance). IfOk c.sum_numbers.result (λ r. IsSame (ratio r) (activity I (ratios c.args.point.now) c.args.i))) c.self.view_is
@@ -62,7 +63,7 @@ pub returns-else-i-rows-clause-fits : goal.returns-else-i-rows-clause-fits
 returns-else-i-rows-clause-fits c =
     let s = c.self.inside in
     let m : length c.args.point.now ≡ Of.width (at_hand s.instance.now s.added.now s.goal.now) = subst (λ (I : Of.Instance). length c.args.point.now ≡ Of.width I) (sym c.self.view_is) c.requires.count in
-    let inside = hand_inside s.instance.now s.added.now s.goal.now c.args.i (length c.rows-rows.result.now) (subst (λ (I : Of.Instance). c.args.i < Of.height I) (sym c.self.view_is) c.requires.inside) (ap length c.rows-rows.ensures.value) c.if-i-rows.false in
+    let inside = hand_inside s.instance.now s.added.now s.goal.now c.args.i (length c.rows-rows.result.now) (in_hand s.cut.now (at_hand s.instance.now s.added.now s.goal.now) c.args.i (subst (λ (I : Of.Instance). c.args.i < Of.height I) (sym c.self.view_is) c.requires.inside)) (ap length c.rows-rows.ensures.value) c.if-i-rows.false in
     let new = hand_new_number s.instance.now s.added.now s.goal.now c.args.i (length c.rows-rows.result.now) c.added_at-added.result.now (ap length c.rows-rows.ensures.value) c.if-i-rows.false inside c.added_at-added.ensures c.as_slice.result.now (length c.args.point.now) c.as_slice.ensures.value m in
     subst (λ (I : Of.Instance). IfOk c.sum_numbers.result (λ r. RowFits I (ratios c.args.point.now) c.args.i)) c.self.view_is
     (if_ok c.sum_numbers.result (λ r. fits_by (at_hand s.instance.now s.added.now s.goal.now) (ratios c.args.point.now) c.args.i (length c.args.point.now) (value_at (ratios c.as_slice.result.now)) (sym m) new) c.sum_numbers.ensures.fits)
@@ -71,7 +72,7 @@ pub returns-else-i-rows-clause-wide : goal.returns-else-i-rows-clause-wide
 returns-else-i-rows-clause-wide c =
     let s = c.self.inside in
     let m : length c.args.point.now ≡ Of.width (at_hand s.instance.now s.added.now s.goal.now) = subst (λ (I : Of.Instance). length c.args.point.now ≡ Of.width I) (sym c.self.view_is) c.requires.count in
-    let inside = hand_inside s.instance.now s.added.now s.goal.now c.args.i (length c.rows-rows.result.now) (subst (λ (I : Of.Instance). c.args.i < Of.height I) (sym c.self.view_is) c.requires.inside) (ap length c.rows-rows.ensures.value) c.if-i-rows.false in
+    let inside = hand_inside s.instance.now s.added.now s.goal.now c.args.i (length c.rows-rows.result.now) (in_hand s.cut.now (at_hand s.instance.now s.added.now s.goal.now) c.args.i (subst (λ (I : Of.Instance). c.args.i < Of.height I) (sym c.self.view_is) c.requires.inside)) (ap length c.rows-rows.ensures.value) c.if-i-rows.false in
     let new = hand_new_number s.instance.now s.added.now s.goal.now c.args.i (length c.rows-rows.result.now) c.added_at-added.result.now (ap length c.rows-rows.ensures.value) c.if-i-rows.false inside c.added_at-added.ensures c.as_slice.result.now (length c.args.point.now) c.as_slice.ensures.value m in
     subst (λ (I : Of.Instance). OnErr c.sum_numbers.result (RowFits I (ratios c.args.point.now) c.args.i → ⊥)) c.self.view_is
     (on_err c.sum_numbers.result (λ f g. f (by_fits (at_hand s.instance.now s.added.now s.goal.now) (ratios c.args.point.now) c.args.i (length c.args.point.now) (value_at (ratios c.as_slice.result.now)) (sym m) new g)) c.sum_numbers.ensures.wide)

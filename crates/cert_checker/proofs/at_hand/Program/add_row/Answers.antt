@@ -9,6 +9,7 @@ use Rattle.instance.proofs.RowSums.{entries_filter}
 use Rattle.cert_checker.specs.Programs.{at_hand}
 use Rattle.cert_checker.specs.Slots.{slot_at, IsStep}
 use Rattle.cert_checker.proofs.Coefficients.{of_one_row, within_columns}
+use Rattle.cert_checker.proofs.PartedCases.{in_hand}
 use Rattle.cert_checker.proofs.HandRows.{hand_width, hand_inside, hand_old_entry, hand_new_entry}
 use Rattle.cert_checker.proofs.at_hand.Program.add_row.Goals as goal
 
@@ -25,7 +26,7 @@ add_entries-requires-clause-inside c =
 pub added_at-added-requires : goal.added_at-added-requires
 added_at-added-requires c =
     let s = c.self.inside in
-    hand_inside s.instance.now s.added.now s.goal.now c.args.i (length c.rows-rows.result.now) (subst (λ (I : Of.Instance). c.args.i < Of.height I) (sym c.self.view_is) c.requires.inside) (ap length c.rows-rows.ensures.value) c.if-i-rows.false
+    hand_inside s.instance.now s.added.now s.goal.now c.args.i (length c.rows-rows.result.now) (in_hand s.cut.now (at_hand s.instance.now s.added.now s.goal.now) c.args.i (subst (λ (I : Of.Instance). c.args.i < Of.height I) (sym c.self.view_is) c.requires.inside)) (ap length c.rows-rows.ensures.value) c.if-i-rows.false
 
 pub returns-then-i-rows : goal.returns-then-i-rows
 returns-then-i-rows c = λ j h.
@@ -45,7 +46,7 @@ returns-else-i-rows c = λ j h.
     let new = slot_at c.add_numbers.new.slots j in
     let w = hand_width s.instance.now s.added.now s.goal.now in
     let n : length c.args.slots.now ≡ Of.width (at_hand s.instance.now s.added.now s.goal.now) = subst (λ (I : Of.Instance). length c.args.slots.now ≡ Of.width I) (sym c.self.view_is) c.requires.room in
-    let inside = hand_inside s.instance.now s.added.now s.goal.now c.args.i (length c.rows-rows.result.now) (subst (λ (I : Of.Instance). c.args.i < Of.height I) (sym c.self.view_is) c.requires.inside) (ap length c.rows-rows.ensures.value) c.if-i-rows.false in
+    let inside = hand_inside s.instance.now s.added.now s.goal.now c.args.i (length c.rows-rows.result.now) (in_hand s.cut.now (at_hand s.instance.now s.added.now s.goal.now) c.args.i (subst (λ (I : Of.Instance). c.args.i < Of.height I) (sym c.self.view_is) c.requires.inside)) (ap length c.rows-rows.ensures.value) c.if-i-rows.false in
     let a = c.added_at-added.result.now in
     let e = hand_new_entry s.instance.now s.added.now s.goal.now c.args.i (length c.rows-rows.result.now) a (ap length c.rows-rows.ensures.value) c.if-i-rows.false inside c.added_at-added.ensures j (omega arith) in
     subst (λ (I : Of.Instance). IsStep old (ratio c.args.by) (Of.entry_at I.entries c.args.i j) new) c.self.view_is

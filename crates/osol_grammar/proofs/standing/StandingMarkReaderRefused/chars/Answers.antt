@@ -3,8 +3,8 @@ use Rattle.tag_tests.proofs.Characters.{chars_kept, chars_passed}
 use Rattle.osol_grammar.specs.Marked.{osol}
 use Rattle.osol_grammar.proofs.standing.StandingMarkReaderRefused.chars.Goals as goal
 
-pub returns-then-not-is_in_job : goal.returns-then-not-is_in_job
-returns-then-not-is_in_job c = let s = c.args.self.now in chars_passed osol (λ t. record s { text = t }) _ (λ t x. (tt, refl)) s.text c.args.text.now (sym c.is_in_job.ensures ∙ c.if-not-is_in_job.true)
+pub returns-then-not-keeps_text : goal.returns-then-not-keeps_text
+returns-then-not-keeps_text c = let s = c.args.self.now in chars_passed osol (λ t. record s { text = t }) _ (λ t x. (tt, refl)) s.text c.args.text.now (sym c.keeps_text.ensures ∙ c.if-not-keeps_text.true)
 
 pub returns : goal.returns
-returns c = let s = c.args.self.now in chars_kept osol (λ t. record s { text = t }) _ (λ t x. (tt, refl)) s.text c.args.text.now c.extend.new.self (sym c.is_in_job.ensures ∙ c.if-not-is_in_job.false) c.in_ok-extend.ensures.ok
+returns c = let s = c.args.self.now in chars_kept osol (λ t. record s { text = t }) _ (λ t x. (tt, refl)) s.text c.args.text.now c.extend.new.self (sym c.keeps_text.ensures ∙ c.if-not-keeps_text.false) c.in_ok-extend.ensures.ok
