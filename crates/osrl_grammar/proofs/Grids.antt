@@ -1,5 +1,5 @@
 -- A step and multipliers are read together.
-use Rattle.osrl_grammar.proofs.Names.{inl, inr, ℕ, Option, None, Some, Result, Ok, Err, List, [], ◌∷◌, refl, ap, AllZip, Mult, Frac, FieldsRead, Unread, Wide, Misread, NoShape, NoNumber, TooGreat, Exact, Field, IsBad, IsTooGreat, field, with_fields, ReadsTexts, IsFraction, IsMult}
+use Rattle.osrl_grammar.proofs.Names.{inl, inr, ℕ, Option, None, Some, Result, Ok, Err, List, [], ◌∷◌, ap, AllZip, Mult, Frac, FieldsRead, Unread, Wide, Misread, NoShape, NoNumber, TooGreat, Exact, Field, IsBad, IsTooGreat, field, with_fields, ReadsTexts, IsFraction, IsMult}
 use Rattle.tag_tests.specs.Fields.{OneFirst}
 use Rattle.tag_tests.specs.declared.numbers.Unread.TheVariants.{NotNumber}
 use Rattle.osrl_grammar.specs.Stepping.{gridded}
