@@ -20,6 +20,7 @@ from fractions import Fraction
 from pathlib import Path
 
 import gubnatris
+import gubnatris.certified
 from gubnatris import Fault, NoReply, NotFinished, NotReached, NotSent, Refused, Server, Status, TimedOut
 
 ROOT = Path(__file__).resolve().parents[2]
@@ -28,6 +29,14 @@ EXAMPLES = sorted((ROOT / "examples").glob("*.osil"))
 STATUSES = {"optimal": "OPTIMAL", "infeasible": "EMPTY", "unbounded": "UNBOUNDED", "bestSoFar": "OPTIMAL"}  # of gubnatris, of glpsol
 BEYOND = "<osil><instanceData><variables><var/></variables><quadraticCoefficients><qTerm/></quadraticCoefficients></instanceData></osil>"
 MINIMUM = '<osil><instanceData><variables><var lb="2/1" ub="5"/></variables></instanceData></osil>'
+
+
+def spoilt(document):
+    """The document with each number of its items in turn one greater."""
+    for item in re.finditer("<item>([^<]*)</item>", document):
+        for digits in re.finditer("[0-9]+", item[1]):
+            begin = item.start(1) + digits.start()
+            yield document[:begin] + str(int(digits[0]) + 1) + document[begin + len(digits[0]) :]
 
 
 # ---- an instance, read apart from client and server
@@ -383,6 +392,67 @@ class Served(unittest.TestCase):
                 file.flush()
                 told = subprocess.run([PROGRAM, "check", path, file.name], capture_output=True, text=True, check=False)
                 self.assertEqual(told.stdout, f"accepted {result.status}\n")
+
+    def test_a_result_that_is_handed_in_is_the_answer(self):
+        program = gubnatris.Program(PROGRAM)
+        for path in EXAMPLES:
+            found = self.server.solve(path)
+            for answer in (
+                self.server.solve(path, node_limit=1, turn_limit=1, result=found),
+                self.server.wait(self.server.submit(path, node_limit=1, turn_limit=1, result=found.document)).of(path),
+                program.solve(path, node_limit=1, turn_limit=1, result=found),
+            ):
+                with self.subTest(path.stem):
+                    self.assertEqual(*(re.sub("<jobID>.*?</jobID>", "", it.document) for it in (answer, found)))
+                    self.assertEqual((answer.values, answer.certificate, answer.message), (found.values, found.certificate, ""))
+
+    def test_what_is_handed_in_is_checked(self):
+        program = gubnatris.Program(PROGRAM)
+        refused = 0
+        for path in (ROOT / "examples/knapsack.osil", ROOT / "examples/diet.osil", ROOT / "examples/infeasible_schedule.osil"):
+            found = program.solve(path)
+            for handed in [*spoilt(found.document), *(program.solve(other).document for other in EXAMPLES if other != path), "", "<osrl/>"]:
+                line, answer = program.check(path, handed), program.solve(path, result=handed)
+                with self.subTest(path.stem, line=line):
+                    if line.startswith("accepted"):
+                        self.assertEqual(answer.message, "")
+                        self.assertEqual(answer.certificate, gubnatris.read_result(handed).certificate)
+                    else:
+                        refused += 1
+                        self.assertEqual(answer.message, f"os_cert.result {line}")
+                        self.assertEqual((answer.status, answer.values, answer.tree), (found.status, found.values, found.tree))
+        self.assertGreater(refused, 50)
+
+    def test_what_can_t_be_handed_in_isn_t_sent(self):
+        before = self.server.jobs()
+        for result in ("\x00", "x" * 5_000_000):
+            with self.assertRaises(NotSent):
+                self.server.solve(EXAMPLES[0], result=result)
+        self.assertEqual(self.server.jobs().states, before.states)
+
+    def test_a_certificate_is_made_and_handed_in(self):
+        tool = gubnatris.certified.TOOL
+        with tempfile.TemporaryDirectory() as folder:
+            for body, result in (
+                (f"open(sys.argv[3], 'w').write({self.server.solve(EXAMPLES[0]).document!r})", "optimal"),  # as the tool does
+                ("sys.exit(1)", None),  # it shows nothing
+            ):
+                gubnatris.certified.TOOL = Path(folder, "certify")
+                gubnatris.certified.TOOL.write_text(f"import sys\nassert sys.argv[4:] == ['--seconds', '2'], sys.argv\n{body}\n", encoding="utf-8")
+                try:
+                    found = self.server.solve(EXAMPLES[0], turn_limit=1, seconds=1.5, certify=True)
+                finally:
+                    gubnatris.certified.TOOL = tool
+                self.assertEqual((found.status, found.cause), (result, None) if result else (found.status, "turnLimit 1"))
+            for body, wanted in (("print('certify: no core', file=sys.stderr); sys.exit(6)", "status 6: certify: no core"), (None, "doesn't stand in a checkout")):
+                gubnatris.certified.TOOL = Path(folder, "certify" if body else "no_tool")
+                if body:
+                    gubnatris.certified.TOOL.write_text(f"import sys\n{body}\n", encoding="utf-8")
+                try:
+                    with self.assertRaisesRegex(gubnatris.Error, wanted):
+                        self.server.solve(EXAMPLES[0], certify=True)
+                finally:
+                    gubnatris.certified.TOOL = tool
 
     def test_nothing_is_left_behind(self):
         before = self.server.jobs()

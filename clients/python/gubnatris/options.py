@@ -5,9 +5,9 @@ from __future__ import annotations
 import math
 from typing import Optional
 
-from .errors import NotOffered
+from .errors import NotOffered, NotSent
 from .exact import exact
-from .writing import escaped, quoted
+from .writing import NO_XML, escaped, quoted
 
 MOST_NODES, MOST_TURNS = 1_000_000, 100_000_000  # what an option may set at most
 
@@ -20,14 +20,26 @@ def options_text(
     names: bool = False,
     form: Optional[str] = None,
     seconds: Optional[float] = None,
+    result: Optional[str] = None,
 ) -> str:
-    """The options, or the empty text where there are none."""
-    named = f"<general><jobID>{escaped(job)}</jobID></general>" if job is not None else ""
+    """The options, or the empty text where there are none. `result`: the result document that they hand in."""
+    named = f"<jobID>{escaped(job)}</jobID>" if job is not None else ""
+    general = f"<general>{named}{_handed_text(result)}</general>" if named or result is not None else ""
     limits = [("nodeLimit", node_limit), ("pivotLimit", turn_limit), ("rounds", rounds), ("names", 1 if names else None), ("form", form)]
     set_ones = "".join(f"<solverOption name={quoted(name)} value={quoted(str(limit))}/>" for name, limit in limits if limit is not None)
     limited = f"<optimization><solverOptions>{set_ones}</solverOptions></optimization>" if set_ones else ""
-    parts = named + _time_text(seconds) + limited
+    parts = general + _time_text(seconds) + limited
     return f'<osol xmlns="os.optimizationservices.org">{parts}</osol>' if parts else ""
+
+
+def _handed_text(result: Optional[str]) -> str:
+    """The element that hands in a result. Raises `NotSent` where it has a character that no XML has."""
+    if result is None:
+        return ""
+    wrong = NO_XML.search(result)
+    if wrong:
+        raise NotSent(f"the result that is handed in has {wrong[0]!r}, which no XML has, at character {wrong.start()}")
+    return f'<otherOptions numberOfOtherOptions="1"><other name="os_cert.result">{escaped(result)}</other></otherOptions>'
 
 
 def _time_text(seconds: Optional[float]) -> str:

@@ -15,7 +15,7 @@ from typing import Callable, Iterator, Optional, Union
 
 from .errors import NoProgram, NotSent, ProgramFailed
 from .options import find_not_offered, options_text
-from .results import Result, read_of_job
+from .results import Result, document_of, read_of_job
 from .server import Server
 from .sources import Given, Source, source_of
 
@@ -49,6 +49,7 @@ class Program:
         names: bool = False,
         form: Optional[str] = None,
         seconds: Optional[float] = None,
+        result: Union[str, Result, None] = None,
         gap: object = None,
         fast: bool = False,
         start: object = None,
@@ -58,15 +59,15 @@ class Program:
         Raises `Refused` where the instance or a limit is, and `ProgramFailed`.
         """
         find_not_offered(gap, fast, start)
-        return self._solve(source_of(instance), options_text(None, node_limit, turn_limit, rounds, names, form, seconds))
+        return self._solve(source_of(instance), options_text(None, node_limit, turn_limit, rounds, names, form, seconds, document_of(result)))
 
     def check(self, instance: Given, document: str) -> str:
         """What the checker says of a result document: `accepted` and the kind of claim, or `refused` and the first reason."""
-        with _files(osil=source_of(instance).text, osrl=document) as folder:
+        with held_files(osil=source_of(instance).text, osrl=document) as folder:
             return self._ran("check", f"{folder}/osil", f"{folder}/osrl").strip()
 
     def _solve(self, source: Source, options: str) -> Result:
-        with _files(osil=source.text, osol=options) as folder:
+        with held_files(osil=source.text, osol=options) as folder:
             return read_of_job(self._ran("solve", f"{folder}/osil", *(["--options", f"{folder}/osol"] if options else [])), "the job", source)
 
     def _ran(self, *words: str) -> str:
@@ -84,24 +85,29 @@ class Program:
 
     @contextlib.contextmanager
     def _begun(self, *words: str, errors: Optional[int] = None) -> Iterator[subprocess.Popen[bytes]]:
-        """The program while it runs; it is ended where this is left. A signal that comes while it is begun waits, so that it isn't lost sight of."""
-        process = None
+        """The program while it runs; it is ended where this is left."""
         _warn_of_build(Path(self.path))
-        try:
-            with held_signals() as let_go:
-                process = subprocess.Popen(
-                    [self.path, *words], stdin=subprocess.DEVNULL, stdout=subprocess.PIPE, stderr=errors, preexec_fn=let_go
-                )
-        except OSError as failure:
-            raise NoProgram(f"{self.path} can't be run: {failure.strerror}") from failure
-        except BaseException:
-            if process:
-                _end(process)
-            raise
-        try:
+        with begun(self.path, *words, errors=errors) as process:
             yield process
-        finally:
+
+
+@contextlib.contextmanager
+def begun(*words: str, errors: Optional[int] = None) -> Iterator[subprocess.Popen[bytes]]:
+    """A program while it runs; it is ended where this is left. A signal that comes while it is begun waits, so that it isn't lost sight of."""
+    process = None
+    try:
+        with held_signals() as let_go:
+            process = subprocess.Popen(words, stdin=subprocess.DEVNULL, stdout=subprocess.PIPE, stderr=errors, preexec_fn=let_go)
+    except OSError as failure:
+        raise NoProgram(f"{words[0]} can't be run: {failure.strerror}") from failure
+    except BaseException:
+        if process:
             _end(process)
+        raise
+    try:
+        yield process
+    finally:
+        _end(process)
 
 
 def solver(server: Optional[str] = None) -> Union[Server, Program]:
@@ -153,7 +159,7 @@ def used_folder(prefix: str) -> Iterator[str]:
 
 
 @contextlib.contextmanager
-def _files(**texts: str) -> Iterator[str]:
+def held_files(**texts: str) -> Iterator[str]:
     """A folder with these texts, while it is used."""
     with contextlib.ExitStack() as stack:
         try:

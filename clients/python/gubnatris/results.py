@@ -11,7 +11,7 @@ import xml.etree.ElementTree as ElementTree
 from dataclasses import dataclass, field
 from fractions import Fraction
 from functools import cached_property
-from typing import TYPE_CHECKING, NamedTuple, Optional
+from typing import TYPE_CHECKING, NamedTuple, Optional, Union
 
 from .errors import NoReply, NotFinished, NotInstance, Refused
 from .instances import Column
@@ -53,7 +53,8 @@ class Result:
     preorder; where there are several objectives, `level L` and the nodes of the next tree. `document`: the text. `objectives`: where there is
     a point, what it is worth by each objective, in order; `objective` is the first of them. `bound`: a number that no point's first
     objective is better than: with `optimal` the objective, with `bestSoFar` and `unsure` what the document has, or None. `source`: the
-    instance, where it is known; what needs it says so.
+    instance, where it is known; what needs it says so. `message`: what the document says in words, as why a result that was handed in isn't
+    the answer.
     """
 
     status: str
@@ -66,6 +67,7 @@ class Result:
     objectives: Optional[tuple[Fraction, ...]] = None
     bound: Optional[Fraction] = None
     source: Optional[Source] = field(default=None, compare=False, repr=False)
+    message: str = ""
 
     def of(self, instance: Given) -> Result:
         """This result as one of an instance: where only the document was at hand."""
@@ -302,6 +304,11 @@ def state_of(document: str) -> str:
     return state
 
 
+def document_of(result: Union[str, Result, None]) -> Optional[str]:
+    """The text of a result that is handed in."""
+    return result.document if isinstance(result, Result) else result
+
+
 def read_result(document: str) -> Result:
     """What a result document says, of a server or of `os solve`.
 
@@ -333,7 +340,7 @@ def read_of_job(document: str, job: str, source: Optional[Source] = None) -> Res
     if "cause" in items and _parts_named(solutions[0], "bound"):
         bound = _ratios((_one(_items(solutions[0], "bound", came), came),), came)[0]
         items["tree"] = _items(solutions[0], "tree", came)
-    found = Result(status, values[0] if values else None, point, ray, cause, items.get("tree"), document, values, bound)
+    found = Result(status, values[0] if values else None, point, ray, cause, items.get("tree"), document, values, bound, message=_message(root))
     return scaled(found, source) if source else found
 
 

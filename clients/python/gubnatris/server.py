@@ -13,7 +13,7 @@ from typing import TYPE_CHECKING, Callable, NamedTuple, Optional, Union
 from .errors import Error, Fault, NoReply, NotFinished, NotReached, NotSent, Status, TimedOut
 from .limits import MOST_DOCUMENT
 from .options import find_not_offered, options_text
-from .results import Result, read_of_job, refusal, state_of
+from .results import Result, document_of, read_of_job, refusal, state_of
 from .sources import Given, Source, source_of
 from .trees import below, local, only, parsed, text_in
 from .writing import NO_XML, escaped
@@ -80,6 +80,8 @@ class Server:
         names: bool = False,
         form: Optional[str] = None,
         seconds: Optional[float] = None,
+        result: Union[str, Result, None] = None,
+        certify: bool = False,
         gap: object = None,
         fast: bool = False,
         start: object = None,
@@ -90,12 +92,18 @@ class Server:
         many rounding cuts it may add. `names`: whether the result document has the names of variables and rows. `form`: "rows" has the
         certificate told with multipliers of rows alone, where the checker accepts it so, and "whole" as without it. `seconds`: after so
         many the search ends, and the result is what it has found by then. A job that hasn't begun when they are over is given up.
+        `result`: a result document, of whatever solver, or what was read of one: where the server's checker accepts its claim of this
+        instance, that is the answer, and nothing is searched; else `Result.message` says why not. `certify`: has `tools/certify` make one
+        first, for so many seconds, where none is given; it needs a checkout.
         `gap`, `fast` and `start` are not offered yet: `NotOffered`. Raises `Refused` where the instance or a limit is, and `TimedOut`
         where the search hadn't begun by then. (The call `solve` of the server would keep the job under a number that nobody is told.)
         """
         find_not_offered(gap, fast, start)
         source = source_of(instance)
-        job = self._submit(source, (node_limit, turn_limit, rounds, names, form, seconds))
+        document = document_of(result)
+        if certify and document is None:
+            document = _certified(source.text, seconds)
+        job = self._submit(source, (node_limit, turn_limit, rounds, names, form, seconds), document)
         try:
             return self._within(job, seconds, source)
         finally:
@@ -124,6 +132,7 @@ class Server:
         names: bool = False,
         form: Optional[str] = None,
         seconds: Optional[float] = None,
+        result: Union[str, Result, None] = None,
         named: Optional[Callable[[str], object]] = None,
     ) -> str:
         """Hands an instance over, to be solved behind this call; the job's name.
@@ -132,14 +141,20 @@ class Server:
         Raises `Refused` where a limit is; where the instance is, its result tells that. A server holds 10,000 jobs: give up, by `kill`,
         what was read.
         """
-        return self._submit(source_of(instance), (node_limit, turn_limit, rounds, names, form, seconds), named)
+        return self._submit(source_of(instance), (node_limit, turn_limit, rounds, names, form, seconds), document_of(result), named)
 
-    def _submit(self, source: Source, limits: tuple[Union[float, str, None], ...], named: Optional[Callable[[str], object]] = None) -> str:
+    def _submit(
+        self,
+        source: Source,
+        limits: tuple[Union[float, str, None], ...],
+        result: Optional[str],
+        named: Optional[Callable[[str], object]] = None,
+    ) -> str:
         job = self._call("getJobID", {"osol": options_text(None, *limits)})
         try:
             if named:
                 named(job)
-            taken = self._call("send", {"osol": options_text(job, *limits), "osil": source.text})
+            taken = self._call("send", {"osol": options_text(job, *limits, result=result), "osil": source.text})
         except BaseException:
             self._give_up(job)
             raise
@@ -209,6 +224,13 @@ class Server:
         finally:
             link.close()
         return _returned(call, status, held, bytes(link.came))
+
+
+def _certified(osil: str, seconds: Optional[float]) -> Optional[str]:
+    """As `certified` has it, which is read in only where it is wanted: it begins programs, as `program` does, which knows of servers."""
+    from .certified import certified
+
+    return certified(osil, seconds)
 
 
 class _Link:
