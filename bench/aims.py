@@ -28,7 +28,7 @@ MOST_PRESSURE = 10.0  # percent of the last minute in which something waited for
 KINDS = (
     (programs.fixed_charge, ((14, 20), (16, 22), (16, 24), (17, 24), (18, 25), (19, 26))),
     (programs.general_assignment, ((6, 40), (8, 40))),
-    (programs.job_shop, ((5, 5), (5, 6), (5, 7), (4, 9), (6, 4), (5, 8))),
+    (programs.job_shop, ((5, 6), (5, 8), (5, 9), (6, 4), (6, 5))),
 )
 TAKE_OVER = f"import takeover; takeover.take_over({TAKEOVERS})"
 
