@@ -92,4 +92,5 @@ def main():
         print(f"{times:8} {name}")
 
 
-main()
+if __name__ == "__main__":
+    main()

@@ -12,7 +12,6 @@ pub mod BareTexts
 pub mod OneValue
 pub mod OneState
 pub mod OneDocument
-pub mod Decodings
 pub mod CharMarks
 pub mod Steps
 pub mod Goings

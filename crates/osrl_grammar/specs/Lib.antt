@@ -15,5 +15,4 @@ pub mod Failing
 pub mod Leaving
 pub mod Marked
 pub mod Stepping
-pub mod Hearing
 pub mod Order

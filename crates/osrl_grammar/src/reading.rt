@@ -3,10 +3,12 @@
 ghost use Rattle.std.specs.Prelude.{IfOk, IfErr};
 ghost use Rattle.osrl_grammar.specs.Reading.{IsReportText, DecodeFails};
 
-use crate::decoder::Decoder;
 use crate::fault::OsrlFault;
+use crate::standing::Standing;
+use doc_tree::TreeFault;
 use osrl_writing::Report;
 use std::alloc::Global;
+use tag_tests::read_marks;
 
 /// The report that a result document is.
 ///
@@ -17,8 +19,10 @@ pub fn decode(alloc: Global, bytes: &[u8]) -> Result<Report, OsrlFault>
     ensures ok { IfOk result (IsReportText bytes.now) }
     ensures err { IfErr result (DecodeFails bytes.now) }
 {
-    let mut decoder = Decoder::new(alloc);
-    // what is refused here is told again in the end
-    let _ = decoder.feed(bytes);
-    decoder.finish()
+    match read_marks(alloc, bytes, Standing::new(alloc)) {
+        Ok(Ok(standing)) => Ok(standing.report()),
+        Ok(Err(fault)) => Err(fault),
+        Err(TreeFault::Memory) => Err(OsrlFault::Memory),
+        Err(fault) => Err(OsrlFault::Tree(fault)),
+    }
 }

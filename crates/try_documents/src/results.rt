@@ -2,63 +2,9 @@
 
 use cases::Answers;
 use os_io::{Memory, Text};
-use osrl_grammar::{Decoder, OsrlFault, decode, refusal_text};
+use osrl_grammar::{decode, refusal_text};
 use osrl_writing::{Report, encode};
 use std::alloc::Global;
-
-/// The most bytes of a document that is also read byte by byte.
-const MOST: usize = 100_000;
-
-/// The report of a document that comes byte by byte.
-fn byte_by_byte(alloc: Global, document: &[u8]) -> Result<Report, OsrlFault> {
-    let mut decoder = Decoder::new(alloc);
-    for at in 0..document.len() {
-        decoder.feed(&document[at..at + 1])?;
-    }
-    decoder.finish()
-}
-
-/// What is read, as a text, or the text of the refusal.
-fn told(alloc: Global, read: &Result<Report, OsrlFault>) -> Result<Text, Memory> {
-    match read {
-        Ok(report) => encode(alloc, report),
-        Err(fault) => refusal_text(alloc, *fault),
-    }
-}
-
-/// Whether a document is read alike byte by byte.
-fn is_read_alike(
-    alloc: Global,
-    document: &[u8],
-    read: &Result<Report, OsrlFault>,
-) -> Result<bool, Memory> {
-    if document.len() > MOST {
-        return Ok(true);
-    }
-    let whole = told(alloc, read)?;
-    let pieces = told(alloc, &byte_by_byte(alloc, document))?;
-    Ok(whole.as_slice() == pieces.as_slice())
-}
-
-/// The report of a document, or why it is none; nothing where it is read otherwise in pieces.
-fn read(alloc: Global, document: &[u8]) -> Result<Report, Option<OsrlFault>> {
-    let report = decode(alloc, document);
-    match is_read_alike(alloc, document, &report) {
-        Ok(true) => match report {
-            Ok(report) => Ok(report),
-            Err(fault) => Err(Some(fault)),
-        },
-        _ => Err(None),
-    }
-}
-
-/// The text of a refusal.
-fn refused(alloc: Global, fault: Option<OsrlFault>) -> Result<Text, Memory> {
-    match fault {
-        Some(fault) => refusal_text(alloc, fault),
-        None => Text::from_slice(alloc, b"otherwise in pieces"),
-    }
-}
 
 /// Given a document that a report is written as.
 #[derive(Drop)]
@@ -69,7 +15,7 @@ impl Answers for Written {
         let [document] = given else {
             return Text::from_slice(alloc, b"one field");
         };
-        match read(alloc, document.as_slice()) {
+        match decode(alloc, document.as_slice()) {
             Ok(report) => {
                 let text = encode(alloc, &report)?;
                 if text.as_slice() == document.as_slice() {
@@ -78,16 +24,16 @@ impl Answers for Written {
                     Ok(text)
                 }
             }
-            Err(fault) => refused(alloc, fault),
+            Err(fault) => refusal_text(alloc, fault),
         }
     }
 }
 
 /// Whether a document is read, or its refusal.
 fn verdict(alloc: Global, document: &[u8]) -> Result<Text, Memory> {
-    match read(alloc, document) {
+    match decode(alloc, document) {
         Ok(_) => Text::from_slice(alloc, b"read"),
-        Err(fault) => refused(alloc, fault),
+        Err(fault) => refusal_text(alloc, fault),
     }
 }
 
@@ -147,9 +93,9 @@ impl Answers for General {
         let [document] = given else {
             return Text::from_slice(alloc, b"one field");
         };
-        match read(alloc, document.as_slice()) {
+        match decode(alloc, document.as_slice()) {
             Ok(report) => general_part(alloc, &report),
-            Err(fault) => refused(alloc, fault),
+            Err(fault) => refusal_text(alloc, fault),
         }
     }
 }

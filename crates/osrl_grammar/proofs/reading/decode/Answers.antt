@@ -1,9 +1,11 @@
-use Rattle.osrl_grammar.proofs.Names.{[], IfOk-weaker}
-use Rattle.std.proofs.lemmas.Result.{IfErr-weaker}
+use Rattle.osrl_grammar.proofs.Names.{Ok, subst, OsrlFault, State, osrl}
+use Rattle.document_tags.specs.Documents.{OfDocument}
+use Rattle.tag_tests.specs.Forms.{AreTaken, AreRefused}
+use Rattle.tag_tests.specs.Readers.{Reads}
 use Rattle.osrl_grammar.proofs.reading.decode.Goals as goal
 
-pub returns-clause-ok : goal.returns-clause-ok
-returns-clause-ok c = IfOk-weaker c.finish.result _ _ (λ r h. h c.args.bytes.now (c.feed.ensures.fed [] c.new-decoder.ensures.fed)) c.finish.ensures.ok
-
-pub returns-clause-err : goal.returns-clause-err
-returns-clause-err c = IfErr-weaker c.finish.result _ _ (λ f h. h c.args.bytes.now (c.feed.ensures.fed [] c.new-decoder.ensures.fed)) c.finish.ensures.err
+pub returns-in-Ok-Ok-clause-ok : goal.returns-in-Ok-Ok-clause-ok
+returns-in-Ok-Ok-clause-ok c =
+    let h = subst (λ (s : State). OfDocument (Reads {R = OsrlFault} (AreTaken osrl) (AreRefused osrl) s) c.args.bytes.now (Ok c.in-Ok-Ok.standing)) c.new.ensures
+    (rw c.in-Ok-Ok.field-0-is at c.in-Ok-Ok.ensures.ok) in
+    record { root = h.root; document = h.document; is = (c.in-Ok-Ok.standing, h.is, c.report.ensures) }
