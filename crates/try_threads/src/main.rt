@@ -1,7 +1,7 @@
 //! What no contract can say of the server's threads, seen in runs: that links are served side by side, that a link which ended is
 //! given back before an older one that still talks, that an answer is handed on before the next request is read, that workers run
-//! jobs while links are open, that a knock and a kill are answered while a job runs, that a kill ends a search that would take
-//! hours, and that over TCP a client reads its answer and then the end while another link is open.
+//! jobs while links are open, that a knock and a kill are answered while a job runs, that a kill, and a time, end a search that
+//! would take hours, and that over TCP a client reads its answer and then the end while another link is open.
 //!
 //! The output comes from the rules (`docs/rules/`): what is answered where it is so. Where it isn't, a thread waits so
 //! long at most, or a client asks so often at most, and something else is written.
@@ -21,7 +21,7 @@ use served::{
     answer_before_reading_on, knock_beside_a_worker, make_room_by_ending, serve_two_links,
 };
 use std::io;
-use working::{kill_a_long_search, kill_with_a_point};
+use working::{end_a_long_search_in_time, kill_a_long_search, kill_with_a_point};
 
 fn main(rt: HostRuntime) -> io::Result<()> {
     let links = serve_two_links(&rt, rt.alloc())?;
@@ -30,6 +30,7 @@ fn main(rt: HostRuntime) -> io::Result<()> {
     let worker = knock_beside_a_worker(&rt, rt.alloc())?;
     let kill = kill_with_a_point(&rt, rt.alloc())?;
     let hours = kill_a_long_search(&rt, rt.alloc())?;
+    let time = end_a_long_search_in_time(&rt, rt.alloc())?;
     let tcp = serve_over_loopback(&rt, rt.alloc())?;
-    print!(rt; "{links}{room}{turns}{worker}{kill}{hours}{tcp}")
+    print!(rt; "{links}{room}{turns}{worker}{kill}{hours}{time}{tcp}")
 }

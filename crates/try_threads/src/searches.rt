@@ -1,4 +1,4 @@
-//! Jobs that are killed.
+//! Jobs that are ended before their searches end.
 
 use os_io::Memory;
 use std::alloc::Global;
@@ -14,9 +14,12 @@ pub(crate) struct JobTexts<'a> {
 pub(crate) const HALVES: &[u8] =
     b"<osil><instanceData><variables><var type=\"I\"/></variables><objectives><obj maxOrMin=\"max\"><coef idx=\"0\">1</coef></obj></objectives><constraints><con ub=\"5\"/></constraints><linearConstraintCoefficients><start><el>0</el><el>1</el></start><rowIdx><el>0</el></rowIdx><value><el>2</el></value></linearConstraintCoefficients></instanceData></osil>";
 
-/// As many nodes and turns as options may ask for.
-pub(crate) const GREATEST_LIMITS: &[u8] =
-    b"<osol><optimization><solverOptions><solverOption name=\"nodeLimit\" value=\"1000000\"/><solverOption name=\"pivotLimit\" value=\"100000000\"/></solverOptions></optimization></osol>";
+/// Options with this of the job, and with as many nodes and turns as options may ask for.
+pub(crate) fn greatest_limits(alloc: Global, job: &str) -> Result<String, Memory> {
+    format!(in alloc;
+        "<osol>{job}<optimization><solverOptions><solverOption name=\"nodeLimit\" value=\"1000000\"/><solverOption name=\"pivotLimit\" value=\"100000000\"/></solverOptions></optimization></osol>"
+    )
+}
 
 /// How many rows there are.
 const ROWS: u32 = 100;

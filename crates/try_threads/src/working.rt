@@ -1,9 +1,9 @@
-//! A job that is killed while a worker runs it.
+//! Jobs that are killed while a worker runs them, and one whose time is over.
 
 ghost use Rattle.desk.specs.SeatMoves.{desk_id, IsSeatOf};
 
 use crate::names::state_name;
-use crate::searches::{GREATEST_LIMITS, HALVES, JobTexts, odd_sum};
+use crate::searches::{HALVES, JobTexts, greatest_limits, odd_sum};
 use crate::waiting::wait_for;
 use desk::{Desk, Seat};
 use job_solver::{SolvedJobs, Solver};
@@ -16,7 +16,7 @@ use std::sync::atomic::AtomicBool;
 use std::sync::atomic::Ordering::SeqCst;
 use std::thread::{Threads, join};
 use std::time::Clock;
-use workers::{Gate, work_one_by_seat};
+use workers::{Gate, OpenGate, work_one_by_seat};
 
 /// The look that is held.
 const HELD: u64 = 3;
@@ -194,9 +194,29 @@ pub(crate) fn kill_a_long_search<R: Threads + Wait + Clock + Sync>(
     alloc: Global,
 ) -> Result<String, Memory> {
     let osil = odd_sum(alloc)?;
+    let osol = greatest_limits(alloc, "")?;
     let texts = JobTexts {
         osil: osil.as_bytes(),
-        osol: GREATEST_LIMITS,
+        osol: osol.as_bytes(),
     };
     kill_beside_a_worker(rt, alloc, texts)
+}
+
+/// Runs a job whose search would take hours, and which has a quarter of a second. A time that is never over would take them.
+pub(crate) fn end_a_long_search_in_time<R: Wait + Clock>(
+    rt: &R,
+    alloc: Global,
+) -> Result<String, Memory> {
+    let osil = odd_sum(alloc)?;
+    let osol = greatest_limits(alloc, "<job><maxTime>0.25</maxTime></job>")?;
+    let texts = JobTexts {
+        osil: osil.as_bytes(),
+        osol: osol.as_bytes(),
+    };
+    let (desk, mut seat) = Desk::<SolvedJobs>::new(alloc, 1)?;
+    send(rt, alloc, &desk, &mut seat, texts)?;
+    let solver = Solver::new(rt);
+    work_one_by_seat(rt, alloc, &desk, &mut seat, &solver, true, &mut OpenGate);
+    let shown = desk.ask(rt, &mut seat, Retrieve { number: 1 })?;
+    line_of_shown(alloc, &shown)
 }
