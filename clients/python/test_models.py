@@ -313,7 +313,7 @@ class Programs(unittest.TestCase):
         model.maximise(dict(zip(made, (16, 22, 12, 8))))
         best = Program().solve(model)
         for start, wanted in (
-            ([1, 1, 0, 0], 38), ({made[0]: 1, "lorries": Fraction(1), 3: 1.0}, 36), (best, 42), ([Fraction(1, 2), 1, 0, 0], None), ([1, 1, 1, 0], None), ([1, 1, 0, 0, 0], 38),
+            ([1, 1, 0, 0], 38), ({made[0]: 1, "lorries": Fraction(1), 3: 1.0}, 36), (best, 42), ([Fraction(1, 2), 1, 0, 0], None), ([1, 1, 1, 0], None), ([1, 1, 0, 0, 0], None),
             (None, None),
         ):  # fmt: skip
             self.assertEqual(Program().solve(model, start=start, node_limit=1).objective, wanted, start)
