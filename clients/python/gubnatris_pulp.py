@@ -68,6 +68,7 @@ class GUBNATRIS(LpSolver):
         except (Error, ValueError) as failure:
             raise PulpSolverError(f"GUBNATRIS: {failure}") from failure
         _assign(lp, list(variables), result)
+        notes += [f"GUBNATRIS: {result.message}"] if result and result.message else []
         self._say([*notes, _summary(result, time.monotonic() - begun)])
         return int(lp.status)
 

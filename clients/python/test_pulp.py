@@ -101,9 +101,11 @@ class LeftOut(unittest.TestCase):
         for start, wanted in (((0.9999999, 1, 0, None), ((1, 2), 38)), ((1, 1, 1, 0), ((0, 0), None))):  # 12 of 14; and 16, which is too much
             for x, value in zip(made, start):
                 x.varValue = value
-            problem.solve(GUBNATRIS(msg=False, warmStart=True, maxNodes=1))
-            found = problem.solverModel.objective
-            self.assertEqual(((problem.status, problem.sol_status), found), wanted)
+            out = io.StringIO()
+            with contextlib.redirect_stdout(out):
+                problem.solve(GUBNATRIS(warmStart=True, maxNodes=1))
+            self.assertEqual(((problem.status, problem.sol_status), problem.solverModel.objective), wanted)
+            self.assertEqual("no feasible point" in out.getvalue(), wanted[1] is None)
 
     def test_it_is_listed(self):
         self.assertIn("GUBNATRIS", pulp.listSolvers(onlyAvailable=True))
