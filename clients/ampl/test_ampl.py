@@ -36,9 +36,9 @@ DIET_ROWS = [["185", "160", "75", "110"], ["6.5", "8.5", "6.5", "3.5"], ["3.5", 
 class Stub:
     """A program to be written as .nl: its variables stand continuous, 0-1, whole."""
 
-    def __init__(self, variables, rows, factors, goals, binaries=0, integers=0, tail=()):
+    def __init__(self, variables, rows, factors, goals, binaries=0, integers=0, tail=(), first=("0 1.5",)):
         self.variables, self.rows, self.factors, self.goals = variables, rows, factors, goals
-        self.binaries, self.integers, self.tail = binaries, integers, tail
+        self.binaries, self.integers, self.tail, self.first = binaries, integers, tail, first
 
     def header(self, letter):
         values, costs = sum(map(len, self.factors)), sum(len(costs) for _, _, costs in self.goals)
@@ -56,7 +56,7 @@ class Stub:
             lines += [f"C{i}", "n0"]
         for k, (sense, constant, _) in enumerate(self.goals):
             lines += [f"O{k} {sense}", f"n{constant}"]
-        lines += ["x1", "0 1.5"] if self.variables else []
+        lines += [f"x{len(self.first)}", *self.first] if self.variables else []
         lines += ["r", *map(self.ends, self.rows)] if self.rows else []
         lines += ["b", *map(self.ends, self.variables)]
         lines += [f"k{len(self.variables) - 1}", *("0" for _ in self.variables[1:])]
@@ -106,10 +106,10 @@ def diet(**changes):
     return Stub([("0", "8")] * 4, [("2000", INF), ("60", INF), (INF, "70")], [terms(row) for row in DIET_ROWS], [(0, "0", terms(DIET_COSTS))], **changes)
 
 
-def knapsack():
+def knapsack(**changes):
     """examples/capital_budget: at most 14 in all; its optimum is 42."""
     costs, sizes = ["16", "22", "12", "8"], ["5", "7", "4", "3"]
-    return Stub([("0", "1")] * 4, [(INF, "14")], [terms(sizes)], [(1, "0", terms(costs))], binaries=4)
+    return Stub([("0", "1")] * 4, [(INF, "14")], [terms(sizes)], [(1, "0", terms(costs))], binaries=4, **changes)
 
 
 class Room:
@@ -230,6 +230,12 @@ class Solved(unittest.TestCase):
         told = subprocess.run([DRIVER, "-="], capture_output=True, text=True, check=False)
         self.assertIn("timelimit", told.stdout)
         self.assertEqual(subprocess.run([DRIVER], capture_output=True, text=True, check=False).returncode, 1)
+
+    def test_it_begins_with_the_first_values(self):
+        for first, wanted in ((("0 1", "1 0.9999999"), [1, 1, 0, 0]), (("0 1", "1 1", "2 1"), [])):  # 12 of 14, worth 38; and 16, which is too much
+            with Room(knapsack(first=first).text()) as room:
+                room.run("-AMPL", "nodelimit=1")
+                self.assertEqual((room.sol()[5], room.sol()[4]), (400, wanted))
 
     def test_the_time_is_kept(self):
         rows = [[(j, str(2 * (1 + (j * (k + 3) + k) % 7))) for j in range(60)] for k in range(40, 44)]

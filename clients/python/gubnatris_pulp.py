@@ -26,11 +26,10 @@ STATUSES = {
     "unbounded": (constants.LpStatusUnbounded, constants.LpSolutionUnbounded),
     "unsure": (constants.LpStatusNotSolved, constants.LpSolutionNoSolutionFound),
 }
-TAKEN = ("logPath", "maxNodes", "names", "path", "server")
+TAKEN = ("logPath", "maxNodes", "names", "path", "server", "warmStart")
 PASSED_OVER = {  # what other solvers are told of, and why it changes no answer here
     "maxMemory": "no limit of memory can be set",
     "threads": "one search has one thread",
-    "warmStart": "a search begins without a first point",
 }
 REFUSED = ("gapAbs", "gapRel")
 
@@ -63,12 +62,13 @@ class GUBNATRIS(LpSolver):
         begun, notes = time.monotonic(), self._notes()
         try:
             model, variables = self._model(lp)
-            result: Optional[Result] = self._result(model)
+            result: Optional[Result] = self._result(model, self._start(variables))
         except TimedOut:
             result = None
         except (Error, ValueError) as failure:
             raise PulpSolverError(f"GUBNATRIS: {failure}") from failure
         _assign(lp, list(variables), result)
+        notes += [f"GUBNATRIS: {result.message}"] if result and result.message else []
         self._say([*notes, _summary(result, time.monotonic() - begun)])
         return int(lp.status)
 
@@ -105,9 +105,14 @@ class GUBNATRIS(LpSolver):
             model.row([(made[variable], factor) for variable, factor in row.items()], low, high, name)
         return model, made
 
-    def _result(self, model: Model) -> Result:
+    def _start(self, variables: dict[Any, Variable]) -> dict[Variable, Any]:
+        """The values that the variables have, those of whole ones rounded, where they are to be begun with."""
+        given = variables.items() if self.optionsDict.get("warmStart") else ()
+        return {made: round(variable.varValue) if made.whole else variable.varValue for variable, made in given if variable.varValue is not None}
+
+    def _result(self, model: Model, start: dict[Variable, Any]) -> Result:
         nodes, names = self.optionsDict.get("maxNodes", MOST_NODES), bool(self.optionsDict.get("names"))
-        return self._solver().solve(model, node_limit=nodes, turn_limit=MOST_TURNS, names=names, seconds=self.timeLimit)
+        return self._solver().solve(model, node_limit=nodes, turn_limit=MOST_TURNS, names=names, seconds=self.timeLimit, start=start)
 
     def _say(self, lines: list[str]) -> None:
         if self.msg:

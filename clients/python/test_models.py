@@ -301,10 +301,29 @@ class Programs(unittest.TestCase):
         self.assertEqual(Program().solve(DIET, seconds=0).cause, "timeLimit 0")
 
     def test_what_is_not_offered(self):
-        for options in ({"gap": 0.1}, {"fast": True}, {"start": [1]}):
+        for options in ({"gap": 0.1}, {"fast": True}):
             for it in (Program(), Server("http://127.0.0.1:1")):
                 with self.assertRaisesRegex(NotOffered, f"no option {list(options)[0]}"):
                     it.solve(DIET, **options)
+
+    def test_a_search_begins_with_a_point(self):
+        model = Model("budget")  # examples/capital_budget, which one case doesn't end
+        made = [model.variable(name, 0, 1, whole=True) for name in ("plant", "warehouse", "lorries", "office")]
+        model.row(dict(zip(made, (5, 7, 4, 3))), high=14)
+        model.maximise(dict(zip(made, (16, 22, 12, 8))))
+        best = Program().solve(model)
+        for start, wanted in (
+            ([1, 1, 0, 0], 38), ({made[0]: 1, "lorries": Fraction(1), 3: 1.0}, 36), (best, 42), ([Fraction(1, 2), 1, 0, 0], None), ([1, 1, 1, 0], None), ([1, 1, 0, 0, 0], None),
+            (None, None),
+        ):  # fmt: skip
+            self.assertEqual(Program().solve(model, start=start, node_limit=1).objective, wanted, start)
+        self.assertEqual(Program().solve(BUDGET, start={"warehouse": 1}, node_limit=1).objective, 22)
+        for start, wanted, says in (
+            ({"none": 1}, NotSent, "'none' is no variable"), ([1, math.nan], BadModel, "start 1: nan"), ([1, "1"], BadModel, "start 1: '1' is no number"),
+            ([10**40], Refused, "BadValue"), ({1000: 1}, Refused, "BadIndex"),
+        ):  # fmt: skip
+            with self.assertRaisesRegex(wanted, says):
+                Program().solve(model, start=start)
 
     def test_what_is_refused(self):
         for instance, wanted in (("<osil/>", Refused), (Path("/none"), NotSent), (DIET.with_suffix(".osrl"), Refused)):

@@ -93,6 +93,20 @@ class LeftOut(unittest.TestCase):
         self.assertIn((problem.status, problem.sol_status), ((1, 2), (0, 0)))
         self.assertEqual(problem.solverModel.cause, "timeLimit 2")
 
+    def test_it_begins_with_values_that_are_there(self):
+        problem = pulp.LpProblem("budget", pulp.LpMaximize)  # examples/capital_budget, which one case doesn't end
+        made = [pulp.LpVariable(name, 0, 1, pulp.LpInteger) for name in "abcd"]
+        problem += pulp.lpSum(worth * x for worth, x in zip((16, 22, 12, 8), made))
+        problem += pulp.lpSum(size * x for size, x in zip((5, 7, 4, 3), made)) <= 14
+        for start, wanted in (((0.9999999, 1, 0, None), ((1, 2), 38)), ((1, 1, 1, 0), ((0, 0), None))):  # 12 of 14; and 16, which is too much
+            for x, value in zip(made, start):
+                x.varValue = value
+            out = io.StringIO()
+            with contextlib.redirect_stdout(out):
+                problem.solve(GUBNATRIS(warmStart=True, maxNodes=1))
+            self.assertEqual(((problem.status, problem.sol_status), problem.solverModel.objective), wanted)
+            self.assertEqual("no feasible point" in out.getvalue(), wanted[1] is None)
+
     def test_it_is_listed(self):
         self.assertIn("GUBNATRIS", pulp.listSolvers(onlyAvailable=True))
         self.assertIsInstance(pulp.getSolver("GUBNATRIS", msg=False, timeLimit=3), GUBNATRIS)
@@ -197,7 +211,7 @@ class Bad(unittest.TestCase):
         self.refuses("osol BadLimit", problem, maxNodes=0)
         out = io.StringIO()
         with contextlib.redirect_stdout(out):
-            problem.solve(GUBNATRIS(warmStart=True, threads=2))
+            problem.solve(GUBNATRIS(maxMemory=1, threads=2))
         self.assertEqual(out.getvalue().count("is passed over"), 2)
 
     def test_no_program_and_no_server(self):

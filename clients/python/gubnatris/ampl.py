@@ -214,6 +214,7 @@ def solve(call: Call) -> tuple[Answer, list[str], int, int]:
             turn_limit=call.number("pivotlimit", MOST_TURNS),
             rounds=call.number("rounds"),
             seconds=call.seconds(),
+            start={j: Fraction(round(value)) if program.is_whole(j) else value for j, value in program.first.items()},
         )
         answer = answer_of(result, program, asked)
     except TimedOut as late:

@@ -68,6 +68,7 @@ class NlProgram:
         self.factors: list[dict[int, Fraction]] = [{} for _ in range(self.rows)]
         self.constants = [Fraction(0)] * self.rows
         self.goals = [NlGoal() for _ in range(self.goals_told)]
+        self.first: dict[int, Fraction] = {}
         self.suffixes: list[Suffix] = []
 
     def is_whole(self, variable: int) -> bool:
@@ -265,7 +266,7 @@ class _Reader:
 
     def read(self) -> None:
         take = {"C": self.row, "O": self.goal, "r": self.row_ends, "b": self.variable_ends, "k": self.skip_counts, "K": self.skip_counts,
-                "J": self.factors, "G": self.costs, "x": self.skip_start, "d": self.skip_start, "S": self.suffix}  # fmt: skip
+                "J": self.factors, "G": self.costs, "x": self.first_values, "d": self.skip_duals, "S": self.suffix}  # fmt: skip
         while (key := self.feed.key()) is not None:
             if key in SPECIAL:
                 raise BadFile(f"{self.feed.where()}: it has {SPECIAL[key]} (segment {key}), which isn't part of a linear program")
@@ -368,9 +369,17 @@ class _Reader:
         self.once(f"segment G of goal {goal}")
         self.program.goals[goal].costs = self.terms(self.count(self.program.variables, "terms"))
 
-    def skip_start(self) -> None:
-        """A first point, which no search here begins with."""
-        for _ in range(self.count(max(self.program.variables, self.program.rows), "values")):
+    def first_values(self) -> None:
+        """The values that a search is to begin with."""
+        self.once("list of first values (segment x)")
+        for _ in range(self.count(self.program.variables, "first values")):
+            self.feed.line()
+            variable = self.index(self.program.variables, "variable")
+            self.program.first[variable] = self.feed.number()
+
+    def skip_duals(self) -> None:
+        """First values of duals, which no search here begins with."""
+        for _ in range(self.count(self.program.rows, "first duals")):
             self.feed.line()
             self.feed.integer()
             self.feed.number()

@@ -18,6 +18,7 @@ from .options import find_not_offered, options_text
 from .results import Result, document_of, read_of_job
 from .server import Server
 from .sources import Given, Source, source_of
+from .starts import Start, first_values
 
 STATUSES = {
     2: "it doesn't know the words that it was given, so it is another program, or another version",
@@ -52,14 +53,15 @@ class Program:
         result: Union[str, Result, None] = None,
         gap: object = None,
         fast: bool = False,
-        start: object = None,
+        start: Start = None,
     ) -> Result:
         """Solves an instance. The options are those of `Server.solve`.
 
         Raises `Refused` where the instance or a limit is, and `ProgramFailed`.
         """
-        find_not_offered(gap, fast, start)
-        return self._solve(source_of(instance), options_text(None, node_limit, turn_limit, rounds, names, form, seconds, document_of(result)))
+        find_not_offered(gap, fast)
+        limits = (node_limit, turn_limit, rounds, names, form, seconds, first_values(start, instance))
+        return self._solve(source_of(instance), options_text(None, *limits, document_of(result)))
 
     def check(self, instance: Given, document: str) -> str:
         """What the checker says of a result document: `accepted` and the kind of claim, or `refused` and the first reason."""

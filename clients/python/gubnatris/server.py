@@ -8,13 +8,14 @@ import re
 import socket
 import time
 import urllib.parse
-from typing import TYPE_CHECKING, Callable, NamedTuple, Optional, Union
+from typing import TYPE_CHECKING, Any, Callable, NamedTuple, Optional, Union
 
 from .errors import Error, Fault, NoReply, NotFinished, NotReached, NotSent, Status, TimedOut
 from .limits import MOST_DOCUMENT
 from .options import find_not_offered, options_text
 from .results import Result, document_of, read_of_job, refusal, state_of
 from .sources import Given, Source, source_of
+from .starts import Start, first_values
 from .trees import below, local, only, parsed, text_in
 from .writing import NO_XML, escaped
 
@@ -84,7 +85,7 @@ class Server:
         certify: bool = False,
         gap: object = None,
         fast: bool = False,
-        start: object = None,
+        start: Start = None,
     ) -> Result:
         """Solves an instance, and leaves nothing at the server.
 
@@ -95,15 +96,16 @@ class Server:
         `result`: a result document, of whatever solver, or what was read of one: where the server's checker accepts its claim of this
         instance, that is the answer, and nothing is searched; else `Result.message` says why not. `certify`: has `tools/certify` make one
         first, for so many seconds, where none is given; it needs a checkout.
-        `gap`, `fast` and `start` are not offered yet: `NotOffered`. Raises `Refused` where the instance or a limit is, and `TimedOut`
+        `start`: the point that it begins with, a result, numbers in the order of the variables, or some by a variable, its number or name, and 0
+        for the others; where that is no point of the instance `Result.message` says so. `gap` and `fast` are not offered yet: `NotOffered`. Raises `Refused` where the instance or a limit is, and `TimedOut`
         where the search hadn't begun by then. (The call `solve` of the server would keep the job under a number that nobody is told.)
         """
-        find_not_offered(gap, fast, start)
+        find_not_offered(gap, fast)
         source = source_of(instance)
         document = document_of(result)
         if certify and document is None:
             document = _certified(source.text, seconds)
-        job = self._submit(source, (node_limit, turn_limit, rounds, names, form, seconds), document)
+        job = self._submit(source, (node_limit, turn_limit, rounds, names, form, seconds, first_values(start, instance)), document)
         try:
             return self._within(job, seconds, source)
         finally:
@@ -133,6 +135,7 @@ class Server:
         form: Optional[str] = None,
         seconds: Optional[float] = None,
         result: Union[str, Result, None] = None,
+        start: Start = None,
         named: Optional[Callable[[str], object]] = None,
     ) -> str:
         """Hands an instance over, to be solved behind this call; the job's name.
@@ -141,12 +144,13 @@ class Server:
         Raises `Refused` where a limit is; where the instance is, its result tells that. A server holds 10,000 jobs: give up, by `kill`,
         what was read.
         """
-        return self._submit(source_of(instance), (node_limit, turn_limit, rounds, names, form, seconds), document_of(result), named)
+        limits = (node_limit, turn_limit, rounds, names, form, seconds, first_values(start, instance))
+        return self._submit(source_of(instance), limits, document_of(result), named)
 
     def _submit(
         self,
         source: Source,
-        limits: tuple[Union[float, str, None], ...],
+        limits: tuple[Any, ...],
         result: Optional[str],
         named: Optional[Callable[[str], object]] = None,
     ) -> str:

@@ -22,7 +22,8 @@ use Rattle.case_tree.specs.declared.cuts.Cut.{Cut}
 use Rattle.case_tree.specs.Cuts.{cut}
 use Rattle.cert_checker.proofs.Widths.{cut-instance}
 use Rattle.search_rules.specs.Branching.{Case}
-use Rattle.search_rules.specs.Search.{SearchMoment, Outcome, To, Out, NextOfSearch, GoesFrom, IsCaseRun, IsNextInSearch, early, nodes_so_far, ComesInSearch, goes_on, IsSearchAnswer, searched, given_up_after}
+use Rattle.search_rules.specs.Search.{SearchMoment, Outcome, To, Out, NextOfSearch, GoesFrom, IsCaseRun, IsNextInSearch, Found, early, nodes_so_far}
+use Rattle.search_rules.specs.Beginnings.{ComesFrom, goes_on, IsAnswerFrom, searched, given_up_after}
 use Rattle.branch_bound.specs.declared.ended.Ended.{Ended}
 use Rattle.branch_bound.specs.declared.level.Level.{Level}
 use Rattle.branch_bound.specs.declared.limits.Limits.{Limits}
@@ -49,17 +50,17 @@ abbrev pub clock_of : ℕ → ℕ → Clock
 clock_of turns looks = record { turns = turns; looks = looks }
 
 -- a search has come to a moment at which a case waits
-module _ (P : Problem) (t : Terms) (m : SearchMoment) (comes : ComesInSearch P t m) (C : Case) (rest : List Case) (is : m.waiting ≡ C ∷ rest) where
+module _ (P : Problem) (t : Terms) (start : Option Found) (m : SearchMoment) (comes : ComesFrom P t start m) (C : Case) (rest : List Case) (is : m.waiting ≡ C ∷ rest) where
   open_case : m.waiting ≡ [] → ⊥
   open_case e = let q : C ∷ rest ≡ [] = sym is ∙ e in cc
 
-  pub at_limit : (o : Outcome) → t.nodes ≤ nodes_so_far m → o ≡ early m.best (NodeLimit t.nodes) → IsSearchAnswer P t o (clock_of m.clock.turns (m.clock.looks + 0))
+  pub at_limit : (o : Outcome) → t.nodes ≤ nodes_so_far m → o ≡ early m.best (NodeLimit t.nodes) → IsAnswerFrom P t start o (clock_of m.clock.turns (m.clock.looks + 0))
   at_limit o h e =
       let l : m.clock.looks + 0 ≡ m.clock.looks = omega arith in
       searched (record { last = m; comes = comes; ends = inr (inl (open_case, inl (h, ap (λ n. Out o (clock_of m.clock.turns n)) l ∙ ap (λ (o : Outcome). Out o m.clock) e))) })
 
   module _ (within : nodes_so_far m < t.nodes) where
-    pub at_look : (o : Outcome) → t.stop ≡ Some (m.clock.looks + 0 + 1) → o ≡ early m.best Killed → IsSearchAnswer P t o (clock_of m.clock.turns (m.clock.looks + 0 + 1))
+    pub at_look : (o : Outcome) → t.stop ≡ Some (m.clock.looks + 0 + 1) → o ≡ early m.best Killed → IsAnswerFrom P t start o (clock_of m.clock.turns (m.clock.looks + 0 + 1))
     at_look o s e =
         let l : m.clock.looks + 0 + 1 ≡ m.clock.looks + 1 = omega arith in
         searched (record { last = m; comes = comes; ends = inr (inl (open_case, inr (within, s ∙ ap Some l, ap (λ n. Out o (clock_of m.clock.turns n)) l ∙ ap (λ (o : Outcome). Out o (looked_once m.clock)) e))) })
@@ -76,7 +77,7 @@ module _ (P : Problem) (t : Terms) (m : SearchMoment) (comes : ComesInSearch P t
             (subst (λ (b : Bool). Run C.program b t (looked_once m.clock) e (clock_of turns l)) (sym z) run);
       }
 
-      pub stopped_run : (o : Outcome) → t.stop ≡ Some (m.clock.looks + suc k + 1) → Run C.program zeroed t (looked_once m.clock) Stopped (clock_of turns (m.clock.looks + 1 + k + 1)) → o ≡ early m.best Killed → IsSearchAnswer P t o (clock_of turns (m.clock.looks + suc k + 1))
+      pub stopped_run : (o : Outcome) → t.stop ≡ Some (m.clock.looks + suc k + 1) → Run C.program zeroed t (looked_once m.clock) Stopped (clock_of turns (m.clock.looks + 1 + k + 1)) → o ≡ early m.best Killed → IsAnswerFrom P t start o (clock_of turns (m.clock.looks + suc k + 1))
       stopped_run o stop run told =
           searched (record {
             last = m;
@@ -101,11 +102,11 @@ module _ (P : Problem) (t : Terms) (m : SearchMoment) (comes : ComesInSearch P t
         unfolding visited case_run
         next_on next goes = inr (inr (record { end = e; clock = clock; visit = visited; goes = goes }))
 
-        pub comes_on : (n : SearchMoment) → GoesFrom P t C rest (record m { clock = clock }) (looked_once m.clock) e (To n) → ComesInSearch P t n
+        pub comes_on : (n : SearchMoment) → GoesFrom P t C rest (record m { clock = clock }) (looked_once m.clock) e (To n) → ComesFrom P t start n
         comes_on n goes = goes_on comes (next_on (To n) goes)
 
-        pub ends_on : (w : Walk) (ended : Ended) (cs : List Certificate) → m.best ≡ best w.best → OrMemory w ended (GoesFrom P t C rest (record m { clock = clock }) (looked_once m.clock) e (Out (outcome_of cs ended) clock)) → IsSearchAnswer P t (outcome_of cs ended) clock
-        ends_on w ended cs b (inl q) = subst (λ (o : Outcome). IsSearchAnswer P t o clock) (sym (q cs ∙ ap (λ b. early b Memory) (sym b))) (given_up_after comes visited)
+        pub ends_on : (w : Walk) (ended : Ended) (cs : List Certificate) → m.best ≡ best w.best → OrMemory w ended (GoesFrom P t C rest (record m { clock = clock }) (looked_once m.clock) e (Out (outcome_of cs ended) clock)) → IsAnswerFrom P t start (outcome_of cs ended) clock
+        ends_on w ended cs b (inl q) = subst (λ (o : Outcome). IsAnswerFrom P t start o clock) (sym (q cs ∙ ap (λ b. early b Memory) (sym b))) (given_up_after comes visited)
         ends_on w ended cs b (inr goes) = searched (record { last = m; comes = comes; ends = next_on (Out (outcome_of cs ended) clock) goes })
 
 pub stopped_is : {L : _} {G : _} (e : LpEnd) (w : Work L G) → was_stopped e ≡ true → ended_with e w ≡ Stopped
@@ -128,16 +129,16 @@ never_endless D cs zeroed t c d x r good run = let s = run_true (cut D cs) zeroe
 -- the code goes on from each moment at which it stands
 module _ {L : _} {G : _} (p : Parts) (l : Limits) where
   -- what comes of the end of a case's run
-  pub comes_through : (t : Terms) (s : Relaxation L G) (u : Level) (x : Walk) (c : Clock) (result : Result (Unit {0}) Ended) → IfOk result (λ _. StandsIn p t s u x c) → IfErr result (λ ended. IsSearchAnswer (problem p) t (outcome_of (Means.certificates u.certs) ended) c) → ComesThrough p t s u x c result
-  comes_through t s u x c (Ok y) f h = f
-  comes_through t s u x c (Err ended) f h = h
+  pub comes_through : (t : Terms) (start : Option Found) (s : Relaxation L G) (u : Level) (x : Walk) (c : Clock) (result : Result (Unit {0}) Ended) → IfOk result (λ _. StandsIn p t start s u x c) → IfErr result (λ ended. IsAnswerFrom (problem p) t start (outcome_of (Means.certificates u.certs) ended) c) → ComesThrough p t start s u x c result
+  comes_through t start s u x c (Ok y) f h = f
+  comes_through t start s u x c (Err ended) f h = h
 
   -- and goes on from there
   pub carried : (r : Relaxation L G) (v : Level) (w : Walk) (q : Relaxation L G) (y : Level) (z : Walk) (s : Relaxation L G) (u : Level) (x : Walk) (n k : ℕ) (b : Bool) (a : Unit {0}) (result : Result (Unit {0}) Ended) → CarriesOn p l r v w q y z n false (Ok a) → CarriesOn p l q y z s u x k b result → CarriesOn p l r v w s u x (n + k) b result
-  carried r v w q y z s u x n k b a result first second = λ looks stop at tells.
-      subst (λ (i : ℕ). ComesThrough p (terms l stop) s u x (clock_at s i) result) (after_more looks n k b)
-      (second (looks + n) stop (first looks stop at (after_less looks n k b stop tells)) (tells_less looks n k b stop tells))
+  carried r v w q y z s u x n k b a result first second = λ start looks stop at tells.
+      subst (λ (i : ℕ). ComesThrough p (terms l stop) start s u x (clock_at s i) result) (after_more looks n k b)
+      (second start (looks + n) stop (first start looks stop at (after_less looks n k b stop tells)) (tells_less looks n k b stop tells))
 
   -- or stays where it was
   pub carried_none : (r : Relaxation L G) (v : Level) (w : Walk) (a : Unit {0}) → CarriesOn p l r v w r v w 0 false (Ok a)
-  carried_none r v w a = λ looks stop at tells. subst (λ (i : ℕ). StandsIn p (terms l stop) r v w (clock_at r i)) (omega arith) at
+  carried_none r v w a = λ start looks stop at tells. subst (λ (i : ℕ). StandsIn p (terms l stop) start r v w (clock_at r i)) (omega arith) at

@@ -10,7 +10,8 @@ use Rattle.simplex_rules.specs.Ends.{Terms}
 use Rattle.simplex.specs.declared.cuts.Added.{Added}
 use Rattle.simplex.specs.declared.answer.Turns.{Turns}
 use Rattle.simplex.specs.Cuts.{Cutting}
-use Rattle.search_rules.specs.Search.{begins, begun_at, first}
+use Rattle.search_rules.specs.Search.{begun_at}
+use Rattle.search_rules.specs.Beginnings.{begins, first_with}
 use Rattle.branch_bound.specs.declared.found.Found as Best
 use Rattle.branch_bound.specs.declared.level.Level.{Level}
 use Rattle.branch_bound.specs.declared.relaxation.Relaxation.{Relaxation}
@@ -20,7 +21,7 @@ use Rattle.branch_bound.specs.declared.walk.Walk.{Walk}
 use Rattle.branch_bound.specs.Walks.{best}
 use Rattle.branch_bound.specs.Levels.{level, moment, IsGiven, IsAtLevel}
 use Rattle.branch_bound.specs.Trials.{IsFreshWalk}
-use Rattle.branch_bound.specs.Cases.{HasSize, SuitsLevel, StandsIn, clock_at}
+use Rattle.branch_bound.specs.Cases.{HasSize, SuitsLevel, HaveValues, StandsIn, clock_at}
 use Rattle.branch_bound.specs.States.{IsUnderWay, IsBegun}
 use Rattle.branch_bound.proofs.GivenRows.{given_first}
 use Rattle.branch_bound.proofs.NextGoal.{fresh_moment}
@@ -56,34 +57,39 @@ module _ {M : _} {G : _} (p : Parts) (r : Relaxation M G) (ks : List Cert) (rs :
     one = λ e. is_rows;
   }
 
-  module _ (t : Terms) (w : Walk) (fresh : IsFreshWalk p w) (no_ray : w.ray ≡ None) (no_point : w.best ≡ None) (turns : r.turns.done ≡ 0) where
-    is_first : first (problem p) ≡ moment p (program p) (program p) (begun_level ks rs) w (clock_at r 0)
+  module _ (t : Terms) (w : Walk) (fresh : IsFreshWalk p w) (no_ray : w.ray ≡ None) (turns : r.turns.done ≡ 0) where
+    is_first : first_with (problem p) (best w.best) ≡ moment p (program p) (program p) (begun_level ks rs) w (clock_at r 0)
     is_first = sym (
         fresh_moment p (program p) (begun_level ks rs) w (clock_at r 0) fresh no_ray refl rounds
-        ∙ ap₂ (λ (cs : List Cert) (b : Option Best.Found). begun_at (level p (program p) (begun_level cs rs)) (clock_at r 0) (best b)) certs no_point
-        ∙ ap (λ (n : ℕ). begun_at (level p (program p) (begun_level [] rs)) (record { turns = n; looks = 0 }) None) turns
+        ∙ ap₂ (λ (cs : List Cert) (n : ℕ). begun_at (level p (program p) (begun_level cs rs)) (record { turns = n; looks = 0 }) (best w.best)) certs turns
         )
 
-    pub begun_stands : StandsIn p t r (begun_level ks rs) w (clock_at r 0)
+    pub begun_stands : StandsIn p t (best w.best) r (begun_level ks rs) w (clock_at r 0)
     begun_stands = record {
-      at = first (problem p);
+      at = first_with (problem p) (best w.best);
       comes = begins;
       stands = record { program = program p; cut = program p; at = begun_at_level; is = is_first };
     }
 
--- of the state before the first step
-module _ {M : _} {G : _} (p : Parts) (l : Limits) (s : SearchState M G) (begun : IsBegun p l s) where
-  pub begun_state : IsUnderWay p l s
-  begun_state = record {
+-- of the state before the first step, with this best point, if any
+module _ {M : _} {G : _} (p : Parts) (l : Limits) (s : SearchState M G) (begun : IsBegun p l s) (b : Option Best.Found) where
+  abbrev walk : Walk
+  walk = record (s.walk) { best = b }
+
+  fresh : IsFreshWalk p walk
+  fresh = let f = begun.fresh in record { nodes = f.nodes; uncut = f.uncut; next = f.next }
+
+  pub begun_state : HaveValues p b → IsUnderWay p l (record s { walk = walk })
+  begun_state values = record {
     suits = subst (SuitsLevel p s.relaxation) (sym begun.level) (begun_suits p s.relaxation [] [] refl refl begun.beside begun.goal begun.rows begun.size);
     most = ap (λ (t : Turns). t.most) begun.turns;
-    walk = begun.walk;
-    fresh = λ e. begun.fresh;
+    walk = let w = begun.walk in record { width = w.width; room = w.room; above = w.above; ray = w.ray };
+    fresh = λ e. fresh;
     within = let n = ap length begun.fresh.nodes in let v = ap (λ (v : Level). v.before) begun.level in omega arith;
-    values = λ f e. let none = begun.best in absurd (cc);
+    values = values;
   }
 
-  pub begun_comes : (t : Terms) → StandsIn p t s.relaxation s.level s.walk (clock_at s.relaxation 0)
+  pub begun_comes : (t : Terms) → StandsIn p t (best b) s.relaxation s.level walk (clock_at s.relaxation 0)
   begun_comes t =
-      subst (λ (v : Level). StandsIn p t s.relaxation v s.walk (clock_at s.relaxation 0)) (sym begun.level)
-      (begun_stands p s.relaxation [] [] refl refl begun.beside begun.goal begun.rows t s.walk begun.fresh begun.ray begun.best (ap (λ (t : Turns). t.done) begun.turns))
+      subst (λ (v : Level). StandsIn p t (best b) s.relaxation v walk (clock_at s.relaxation 0)) (sym begun.level)
+      (begun_stands p s.relaxation [] [] refl refl begun.beside begun.goal begun.rows t walk fresh begun.ray (ap (λ (t : Turns). t.done) begun.turns))

@@ -24,3 +24,4 @@ mod CaseMoments
 mod FirstLevel
 mod Looks
 mod Changes
+mod FirstValues

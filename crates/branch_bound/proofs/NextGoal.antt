@@ -27,7 +27,8 @@ use Rattle.case_tree.specs.Cuts.{cut_variable, AreBranches}
 use Rattle.instance.specs.declared.parts.Goal.{Goal as Own}
 use Rattle.instance.specs.declared.parts.Sense.{Sense}
 use Rattle.search_rules.specs.Branching.{Case}
-use Rattle.search_rules.specs.Search.{Found, SearchMoment, Outcome, NextOfSearch, Out, undivided, begun_at, shown_at, reached, nodes_with, nodes_so_far, early, IsStop, StopsBefore, ClosesLevel, AsksNext, IsNextInSearch, ComesInSearch, IsSearchAnswer, given_up}
+use Rattle.search_rules.specs.Search.{Found, SearchMoment, Outcome, NextOfSearch, Out, undivided, begun_at, shown_at, reached, nodes_with, nodes_so_far, early, IsStop, StopsBefore, ClosesLevel, AsksNext, IsNextInSearch}
+use Rattle.search_rules.specs.Beginnings.{ComesFrom, IsAnswerFrom, given_up}
 use Rattle.simplex_rules.specs.Ends.{Terms, Clock}
 use Rattle.simplex_rules.specs.Looks.{AgreesWith}
 use Rattle.simplex_rules.specs.Runs.{looked_once}
@@ -175,5 +176,5 @@ next-instance L e g good q =
     (instance_added L (record { lb = Some (ratio e); ub = Some (ratio e) }) (λ j. minimising L (cost_at L j)) good (e.above, e.above) (λ j. minimising-number L (cost_at L j) (value-number L.goal.costs good.costs j))) q
 
 -- where there is no memory, the search is given up at its moment
-pub gives_up : (P : Problem) (t : Terms) (m : SearchMoment) (o : Outcome) (c : Clock) → ComesInSearch P t m → o ≡ early m.best Memory → c ≡ m.clock → IsSearchAnswer P t o c
-gives_up P t m o c comes is at = subst (λ (k : Clock). IsSearchAnswer P t o k) (sym at) (subst (λ (q : Outcome). IsSearchAnswer P t q m.clock) (sym is) (given_up comes))
+pub gives_up : (P : Problem) (t : Terms) (start : Option Found) (m : SearchMoment) (o : Outcome) (c : Clock) → ComesFrom P t start m → o ≡ early m.best Memory → c ≡ m.clock → IsAnswerFrom P t start o c
+gives_up P t start m o c comes is at = subst (λ (k : Clock). IsAnswerFrom P t start o k) (sym at) (subst (λ (q : Outcome). IsAnswerFrom P t start q m.clock) (sym is) (given_up comes))

@@ -15,7 +15,8 @@ use Rattle.simplex_rules.specs.Looks.{AgreesWith, looks_after}
 use Rattle.simplex.specs.Cuts.{Suits}
 use Rattle.simplex.specs.Memory.{width_in, height_in}
 use Rattle.search_rules.specs.Search as Rules
-use Rattle.search_rules.specs.Search.{Found, SearchMoment, Outcome, NextOfSearch, Optimal, Infeasible, TakesPoint, MeetsPoint, GoesFrom, ImprovesBest, ComesInSearch, IsSearchAnswer, early}
+use Rattle.search_rules.specs.Search.{Found, SearchMoment, Outcome, NextOfSearch, Optimal, Infeasible, TakesPoint, MeetsPoint, GoesFrom, ImprovesBest, early}
+use Rattle.search_rules.specs.Beginnings.{ComesFrom, IsAnswerFrom}
 use Rattle.branch_bound.specs.declared.found.Found as Best
 use Rattle.branch_bound.specs.declared.ended.Ended.{Ended}
 use Rattle.branch_bound.specs.declared.ended.Ended.TheVariants.{Unbounded, Early}
@@ -117,21 +118,21 @@ abbrev pub is_killed_by : Result (Unit {0}) Ended → Bool
 is_killed_by (Ok x) = false
 is_killed_by (Err ended) = was_killed ended
 
--- the moments of a search have come to one at which the code stands
-pub record StandsIn {L : _} {G : _} (p : Parts) (t : Terms) (r : Relaxation L G) (v : Level) (w : Walk) (c : Clock) : Type 0 where
+-- the moments of a search from this best point, if any, have come to one at which the code stands
+pub record StandsIn {L : _} {G : _} (p : Parts) (t : Terms) (start : Option Found) (r : Relaxation L G) (v : Level) (w : Walk) (c : Clock) : Type 0 where
   pub at : SearchMoment
-  pub comes : ComesInSearch (problem p) t at
+  pub comes : ComesFrom (problem p) t start at
   pub stands : IsMoment p r v w c at
 
 -- what comes then of the search: one more such moment, or an answer
-abbrev pub ComesThrough : {L : _} {G : _} → Parts → Terms → Relaxation L G → Level → Walk → Clock → Result (Unit {0}) Ended → Type 0
-ComesThrough p t r v w c (Ok x) = StandsIn p t r v w c
-ComesThrough p t r v w c (Err ended) = IsSearchAnswer (problem p) t (outcome_of (Means.certificates v.certs) ended) c
+abbrev pub ComesThrough : {L : _} {G : _} → Parts → Terms → Option Found → Relaxation L G → Level → Walk → Clock → Result (Unit {0}) Ended → Type 0
+ComesThrough p t start r v w c (Ok x) = StandsIn p t start r v w c
+ComesThrough p t start r v w c (Err ended) = IsAnswerFrom (problem p) t start (outcome_of (Means.certificates v.certs) ended) c
 
 -- after looks of which n went on, and one more may have stopped, the code went from one of them on so
 abbrev pub CarriesOn : {L : _} {G : _} → Parts → Limits → Relaxation L G → Level → Walk → Relaxation L G → Level → Walk → ℕ → Bool → Result (Unit {0}) Ended → Type 0
 CarriesOn p l r v w s u x n killed result =
-    (looks : ℕ) (stop : Option ℕ) → StandsIn p (terms l stop) r v w (clock_at r looks) → AgreesWith stop looks n killed → ComesThrough p (terms l stop) s u x (clock_at s (looks_after looks n killed)) result
+    (start : Option Found) (looks : ℕ) (stop : Option ℕ) → StandsIn p (terms l stop) start r v w (clock_at r looks) → AgreesWith stop looks n killed → ComesThrough p (terms l stop) start s u x (clock_at s (looks_after looks n killed)) result
 
 -- one node more stands, or one cut more where there were fewer than the most
 pub record GoesFurther (l : Limits) (v u : Level) (w x : Walk) : Type 0 where

@@ -10,6 +10,7 @@ pub mod Walks
 pub mod Divisions
 pub mod Levels
 pub mod Trials
+pub mod Beginnings
 pub mod Cases
 pub mod States
 pub mod Asking

@@ -9,7 +9,8 @@
 //! 1958). Its claim, which a [`Searched`] has with the turns that were done, tells the outcome of the search that `search_rules`
 //! states for the same limits, stopped by the first look that said to stop; what showed each level stands in the claim's
 //! certificates. Want of memory ends the search with the best point so far, and is a cause like others. A case costs its simplex
-//! run and as much as the variables and the columns; the branches above it cost room alone, but where a direction is met.
+//! run and as much as the variables and the columns; the branches above it cost room alone, but where a direction is met. [`search_from`] begins with a best point, as [`first_point`]
+//! makes one of values that are given.
 #![tactic(auto)]
 
 mod along;
@@ -27,9 +28,13 @@ mod rays;
 mod relaxation;
 mod rounds;
 mod searching;
+mod start;
 mod state;
 mod values;
 mod visit;
 mod walk;
 
-pub use searching::{Searched, search};
+pub use found::Found;
+pub use limits::Limits;
+pub use searching::{Searched, search, search_from};
+pub use start::first_point;

@@ -8,18 +8,20 @@ ghost use Rattle.case_tree.specs.Cuts.{cut_variable};
 ghost use Rattle.simplex.specs.Answers.{was_stopped};
 ghost use Rattle.simplex_rules.specs.Looks.{answers, AgreesWith, looks_after};
 ghost use Rattle.search_rules.specs.Search.{Outcome, IsSearchAnswer};
+ghost use Rattle.search_rules.specs.Beginnings.{IsAnswerFrom};
 ghost use Rattle.search_rules.specs.Outcomes.{IsPlain, HaveOneRange};
 ghost use Rattle.no_cycles.specs.Beginning.{BeginsFeasible};
 ghost use Rattle.branch_bound.specs.Claims.{ClaimTells, claimed_cause, is_killed};
-ghost use Rattle.branch_bound.specs.Walks.{IsWalk};
+ghost use Rattle.branch_bound.specs.Walks.{best as best_of, IsWalk};
 ghost use Rattle.branch_bound.specs.Trials.{IsFreshWalk};
 ghost use Rattle.branch_bound.specs.declared.found.Found as points;
-ghost use Rattle.branch_bound.specs.Cases.{terms, HasSize, GoesFurther};
+ghost use Rattle.branch_bound.specs.Cases.{terms, HasSize, HaveValues, GoesFurther};
 ghost use Rattle.branch_bound.specs.States.{IsUnderWay, IsBegun, Changes};
 
 use crate::asking::value_to_reach;
 use crate::claims::{all_closed, claim_of, give_up};
 use crate::ended::Ended;
+use crate::found::Found;
 use crate::level::Level;
 use crate::limits::Limits;
 use crate::relaxation::{Relaxation, make_work, run_case};
@@ -191,18 +193,21 @@ impl<L: Ledger> SearchState<L> {
     }
 }
 
-/// Searches an instance's levels, and claims what that shows.
+/// Searches an instance's levels from this best point on, if any, and claims what that shows.
 fn explore<W: Watch, L: Ledger>(
     alloc: Global,
     instance: &Instance,
     limits: Limits,
     mut state: SearchState<L>,
+    first: Option<Found>,
     watch: &mut W,
 ) -> Searched
     requires begun { IsBegun instance.now limits state }
+    requires values { HaveValues instance.now first }
     requires stops { W.stops watch.old < 2 ^ 64 - 1 }
-    ensures { (n : ℕ) × (o : Outcome) × ClaimTells result.claim o × W.came watch.old watch.new (answers n (is_killed o)) × ((stop : Option ℕ) → AgreesWith stop 0 n (is_killed o) → IsSearchAnswer (problem instance.now) (terms limits stop) o (record { turns = result.turns; looks = looks_after 0 n (is_killed o) })) }
+    ensures { (n : ℕ) × (o : Outcome) × ClaimTells result.claim o × W.came watch.old watch.new (answers n (is_killed o)) × ((stop : Option ℕ) → AgreesWith stop 0 n (is_killed o) → IsAnswerFrom (problem instance.now) (terms limits stop) (best_of first) o (record { turns = result.turns; looks = looks_after 0 n (is_killed o) })) }
 {
+    state.walk.best = first;
     match state.search_levels(alloc, instance, limits, watch) {
         Ok(()) => {
             let SearchState {
@@ -310,26 +315,31 @@ fn begin<L: Ledger>(
     })
 }
 
-/// Searches an instance's levels, with a count of steps on this ledger.
+/// Searches an instance's levels from this best point on, if any, with a count of steps on this ledger.
 fn search_on<W: Watch, L: Ledger>(
     alloc: Global,
     instance: &Instance,
     limits: Limits,
+    first: Option<Found>,
     watch: &mut W,
     blank: Blank,
 ) -> Searched
     requires name { blank.name ≡ L.name }
     requires parts { blank.parts ≡ L.parts }
     requires some { 0 < blank.parts }
+    requires values { HaveValues instance.now first }
     requires stops { W.stops watch.old < 2 ^ 64 - 1 }
-    ensures { (n : ℕ) × (o : Outcome) × ClaimTells result.claim o × W.came watch.old watch.new (answers n (is_killed o)) × ((stop : Option ℕ) → AgreesWith stop 0 n (is_killed o) → IsSearchAnswer (problem instance.now) (terms limits stop) o (record { turns = result.turns; looks = looks_after 0 n (is_killed o) })) }
+    ensures { (n : ℕ) × (o : Outcome) × ClaimTells result.claim o × W.came watch.old watch.new (answers n (is_killed o)) × ((stop : Option ℕ) → AgreesWith stop 0 n (is_killed o) → IsAnswerFrom (problem instance.now) (terms limits stop) (best_of first) o (record { turns = result.turns; looks = looks_after 0 n (is_killed o) })) }
 {
     match begin(alloc, instance, limits, Steps::<L>::new(blank)) {
-        Ok(state) => explore(alloc, instance, limits, state, watch),
+        Ok(state) => explore(alloc, instance, limits, state, first, watch),
         Err(_) => {
-            let cause = Cause::Memory;
+            let ended = Ended::Early {
+                best: first,
+                cause: Cause::Memory,
+            };
             Searched {
-                claim: Claim::Unsure { cause, bound: None },
+                claim: claim_of(ended, Certs::new(alloc)),
                 turns: 0,
             }
         }
@@ -360,5 +370,22 @@ pub fn search<W: Watch>(
         turns,
         rounds,
     };
-    search_on::<W, Brand>(alloc, instance, limits, watch, Blank::new(1))
+    search_on::<W, Brand>(alloc, instance, limits, None, watch, Blank::new(1))
+}
+
+/// Searches an instance as [`search`] does within these limits, from this best point on, if any.
+///
+/// The point is one that [`first_point`](crate::first_point) gave: what the search ends with is shown where it is one of the instance.
+pub fn search_from<W: Watch>(
+    alloc: Global,
+    instance: &Instance,
+    limits: Limits,
+    first: Option<Found>,
+    watch: &mut W,
+) -> Searched
+    requires values { HaveValues instance.now first }
+    requires stops { W.stops watch.old < 2 ^ 64 - 1 }
+    ensures { (n : ℕ) × (o : Outcome) × ClaimTells result.claim o × W.came watch.old watch.new (answers n (is_killed o)) × ((stop : Option ℕ) → AgreesWith stop 0 n (is_killed o) → IsAnswerFrom (problem instance.now) (terms limits stop) (best_of first) o (record { turns = result.turns; looks = looks_after 0 n (is_killed o) })) }
+{
+    search_on::<W, Brand>(alloc, instance, limits, first, watch, Blank::new(1))
 }

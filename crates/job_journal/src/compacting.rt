@@ -222,7 +222,7 @@ fn look_at<E: Disk>(disk: &mut E) -> Result<(), CompactFault>
 }
 
 /// Writes the records of a file that was opened into one of at most one byte, which is given back.
-fn write_again<D: Disk, E: Disk, R: Replay>(
+fn write_compacted<D: Disk, E: Disk, R: Replay>(
     alloc: Global,
     disk: &mut D,
     new: E,
@@ -308,7 +308,7 @@ pub fn compact<D: Disk, E: Disk, R: Replay, S: Sieve>(
     match open_journal(alloc, old, table, sieve) {
         Ok(journal) => {
             let mut old = journal.into_disk();
-            let (ended, new) = write_again(alloc, &mut old, new, table);
+            let (ended, new) = write_compacted(alloc, &mut old, new, table);
             (ended, old, new)
         }
         Err((fault, old)) => (Err(CompactFault::Old(fault)), old, new),

@@ -9,9 +9,11 @@ use Rattle.simplex_rules.specs.Ends.{Terms, Clock, End, Clash, Empty, Best, Endl
 use Rattle.simplex_rules.specs.Runs.{Run, looked_once}
 use Rattle.search_rules.specs.Branching.{Case}
 use Rattle.search_rules.specs.Cuts.{Trial, NoCut, WideCut, Cut}
-use Rattle.search_rules.specs.Search.{Found, SearchMoment, Outcome, To, Out, StopsBefore, Branches, TakesFound, TakesPoint, MeetsPoint, GoesFromTrial, GoesFromBest, GoesFrom, ClosesLevel, IsNextInSearch, IsVisit, ComesInSearch, begins, goes_on, IsSearchAnswer, searched, given_up, given_up_after, first, early, undivided}
+use Rattle.search_rules.specs.Search.{Found, SearchMoment, Outcome, To, Out, StopsBefore, Branches, TakesFound, TakesPoint, MeetsPoint, GoesFromTrial, GoesFromBest, GoesFrom, ClosesLevel, IsNextInSearch, IsVisit, IsSearchAnswer, early, undivided}
 use Rattle.search_rules.specs.Outcomes.{HaveOneRange, IsPlain}
-use Rattle.search_rules.proofs.PlainSearches.{comes_plain, visit_closed}
+use Rattle.search_rules.specs.Beginnings.{first_with, ComesFrom, begins, goes_on, IsAnswerFrom, searched, given_up, given_up_after}
+use Rattle.search_rules.proofs.PlainSearches.{from_plain, visit_closed}
+use Rattle.search_rules.proofs.FirstPoints.{answer_plain}
 use Rattle.no_cycles.specs.Beginning.{BeginsFeasible}
 use Rattle.no_cycles.specs.Searches.{is_turn_limit, is_for, is_out_of_turns}
 use Rattle.no_cycles.proofs.SecondPhase.{never_out}
@@ -78,41 +80,41 @@ module _ (P : Problem) (t : Terms) (m : SearchMoment) (o : Outcome) (c : Clock) 
   goes_within before (TooWide w) off e = told e (early_is is_turn_limit m.best _)
   goes_within before Stopped off e = told e (early_is is_turn_limit m.best _)
 
-module _ (I : Instance) (t : Terms) (plain : IsPlain I) (ranges : HaveOneRange I) where
+module _ (I : Instance) (t : Terms) (plain : IsPlain I) (ranges : HaveOneRange I) (start : Option Found) where
   abbrev P : Problem
   P = alone I
 
   -- the first moment, or one at which no case is left, and no goal is asked after it
   abbrev IsWholeOrClosed : SearchMoment → Type 0
-  IsWholeOrClosed m = (m ≡ first P) ⊎ ((m.waiting ≡ []) × (m.level.later ≡ []))
+  IsWholeOrClosed m = (m ≡ first_with P start) ⊎ ((m.waiting ≡ []) × (m.level.later ≡ []))
 
   closed_ends : (m n : SearchMoment) (best : Option Found) (gs : List Goal) → gs ≡ [] → ClosesLevel P t m best gs (To n) → ⊥
   closed_ends m n None gs e f = cc
   closed_ends m n (Some f) [] e q = cc
   closed_ends m n (Some f) (g ∷ gs) e q = cc
 
-  next_closed : (m n : SearchMoment) → ComesInSearch P t m → IsWholeOrClosed m → IsNextInSearch P t m (To n) → IsWholeOrClosed n
+  next_closed : (m n : SearchMoment) → ComesFrom P t start m → IsWholeOrClosed m → IsNextInSearch P t m (To n) → IsWholeOrClosed n
   next_closed m n comes (inl e) (inl (none, closes)) = let w = ap (λ k. k.waiting) e in absurd (cc)
   next_closed m n comes (inr (none, later)) (inl (empty, closes)) = absurd (closed_ends m n m.best m.level.later later closes)
   next_closed m n comes at (inr (inl (some, inl (limit, e)))) = absurd (cc)
   next_closed m n comes at (inr (inl (some, inr (under, stop, e)))) = absurd (cc)
   next_closed m n comes (inl e) (inr (inr v)) =
-      let c = visit_closed P t plain ranges m n (comes_plain P t plain ranges m comes) v in
+      let c = visit_closed P t plain ranges m n (from_plain P t plain ranges start m comes) v in
       inr (c.1, ap (λ l. l.later) c.0 ∙ ap (λ k. k.level.later) e)
   next_closed m n comes (inr (none, later)) (inr (inr v)) = let q = v.visit.is in absurd (cc)
 
-  whole_or_closed : (m : SearchMoment) → ComesInSearch P t m → IsWholeOrClosed m
+  whole_or_closed : (m : SearchMoment) → ComesFrom P t start m → IsWholeOrClosed m
   whole_or_closed m begins = inl refl
   whole_or_closed m (goes_on {m = before} c next) = next_closed before m c (whole_or_closed before c) next
 
   module _ (good : IsInstance I) (feasible : BeginsFeasible I) (enough : 4 ^ (width I + height I) ≤ t.turns) where
-    visit_within : (o : Outcome) (c : Clock) → IsVisit P t (first P) (Out o c) → is_out_of_turns o ≡ false
+    visit_within : (o : Outcome) (c : Clock) → IsVisit P t (first_with P start) (Out o c) → is_out_of_turns o ≡ false
     visit_within o c v =
         let same : undivided I ∷ [] ≡ v.visit.case ∷ v.visit.rest = v.visit.is in
         let case : v.visit.case ≡ undivided I = cc in
-        let k : Clock = looked_once (first P).clock in
+        let k : Clock = looked_once (first_with P start).clock in
         let run : Run I false t k v.end v.clock = subst (λ C. Run C.program (is_some C.ray) t k v.end v.clock) case v.visit.run in
-        goes_within P t (record (first P) { clock = v.clock }) o c v.visit.case v.visit.rest k v.end
+        goes_within P t (record (first_with P start) { clock = v.clock }) o c v.visit.case v.visit.rest k v.end
         (λ e. never_out I false t k v.clock good (λ room. settled_first I false good room feasible) (omega (arith, enough)) (subst (λ x. Run I false t k x v.clock) e run)) v.goes
 
     next_within : (m : SearchMoment) (o : Outcome) (c : Clock) → IsWholeOrClosed m → IsNextInSearch P t m (Out o c) → is_out_of_turns o ≡ false
@@ -121,7 +123,11 @@ module _ (I : Instance) (t : Terms) (plain : IsPlain I) (ranges : HaveOneRange I
     next_within m o c (inl e) (inr (inr v)) = visit_within o c (subst (λ x. IsVisit P t x (Out o c)) e v)
     next_within m o c (inr (none, later)) (inr (inr v)) = let q = v.visit.is in absurd (cc)
 
-    pub within_turns : (o : Outcome) (c : Clock) → IsSearchAnswer P t o c → is_out_of_turns o ≡ false
-    within_turns o c (searched s) = next_within s.last o c (whole_or_closed s.last s.comes) s.ends
-    within_turns o c (given_up {m} comes) = early_is is_turn_limit m.best _
-    within_turns o c (given_up_after {m} comes run) = early_is is_turn_limit m.best _
+    pub from_within_turns : (o : Outcome) (c : Clock) → IsAnswerFrom P t start o c → is_out_of_turns o ≡ false
+    from_within_turns o c (searched s) = next_within s.last o c (whole_or_closed s.last s.comes) s.ends
+    from_within_turns o c (given_up {m} comes) = early_is is_turn_limit m.best _
+    from_within_turns o c (given_up_after {m} comes run) = early_is is_turn_limit m.best _
+
+-- and from none
+pub within_turns : (I : Instance) (t : Terms) → IsPlain I → HaveOneRange I → IsInstance I → BeginsFeasible I → 4 ^ (width I + height I) ≤ t.turns → (o : Outcome) (c : Clock) → IsSearchAnswer (alone I) t o c → is_out_of_turns o ≡ false
+within_turns I t plain ranges good feasible enough o c answer = from_within_turns I t plain ranges None good feasible enough o c (answer_plain (alone I) t o c answer)

@@ -1,11 +1,12 @@
 //! What is known of runs and of searches.
-ghost use Rattle.std.specs.Prelude.{◌≡◌, ℕ, ◌+◌, ◌^◌, ◌<◌, ◌≤◌, Bool, false, Some};
+ghost use Rattle.std.specs.Prelude.{◌≡◌, ℕ, ◌+◌, ◌^◌, ◌<◌, ◌≤◌, Bool, false, Option, Some};
 ghost use Rattle.evidence.specs.Instance.{Instance, IsInstance, Problem, IsProblem, alone, width, height};
 ghost use Rattle.bases.specs.Program.{goal_column};
 ghost use Rattle.simplex_rules.specs.Ends.{Terms, Clock, End, TurnsOut};
 ghost use Rattle.simplex_rules.specs.Runs.{Moment, To, IsNext, HasNoClash, ComesInRun, Run, IsRun};
-ghost use Rattle.search_rules.specs.Search.{Outcome, Search, IsSearchAnswer};
+ghost use Rattle.search_rules.specs.Search.{Found, Outcome, Search, IsSearchAnswer};
 ghost use Rattle.search_rules.specs.Outcomes.{HaveOneRange, IsPlain};
+ghost use Rattle.search_rules.specs.Beginnings.{IsAnswerFrom};
 ghost use Rattle.no_cycles.specs.Phase.{IsImprovingTurn, AreTurns, HaveSamePlaces, IsSettled, BeginsSettled, HasNoneTwice, came_through};
 ghost use Rattle.no_cycles.specs.Beginning.{BeginsFeasible};
 ghost use Rattle.no_cycles.specs.Searches.{is_out_of_turns};
@@ -51,6 +52,11 @@ pub fn plain_searches_stay_within_turns()
 /// Law: nor is such a search where the limit is at least the safe one of its program.
 pub fn safe_limits_are_enough()
     ensures { (I : Instance) (t : Terms) (o : Outcome) (c : Clock) (l : ℕ) → IsInstance I → IsPlain I → HaveOneRange I → BeginsFeasible I → safe_limit (width I) (height I) ≡ Some l → l ≤ t.turns → IsSearchAnswer (alone I) t o c → is_out_of_turns o ≡ false }
+{}
+
+/// Law: and nor is one that begins with a best point, whatever that is.
+pub fn safe_limits_are_enough_from_points()
+    ensures { (I : Instance) (t : Terms) (start : Option Found) (o : Outcome) (c : Clock) (l : ℕ) → IsInstance I → IsPlain I → HaveOneRange I → BeginsFeasible I → safe_limit (width I) (height I) ≡ Some l → l ≤ t.turns → IsAnswerFrom (alone I) t start o c → is_out_of_turns o ≡ false }
 {}
 
 /// Law: a run within a limit of turns has an end: it can't be that it has none. A number that doesn't fit ends it too.

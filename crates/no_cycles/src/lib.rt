@@ -21,6 +21,7 @@ mod limit;
 pub use laws::{
     feasible_beginnings_are_settled, limit_never_comes, no_basis_twice,
     plain_searches_stay_within_turns, runs_have_an_end, safe_limits_are_enough,
-    searches_have_an_outcome, second_phase_stays, turns_are_few,
+    safe_limits_are_enough_from_points, searches_have_an_outcome, second_phase_stays,
+    turns_are_few,
 };
 pub use limit::safe_limit;

@@ -43,6 +43,8 @@ module _ (a osil osol : List ℕ) (shows : Shows a osil) where
   answers_file asked r (solved stop looks timed may s) = solved stop looks timed may (record {
     given = given_file s.given;
     turns = s.turns;
+    start = s.start;
+    first = s.first;
     outcome = s.outcome;
     ends = s.ends;
     found = s.found;
@@ -51,18 +53,18 @@ module _ (a osil osol : List ℕ) (shows : Shows a osil) where
     closed = s.closed;
     numbers = s.numbers;
     note = s.note;
-    handed = s.handed;
+    noting = s.noting;
     is = s.is;
   })
   answers_file asked r (gave_up g) = gave_up (record { job = g.job; whose = g.whose; claim = g.claim; claims = by g.claims; note = g.note; noting = noted g.noting; is = g.is })
     where
       by : (g.claim ≡ Unsure Memory None) ⊎ IsBestOfSearch a osol g.claim → (g.claim ≡ Unsure Memory None) ⊎ IsBestOfSearch osil osol g.claim
       by (inl unsure) = inl unsure
-      by (inr b) = inr (record { given = given_file b.given; moment = b.moment; comes = b.comes; tells = b.tells })
+      by (inr b) = inr (record { given = given_file b.given; start = b.start; first = b.first; moment = b.moment; comes = b.comes; tells = b.tells })
 
       noted : IsNoteOfJob a osol g.note → IsNoteOfJob osil osol g.note
       noted (inl none) = inl none
-      noted (inr (given, hands)) = inr (given_file given, hands)
+      noted (inr n) = inr (record { given = given_file n.given; start = n.start; first = n.first; noting = n.noting })
 
   -- with its names
   tells_file : (r : Report) (text : List ℕ) → TellsReport a osol r text → TellsReport osil osol r text

@@ -15,7 +15,8 @@ use Rattle.certificate.specs.declared.claims.Claim.{Claim}
 use Rattle.certificate.specs.declared.claims.Claim.TheVariants.{Optimal, Infeasible, Unbounded, BestSoFar, Unsure}
 use Rattle.simplex_rules.specs.Ends.{Terms, Clock}
 use Rattle.search_rules.specs.Search as ends
-use Rattle.search_rules.specs.Search.{Outcome, IsSearchAnswer, searched, early}
+use Rattle.search_rules.specs.Search.{Found, Outcome, early}
+use Rattle.search_rules.specs.Beginnings.{IsAnswerFrom, searched}
 use Rattle.search_rules.specs.Outcomes.{HaveOneRange, IsPlain}
 use Rattle.branch_bound.specs.Claims.{ClaimTells, cause_of, claimed_cause}
 use Rattle.osol_grammar.specs.declared.options.Options.{Options}
@@ -88,6 +89,7 @@ with_limit o limit k back is few =
     record {
       job = back.job;
       seconds = back.seconds;
+      first = back.first;
       above = each_limit (λ l. (limits.limit_row l).least ≤ amount (record o { turns = limit }) l) (all_of (λ l. (limits.limit_row l).least ≤ amount (record o { turns = limit }) l) limits.all (above.0, (omega (arith, is, low), above.1.1)));
       below = each_limit (λ l. amount (record o { turns = limit }) l ≤ (limits.limit_row l).most) (all_of (λ l. amount (record o { turns = limit }) l ≤ (limits.limit_row l).most) limits.all (below.0, (omega (arith, is, high), below.1.1)));
     }
@@ -166,7 +168,7 @@ gave_up_is osil osol c (inr best) = told_turned c (early best.moment.best Memory
 
 pub record Laws : Type 0 where
   pub numbers : (p : Parts) → IsInstance (program p)
-  pub within : (I : Instance) (t : Terms) (o : Outcome) (c : Clock) (l : ℕ) → IsInstance I → IsPlain I → HaveOneRange I → BeginsFeasible I → safe_limit (width I) (height I) ≡ Some l → l ≤ t.turns → IsSearchAnswer (alone I) t o c → is_out_of_turns o ≡ false
+  pub within : (I : Instance) (t : Terms) (start : Option Found) (o : Outcome) (c : Clock) (l : ℕ) → IsInstance I → IsPlain I → HaveOneRange I → BeginsFeasible I → safe_limit (width I) (height I) ≡ Some l → l ≤ t.turns → IsAnswerFrom (alone I) t start o c → is_out_of_turns o ≡ false
   pub once : (bytes : List ℕ) (p q : Parts) → IsInstanceText bytes p → IsInstanceText bytes q → p ≡ q
   pub back : (o : Options) (r : Result Options OsolFault) → ComesBack o → IfOk r (IsOptionsText (options_text o)) → IfErr r (DecodeFails (options_text o)) → r ≢ Err options_faults.Memory → r ≡ Ok o
   pub written : (bytes : List ℕ) (o : Options) → IsOptionsText bytes o → ComesBack o
@@ -226,8 +228,8 @@ module _ (laws : Laws) (osil osol taken : List ℕ) (p : Parts) (text : IsInstan
       let enough : safe_limit (width (program s.given.parts)) (height (program s.given.parts)) ≡ Some its.limit = ap₂ safe_limit wide high ∙ told in
       let turns : s.given.options.turns ≡ its.limit = turns_are s.given.options s.given.options_text its in
       let found : is_out_of_turns s.outcome ≡ false =
-      laws.within (program s.given.parts) (job_terms s.given.options stop) s.outcome _ its.limit (laws.numbers s.given.parts) (subst (λ (x : Parts). IsPlain (program x)) same plain) (subst (λ (x : Parts). HaveOneRange (program x)) same ranges) (subst (λ (x : Parts). BeginsFeasible (program x)) same feasible) enough (omega (arith, turns))
-      (subst (λ (P : Problem). IsSearchAnswer P (job_terms s.given.options stop) s.outcome (record { turns = s.turns; looks = looks })) (alone_is s.given.parts (subst (λ (x : Parts). length x.goals ≡ 1) same single)) (searched s.ends)) in
+      laws.within (program s.given.parts) (job_terms s.given.options stop) s.start s.outcome _ its.limit (laws.numbers s.given.parts) (subst (λ (x : Parts). IsPlain (program x)) same plain) (subst (λ (x : Parts). HaveOneRange (program x)) same ranges) (subst (λ (x : Parts). BeginsFeasible (program x)) same feasible) enough (omega (arith, turns))
+      (subst (λ (P : Problem). IsAnswerFrom P (job_terms s.given.options stop) s.start s.outcome (record { turns = s.turns; looks = looks })) (alone_is s.given.parts (subst (λ (x : Parts). length x.goals ≡ 1) same single)) (searched s.ends)) in
       ap (λ (x : Report). says_turn_limit x.claim) s.is ∙ ap says_turn_limit (noted_claim s.note (claim_report s.given.options.job s.told)) ∙ closed_is s.given.parts s.given.options.job s.given.options.form s.turns s.found s.told s.closed (told_turned s.found (renamed timed s.outcome) s.tells ∙ renamed_within timed s.outcome found)
 
   -- no result is handed in

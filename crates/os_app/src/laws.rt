@@ -12,7 +12,7 @@ ghost use Rattle.os_app.specs.Runs.{ProgramRun, Runs, WritesWithinTurns, stores_
 use disks::Stores;
 use handed_results::written_options_hand_in_nothing;
 use instance::programs_have_numbers;
-use no_cycles::safe_limits_are_enough;
+use no_cycles::safe_limits_are_enough_from_points;
 use osil_grammar::{documents_are_refused_in_one_way, documents_mean_one_instance};
 use osol_grammar::{comes_back, options_are_not_refused, read_options_come_back};
 
@@ -22,7 +22,7 @@ pub fn safe_solves_stay_within_turns<K: Stores>()
     ensures { (status : ℕ) (run : ProgramRun) (stores stores_after : K) (osil_name : List ℕ) (options_name : Option (List ℕ)) (osil : List ℕ) (p : Parts) (seconds : Option ℕ) → Runs K.Store.Disk (stores_after ≡ stores) status run (stores_run K.held K.back K.opened K.faults stores stores_after) → IsSolve run.words osil_name options_name seconds true → run.held osil_name ≡ Holds osil → IsInstanceText osil p → length p.goals ≡ 1 → IsPlain (program p) → HaveOneRange (program p) → BeginsFeasible (program p) → length p.vars + length p.rows ≤ 13 → WritesWithinTurns status run }
 {
     programs_have_numbers();
-    safe_limits_are_enough();
+    safe_limits_are_enough_from_points();
     documents_mean_one_instance();
     documents_are_refused_in_one_way();
     comes_back();

@@ -35,7 +35,7 @@ use Rattle.job_runs.specs.Solves.{IsRetrieved, RunsAndShows, Solves}
 use Rattle.os_server.specs.declared.order.Order.{Order}
 use Rattle.os_server.specs.declared.fault.FaultCode.{FaultCode}
 use Rattle.os_server.specs.declared.fault.FaultCode.TheVariants as codes_of
-use Rattle.os_server.specs.declared.saying.Said.{Said}
+use Rattle.os_server.specs.declared.saying.ReplyEnvelope.{ReplyEnvelope}
 use Rattle.os_server.specs.declared.serve.Served.{Served}
 use Rattle.ospl_grammar.specs.Table.{text_or_none}
 use Rattle.os_server.specs.Orders.{Names, order_of, SaysProcess, IsAsked, Orders, Asks, SaysOptionsRefused, RefusesProcess, Faults}
@@ -291,11 +291,11 @@ all_taken_once (p ∷ ps) (q ∷ qs) e =
     ap (λ t. t ++ (all_of ps).taken) here ∙ ap (λ t. q.taken ++ t) (all_taken_once ps qs there)
 
 module _ (made : Made) (wakes : Wakes) (by : Requests) (says : Bodies) where
-  some_once : (a b : Said) → Some a ≡ Some b → a ≡ b
+  some_once : (a b : ReplyEnvelope) → Some a ≡ Some b → a ≡ b
   some_once a b e = cc
 
   -- an answer and the moves for it
-  past_answer : (body : List ℕ) (own again : List MoveEntry) (s t : Said) (w v : Bool) (x y : List Reply) → IsBodyAnswered made wakes body own s w
+  past_answer : (body : List ℕ) (own again : List MoveEntry) (s t : ReplyEnvelope) (w v : Bool) (x y : List Reply) → IsBodyAnswered made wakes body own s w
       → IsBodyAnswered made wakes body again t v → replies own ++ x ≡ replies again ++ y → (s ≡ t) × (x ≡ y)
   past_answer body own again s t w v x y (inl p) (inl q) e =
       let same = asks_once says body q.order p.order q.asks p.asks in

@@ -15,7 +15,7 @@ use Rattle.job_runs.specs.Runs.{IsJobRun, Works}
 use Rattle.job_runs.specs.Solves.{EntersAndRuns, RunsAndShows}
 use Rattle.job_runs.proofs.Judgements.{Made}
 use Rattle.os_server.specs.declared.order.Order.{Order}
-use Rattle.os_server.specs.declared.saying.Said.{Said}
+use Rattle.os_server.specs.declared.saying.ReplyEnvelope.{ReplyEnvelope}
 use Rattle.os_server.specs.declared.reply.HttpReply.{HttpReply}
 use Rattle.os_server.specs.declared.reply.HttpReply.TheVariants.{Answer, Refused, NoMemory}
 use Rattle.os_server.specs.declared.serve.Served.{Served}
@@ -111,7 +111,7 @@ module _ (made : Made) (Holds : List MoveEntry → Type 0) (b : Builds made Hold
   begun_so (RunsAtOnce o p) own (inr (j, e)) = entered o p j own e
 
   module _ (wakes : Wakes) where
-    answers_so : (body : List ℕ) (own : List MoveEntry) (said : Said) (as_worker : Bool) → IsBodyAnswered made wakes body own said as_worker → Holds own
+    answers_so : (body : List ℕ) (own : List MoveEntry) (said : ReplyEnvelope) (as_worker : Bool) → IsBodyAnswered made wakes body own said as_worker → Holds own
     answers_so body own said as_worker (inl d) = does_so d.order d.last own d.does
     answers_so body own said as_worker (inr f) = no_moves own f.none
 

@@ -8,9 +8,9 @@ use Rattle.job_table.specs.declared.entries.Reply as tables
 use Rattle.job_table.specs.History.{MoveEntry}
 use Rattle.os_server.specs.declared.order.Order.{Order}
 use Rattle.os_server.specs.declared.fault.FaultCode.{FaultCode}
-use Rattle.os_server.specs.declared.fault.NoOrder.{NoOrder}
-use Rattle.os_server.specs.declared.fault.NoOrder.TheVariants as none
-use Rattle.os_server.specs.declared.saying.Said.{Said}
+use Rattle.os_server.specs.declared.fault.OrderFault.{OrderFault}
+use Rattle.os_server.specs.declared.fault.OrderFault.TheVariants as none
+use Rattle.os_server.specs.declared.saying.ReplyEnvelope.{ReplyEnvelope}
 use Rattle.os_server.specs.declared.reply.HttpReply.{HttpReply}
 use Rattle.os_server.specs.declared.reply.HttpReply.TheVariants.{Answer, Refused, NoMemory}
 use Rattle.os_server.specs.Orders.{Asks, Faults, AsksNothing}
@@ -24,12 +24,12 @@ abbrev Bytes : Type 0
 Bytes = Option (List ℕ)
 
 -- what is said by a reply, put otherwise
-pub said_as : (kind : CallKind) (n : ℕ) (last : tables.Reply) (said : Said) (r : Result Said AllocError) → said_by kind n last ≡ Some said
+pub said_as : (kind : CallKind) (n : ℕ) (last : tables.Reply) (said : ReplyEnvelope) (r : Result ReplyEnvelope AllocError) → said_by kind n last ≡ Some said
     → IfOk r (λ s. s ≡ said) → IfOk r (λ s. said_by kind n last ≡ Some s)
 said_as kind n last said (Ok s) is e = is ∙ ap (λ x. Some x) (sym e)
 said_as kind n last said (Err lost) is e = tt
 
-pub returned_as : (kind : CallKind) (n : ℕ) (last : tables.Reply) (text : List ℕ) (r : Result Said AllocError) → said_by kind n last ≡ returns kind text
+pub returned_as : (kind : CallKind) (n : ℕ) (last : tables.Reply) (text : List ℕ) (r : Result ReplyEnvelope AllocError) → said_by kind n last ≡ returns kind text
     → IfOk r (λ s. returns kind text ≡ Some s) → IfOk r (λ s. said_by kind n last ≡ Some s)
 returned_as kind n last text (Ok s) is e = is ∙ e
 returned_as kind n last text (Err lost) is e = tt
@@ -42,17 +42,17 @@ replied made wakes body order close own (Answer said closes as_worker) asks (sam
 replied made wakes body order close own (Refused refusal) asks p = absurd p
 replied made wakes body order close own NoMemory asks p = inr (order, asks, p)
 
-faulted : (made : Made) (wakes : Wakes) (body : List ℕ) (close : Bool) (code : FaultCode) (text : List ℕ) (said : Said) → Faults body code text
+faulted : (made : Made) (wakes : Wakes) (body : List ℕ) (close : Bool) (code : FaultCode) (text : List ℕ) (said : ReplyEnvelope) → Faults body code text
     → said ≡ fault_said code text → IsReplied made wakes body close [] (Answer said close false)
 faulted made wakes body close code text said faults is =
     (refl, inr (record { code = code; text = text; faults = faults; none = refl; says = is; alone = refl }))
 
 -- a fault of a call that is refused
-pub refused : (made : Made) (wakes : Wakes) (body : List ℕ) (close : Bool) (n : NoOrder) (code : FaultCode) (text lent : List ℕ) (said : Said)
+pub refused : (made : Made) (wakes : Wakes) (body : List ℕ) (close : Bool) (n : OrderFault) (code : FaultCode) (text lent : List ℕ) (said : ReplyEnvelope)
     → n ≡ none.Fault code text → lent ≡ text → AsksNothing body n → said ≡ fault_said code lent
     → IsReplied made wakes body close [] (Answer said close false)
 refused made wakes body close n code text lent said is lent_is nothing says =
-    faulted made wakes body close code text said (subst (λ (m : NoOrder). AsksNothing body m) is nothing) (says ∙ ap (fault_said code) lent_is)
+    faulted made wakes body close code text said (subst (λ (m : OrderFault). AsksNothing body m) is nothing) (says ∙ ap (fault_said code) lent_is)
 
 -- a reply to a body is due to its request
 pub due : (made : Made) (wakes : Wakes) (taken body : List ℕ) (close : Bool) (own : List MoveEntry) (r : HttpReply) → IsRequest taken close body

@@ -11,7 +11,7 @@ use Rattle.os_server.specs.OneReading.{Requests, Bodies}
 use Rattle.job_table.specs.History.{MoveEntry}
 use Rattle.os_server.specs.declared.fault.FaultCode.{FaultCode}
 use Rattle.os_server.specs.declared.fault.FaultCode.TheVariants as codes_of
-use Rattle.os_server.specs.declared.saying.Said.{Said}
+use Rattle.os_server.specs.declared.saying.ReplyEnvelope.{ReplyEnvelope}
 use Rattle.os_server.specs.declared.serve.Served.{Served}
 use Rattle.os_server.specs.declared.serve.Served.TheVariants.{Ended, CutShort, ReadFault, WriteFault, Memory}
 use Rattle.os_server.specs.Orders.{Faults}
@@ -131,7 +131,7 @@ module _ (made : Made) (wakes : Wakes) where
       ⊎ ((end ≡ Ended) × (count ≡ most_requests) × (l ≡ part [] [] []))
 
 module _ (made : Made) (wakes : Wakes) (by : Requests) (says : Bodies) where
-  answers_call : (body : List ℕ) (own : List MoveEntry) (said : Said) (as_worker : Bool) → IsBodyAnswered made wakes body own said as_worker
+  answers_call : (body : List ℕ) (own : List MoveEntry) (said : ReplyEnvelope) (as_worker : Bool) → IsBodyAnswered made wakes body own said as_worker
       → CallFails body soap.Envelope → ⊥
   answers_call body own said as_worker (inl d) none =
       let same : soap.Envelope ≡ soap.Memory = says.apart body d.asks.call soap.Envelope d.asks.is_call none in cc

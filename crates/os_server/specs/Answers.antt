@@ -38,7 +38,7 @@ use Rattle.os_server.specs.declared.doing.LastReply.TheVariants as lasts
 use Rattle.os_server.specs.declared.order.Order.{Order}
 use Rattle.os_server.specs.declared.fault.FaultCode.{FaultCode}
 use Rattle.os_server.specs.declared.fault.FaultCode.TheVariants as codes_of
-use Rattle.os_server.specs.declared.saying.Said.{Said}
+use Rattle.os_server.specs.declared.saying.ReplyEnvelope.{ReplyEnvelope}
 use Rattle.os_server.specs.Orders.{code_text}
 
 -- a report of no error about how far a job is, with this claim
@@ -85,11 +85,11 @@ abbrev pub process_after : ℕ → Killing → Process
 process_after n told = Statistics told.busy told.current told.total (job_alone n told.state)
 
 -- the envelope of what a call returns
-abbrev pub returns : CallKind → List ℕ → Option Said
+abbrev pub returns : CallKind → List ℕ → Option ReplyEnvelope
 returns kind text = Some (record { fault = false; text = reply_text (kind_text kind) text })
 
 -- the envelope of a fault
-abbrev pub fault_said : FaultCode → List ℕ → Said
+abbrev pub fault_said : FaultCode → List ℕ → ReplyEnvelope
 fault_said code text = record { fault = true; text = fault_text (code_text code) text }
 
 -- why a change wasn't stored
@@ -111,7 +111,7 @@ reply_of (lasts.NotStored fault) = reply.NotStored fault
 
 -- what answers the call of this kind about the job with this number, whose last reply is this; none where it isn't the last
 -- reply of a call
-abbrev pub said_by : CallKind → ℕ → Reply → Option Said
+abbrev pub said_by : CallKind → ℕ → Reply → Option ReplyEnvelope
 said_by kind n (reply.Issued m) = returns kind (id_text m)
 said_by kind n reply.Full = Some (fault_said codes_of.Full (codes "10000 jobs"))
 said_by kind n reply.Spent = Some (fault_said codes_of.Spent (codes "no ids"))

@@ -21,8 +21,8 @@ use Rattle.ospl_grammar.specs.Texts as ospl_texts
 use Rattle.os_server.specs.declared.order.Order.{Order}
 use Rattle.os_server.specs.declared.fault.FaultCode.{FaultCode}
 use Rattle.os_server.specs.declared.fault.FaultCode.TheVariants as codes_of
-use Rattle.os_server.specs.declared.fault.NoOrder.{NoOrder}
-use Rattle.os_server.specs.declared.fault.NoOrder.TheVariants as no
+use Rattle.os_server.specs.declared.fault.OrderFault.{OrderFault}
+use Rattle.os_server.specs.declared.fault.OrderFault.TheVariants as no
 
 -- a text names the job with this number, or none
 abbrev pub Names : List ℕ → Option ℕ → Type 0
@@ -105,13 +105,13 @@ Faults body codes_of.Spent text = ⊥
 Faults body codes_of.Disk text = ⊥
 
 -- why a body asks nothing: it is no envelope of a call, or one of a call that is refused, or there was no memory
-abbrev pub AsksNothing : List ℕ → NoOrder → Type 0
+abbrev pub AsksNothing : List ℕ → OrderFault → Type 0
 AsksNothing body no.Envelope = CallFails body soap.Envelope
 AsksNothing body (no.Fault code text) = Faults body code text
 AsksNothing body no.Memory = Unit {0}
 
 -- the same of a call that was read
-abbrev pub OrdersNothing : SoapCall → NoOrder → Type 0
+abbrev pub OrdersNothing : SoapCall → OrderFault → Type 0
 OrdersNothing call no.Envelope = ⊥
 OrdersNothing call (no.Fault code text) = RefusesCall call code text
 OrdersNothing call no.Memory = Unit {0}

@@ -15,7 +15,7 @@ use Rattle.job_table.specs.History.{MoveEntry}
 use Rattle.job_runs.specs.Runs.{Works}
 use Rattle.os_server.specs.declared.order.Order.{Order}
 use Rattle.os_server.specs.declared.fault.FaultCode.{FaultCode}
-use Rattle.os_server.specs.declared.saying.Said.{Said}
+use Rattle.os_server.specs.declared.saying.ReplyEnvelope.{ReplyEnvelope}
 use Rattle.os_server.specs.declared.reply.HttpReply.{HttpReply}
 use Rattle.os_server.specs.declared.reply.HttpReply.TheVariants.{Answer, Refused, NoMemory}
 use Rattle.os_server.specs.declared.serve.Served.{Served}
@@ -49,7 +49,7 @@ abbrev pub response_with : Bool → List ℕ → List ℕ
 response_with true text = fault_answer_text text
 response_with false text = answer_text text
 
-abbrev pub response_text : Said → List ℕ
+abbrev pub response_text : ReplyEnvelope → List ℕ
 response_text said = response_with said.fault said.text
 
 -- what a reply is written as
@@ -79,7 +79,7 @@ IsRung wakes false as_worker = as_worker ≡ false
 module _ (made : List ℕ → List ℕ → List Bool → Option (List ℕ) → Type 0) (wakes : Bool → Type 0) where
   -- a body asks something of the table, these moves do it, and the reply of the last one is said. A waiting job is then claimed
   -- as a worker claims one behind a send alone that was taken, where nobody was woken
-  pub record IsDone (body : List ℕ) (own : List MoveEntry) (said : Said) (as_worker : Bool) : Type 0 where
+  pub record IsDone (body : List ℕ) (own : List MoveEntry) (said : ReplyEnvelope) (as_worker : Bool) : Type 0 where
     pub order : Order
     pub last : tables.Reply
     pub asks : Asks body order
@@ -88,7 +88,7 @@ module _ (made : List ℕ → List ℕ → List Bool → Option (List ℕ) → T
     pub woken : IsRung wakes (was_taken last) as_worker
 
   -- a body is an envelope whose call is refused, no move of the table is made, and the fault is said
-  pub record IsFaulted (body : List ℕ) (own : List MoveEntry) (said : Said) (as_worker : Bool) : Type 0 where
+  pub record IsFaulted (body : List ℕ) (own : List MoveEntry) (said : ReplyEnvelope) (as_worker : Bool) : Type 0 where
     pub code : FaultCode
     pub text : List ℕ
     pub faults : Faults body code text
@@ -97,7 +97,7 @@ module _ (made : List ℕ → List ℕ → List Bool → Option (List ℕ) → T
     pub alone : as_worker ≡ false
 
   -- what a body is answered by these moves, and whether a waiting job is then claimed as a worker claims one
-  abbrev pub IsBodyAnswered : List ℕ → List MoveEntry → Said → Bool → Type 0
+  abbrev pub IsBodyAnswered : List ℕ → List MoveEntry → ReplyEnvelope → Bool → Type 0
   IsBodyAnswered body own said as_worker = IsDone body own said as_worker ⊎ IsFaulted body own said as_worker
 
   -- a body asks something of the table, and these moves were made until there was no memory: for one of them, or for the answer
@@ -106,7 +106,7 @@ module _ (made : List ℕ → List ℕ → List Bool → Option (List ℕ) → T
       (order : Order) × Asks body order × (BeginsToDo made order own ⊎ ((last : tables.Reply) × Does made order last own))
 
   -- the bytes are a request whose body is answered so
-  abbrev pub IsAnswered : List ℕ → List MoveEntry → Said → Bool → Bool → Type 0
+  abbrev pub IsAnswered : List ℕ → List MoveEntry → ReplyEnvelope → Bool → Bool → Type 0
   IsAnswered taken own said close as_worker =
       (body : List ℕ) × IsRequest taken close body × IsBodyAnswered body own said as_worker
 
@@ -124,7 +124,7 @@ module _ (made : List ℕ → List ℕ → List Bool → Option (List ℕ) → T
 
   -- one request that was answered, with the moves for it, and then one claim with the run of the job that it gave
   pub record IsExchange (close : Bool) (p : Part) : Type 0 where
-    pub said : Said
+    pub said : ReplyEnvelope
     pub as_worker : Bool
     pub given : Option Job
     pub own : List MoveEntry

@@ -9,7 +9,7 @@ ghost use Rattle.ospl_grammar.specs.Refusals as ospl;
 ghost use Rattle.osol_grammar.specs.Meaning.{IsOptionsText};
 ghost use Rattle.os_server.specs.Orders.{NamesJob, SaysProcess, Orders, Asks, AsksNothing, OrdersNothing, IsAsked};
 
-use crate::fault::{FaultCode, NoOrder};
+use crate::fault::{FaultCode, OrderFault};
 use crate::order::Order;
 use job_table::read_id;
 use os_io::{Memory, Text};
@@ -28,52 +28,52 @@ fn joined(alloc: Global, front: &[u8], back: &[u8]) -> Result<Text, Memory>
 }
 
 /// Why bytes that are refused as a call ask nothing.
-fn refused_call(alloc: Global, fault: SoapFault) -> NoOrder
+fn refused_call(alloc: Global, fault: SoapFault) -> OrderFault
     ensures { (body : List ℕ) → CallFails body fault → AsksNothing body result }
 {
     match fault {
-        SoapFault::Envelope => NoOrder::Envelope,
+        SoapFault::Envelope => OrderFault::Envelope,
         SoapFault::Call { name } => match joined(alloc, b"unknown call ", name.as_slice()) {
-            Ok(text) => NoOrder::Fault {
+            Ok(text) => OrderFault::Fault {
                 code: FaultCode::Call,
                 text,
             },
-            Err(_) => NoOrder::Memory,
+            Err(_) => OrderFault::Memory,
         },
         SoapFault::Part { part } => match joined(alloc, b"part ", part.name()) {
-            Ok(text) => NoOrder::Fault {
+            Ok(text) => OrderFault::Fault {
                 code: FaultCode::Part,
                 text,
             },
-            Err(_) => NoOrder::Memory,
+            Err(_) => OrderFault::Memory,
         },
-        SoapFault::Memory => NoOrder::Memory,
+        SoapFault::Memory => OrderFault::Memory,
     }
 }
 
 /// Why options that are refused leave a call without an order.
-fn refused_options(alloc: Global, fault: OsolFault) -> NoOrder
+fn refused_options(alloc: Global, fault: OsolFault) -> OrderFault
     ensures { (call : call_types.SoapCall) → DecodeFails call.parts.osol fault → OrdersNothing call result }
 {
     match osol_grammar::refusal_text(alloc, fault) {
-        Ok(text) => NoOrder::Fault {
+        Ok(text) => OrderFault::Fault {
             code: FaultCode::Options,
             text,
         },
-        Err(_) => NoOrder::Memory,
+        Err(_) => OrderFault::Memory,
     }
 }
 
 /// Why a process that is refused leaves a call without an order.
-fn refused_process(alloc: Global, fault: OsplFault) -> NoOrder
+fn refused_process(alloc: Global, fault: OsplFault) -> OrderFault
     ensures { (call : call_types.SoapCall) (said : options_types.Options) → IsOptionsText call.parts.osol said → call.parts.ospl ≢ [] → ospl.DecodeFails call.parts.ospl fault → OrdersNothing call result }
 {
     match ospl_grammar::refusal_text(alloc, fault) {
-        Ok(text) => NoOrder::Fault {
+        Ok(text) => OrderFault::Fault {
             code: FaultCode::Process,
             text,
         },
-        Err(_) => NoOrder::Memory,
+        Err(_) => OrderFault::Memory,
     }
 }
 
@@ -88,7 +88,7 @@ fn job_in(options: &Options) -> Option<u64>
 }
 
 /// Reads the options of a call.
-fn read_options(alloc: Global, call: &SoapCall) -> Result<Options, NoOrder>
+fn read_options(alloc: Global, call: &SoapCall) -> Result<Options, OrderFault>
     ensures ok { IfOk result (IsOptionsText call.now.parts.osol) }
     ensures err { IfErr result (OrdersNothing call.now) }
 {
@@ -99,7 +99,7 @@ fn read_options(alloc: Global, call: &SoapCall) -> Result<Options, NoOrder>
 }
 
 /// Reads the process of a call with these options. It may be empty, as it is where the call has none.
-fn check_process(alloc: Global, call: &SoapCall, options: &Options) -> Result<(), NoOrder>
+fn check_process(alloc: Global, call: &SoapCall, options: &Options) -> Result<(), OrderFault>
     requires { IsOptionsText call.now.parts.osol options.now }
     ensures ok { OnOk result (SaysProcess call.now.parts.ospl) }
     ensures err { IfErr result (OrdersNothing call.now) }
@@ -133,7 +133,7 @@ fn asked_by(call: SoapCall, options: &Options) -> Order
 }
 
 /// What a call asks, or why it asks nothing.
-fn order_of(alloc: Global, call: SoapCall) -> Result<Order, NoOrder>
+fn order_of(alloc: Global, call: SoapCall) -> Result<Order, OrderFault>
     ensures ok { IfOk result (Orders call) }
     ensures err { IfErr result (OrdersNothing call) }
 {
@@ -149,7 +149,7 @@ fn order_of(alloc: Global, call: SoapCall) -> Result<Order, NoOrder>
 
 /// What a body asks that was read, or why it asks nothing: first its envelope is read, then its call, the parts, the options, and of
 /// a knock the process.
-pub(crate) fn read_order(alloc: Global, body: CallReader) -> Result<Order, NoOrder>
+pub(crate) fn read_order(alloc: Global, body: CallReader) -> Result<Order, OrderFault>
     ensures ok { (bytes : List ℕ) → HasTaken body bytes → IfOk result (Asks bytes) }
     ensures err { (bytes : List ℕ) → HasTaken body bytes → IfErr result (AsksNothing bytes) }
 {

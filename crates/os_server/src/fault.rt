@@ -42,7 +42,7 @@ impl FaultCode {
 
 /// Why a body asks nothing of the table.
 #[derive(Drop)]
-pub(crate) enum NoOrder {
+pub(crate) enum OrderFault {
     /// It is no envelope that has one element in its body.
     Envelope,
     /// Its call is refused, with this code and this text.

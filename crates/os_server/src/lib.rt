@@ -11,7 +11,7 @@
 //! decide the bytes written; laws say so.
 //! Whoever makes the moves may be a table's owner or one of many who share it, and whatever runs the jobs is a [`Server`].
 //! [`Conversations`] has the conversation on each of many links, as a [`link_service::Service`].
-//! [`Served`] is how a conversation ended, [`Order`] what a request asks, and [`Said`] the envelope that answers it; where that is a
+//! [`Served`] is how a conversation ended, [`Order`] what a request asks, and [`ReplyEnvelope`] the envelope that answers it; where that is a
 //! fault, a [`FaultCode`] is its code.
 //!
 //! The rules are in `docs/rules/conversations.md`.
@@ -36,6 +36,6 @@ pub use laws::{
     bytes_and_replies_decide_the_answers, bytes_are_cut_one_way, conversations_are_kept,
 };
 pub use order::Order;
-pub use saying::Said;
+pub use saying::ReplyEnvelope;
 pub use serve::{Served, serve_ends, serve_one, turn_away};
 pub use server::Server;

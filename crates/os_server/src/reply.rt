@@ -9,9 +9,9 @@ ghost use Rattle.os_server.specs.Serving.{IsReplied, DoesOrder, AnswersCame};
 
 use crate::asking::read_order;
 use crate::doing::{LastReply, do_order};
-use crate::fault::NoOrder;
+use crate::fault::OrderFault;
 use crate::order::{Order, number_for};
-use crate::saying::{Said, said_fault, say};
+use crate::saying::{ReplyEnvelope, said_fault, say};
 use crate::serve::Served;
 use crate::server::Server;
 use http_link::{Incoming, LinkFault, Refusal, write_answer, write_fault_answer, write_refusal};
@@ -26,7 +26,7 @@ pub enum HttpReply {
     /// A response with this envelope, whether the connection closes behind it, and whether the job after it is claimed as a
     /// worker claims one.
     Answer {
-        said: Said,
+        said: ReplyEnvelope,
         close: bool,
         as_worker: bool,
     },
@@ -93,8 +93,8 @@ fn reply_to<V: Verdicts, C: Mover<V>, S: Server<V>>(
 {
     match read_order(alloc, body) {
         Ok(order) => answer_order(alloc, mover, server, order, close),
-        Err(NoOrder::Envelope) => HttpReply::Refused(Refusal::BadRequest),
-        Err(NoOrder::Fault { code, text }) => match said_fault(alloc, code, text.as_slice()) {
+        Err(OrderFault::Envelope) => HttpReply::Refused(Refusal::BadRequest),
+        Err(OrderFault::Fault { code, text }) => match said_fault(alloc, code, text.as_slice()) {
             Ok(said) => HttpReply::Answer {
                 said,
                 close,
@@ -102,7 +102,7 @@ fn reply_to<V: Verdicts, C: Mover<V>, S: Server<V>>(
             },
             Err(_) => HttpReply::NoMemory,
         },
-        Err(NoOrder::Memory) => HttpReply::NoMemory,
+        Err(OrderFault::Memory) => HttpReply::NoMemory,
     }
 }
 
@@ -127,7 +127,7 @@ pub(crate) fn answer_request<V: Verdicts, C: Mover<V>, S: Server<V>>(
 }
 
 /// Writes the response that carries what is said.
-fn write_said<S: Sink>(sink: &mut S, said: &Said) -> Result<(), Failed>
+fn write_said<S: Sink>(sink: &mut S, said: &ReplyEnvelope) -> Result<(), Failed>
     ensures { Writes result (response_text said.now) (S.tells sink.old) (S.tells sink.new) }
 {
     if said.fault {

@@ -15,17 +15,21 @@ use std::alloc::Global;
 
 /// The envelope that answers a call, and whether it says a fault.
 #[derive(Drop)]
-pub struct Said {
+pub struct ReplyEnvelope {
     pub fault: bool,
     pub text: Text,
 }
 
 /// The envelope of a fault.
-pub(crate) fn said_fault(alloc: Global, code: FaultCode, text: &[u8]) -> Result<Said, Memory>
+pub(crate) fn said_fault(
+    alloc: Global,
+    code: FaultCode,
+    text: &[u8],
+) -> Result<ReplyEnvelope, Memory>
     ensures { IfOk result (λ said. said ≡ fault_said code text.now) }
 {
     let text = write_fault(alloc, code.text(), text)?;
-    Ok(Said { fault: true, text })
+    Ok(ReplyEnvelope { fault: true, text })
 }
 
 /// Why a change wasn't stored.
@@ -46,19 +50,19 @@ fn word_of(taken: bool) -> &'static [u8]
 }
 
 /// The envelope of what a call returns.
-fn returned(alloc: Global, kind: CallKind, text: &[u8]) -> Result<Said, Memory>
+fn returned(alloc: Global, kind: CallKind, text: &[u8]) -> Result<ReplyEnvelope, Memory>
     ensures { IfOk result (λ said. returns kind text.now ≡ Some said) }
 {
     let text = write_reply(alloc, kind.name(), text)?;
-    Ok(Said { fault: false, text })
+    Ok(ReplyEnvelope { fault: false, text })
 }
 
 /// The envelope that returns the result document of what is shown of a job.
-fn returned_job(alloc: Global, kind: CallKind, shown: &Retrieved) -> Result<Said, Memory>
+fn returned_job(alloc: Global, kind: CallKind, shown: &Retrieved) -> Result<ReplyEnvelope, Memory>
     ensures { IfOk result (λ said. returns kind (shown_text shown.now) ≡ Some said) }
 {
     let text = reply_of_shown(alloc, kind.name(), shown)?;
-    Ok(Said { fault: false, text })
+    Ok(ReplyEnvelope { fault: false, text })
 }
 
 /// What answers the call of this kind about the job of this number, by the last reply of the table.
@@ -67,7 +71,7 @@ pub(crate) fn say(
     kind: CallKind,
     number: u64,
     last: &LastReply,
-) -> Result<Said, Memory>
+) -> Result<ReplyEnvelope, Memory>
     ensures { IfOk result (λ said. said_by kind number (reply_of last.now) ≡ Some said) }
 {
     match last {

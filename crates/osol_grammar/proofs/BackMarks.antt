@@ -1,5 +1,5 @@
 -- The marks of a written document say the options that it was written of.
-use Rattle.std.proofs.Common.{◌≡◌, ◌∙◌, inr, inl, ℕ, zero, suc, ◌+◌, ◌≤◌, ◌==◌, Bool, true, false, not, ap, eqb-true, Option, None, Some, List, [], ◌∷◌, ◌++◌, length, leb, refl, sym, subst, arith}
+use Rattle.std.proofs.Common.{◌≡◌, ◌∙◌, inr, inl, ℕ, zero, suc, ◌+◌, ◌<◌, ◌≤◌, ◌==◌, Bool, true, false, not, ap, eqb-true, Option, None, Some, List, [], ◌∷◌, ◌++◌, length, length-append, append_assoc, append-nil, leb, refl, sym, subst, arith}
 use Rattle.std.proofs.lemmas.Bool.{not-false}
 use Rattle.std.specs.Prelude.{codes, map, filter, ◌||◌}
 use Rattle.std.specs.Fmt.{decimal}
@@ -11,6 +11,7 @@ use Rattle.fraction.specs.declared.frac.Frac.{Frac}
 use Rattle.decimal_text.specs.Count.{IsCount, most_count}
 use Rattle.decimal_text.specs.Exact.{ratio_text}
 use Rattle.decimal_text.proofs.RoundTrips.{count_read}
+use Rattle.decimal_text.proofs.OneRatio.{written_ratio}
 use Rattle.document_tags.specs.Elements.{unless_empty}
 use Rattle.tree_grammar.specs.Elements as tree
 use Rattle.document_tags.specs.Writing.{with_attribute, leaf, group, bare_root}
@@ -22,16 +23,18 @@ use Rattle.osol_grammar.specs.declared.limit.Limit.TheVariants as limits
 use Rattle.osol_grammar.specs.declared.limit.Limit.TheVariants.{Rounds, Names, Form}
 use Rattle.osol_grammar.specs.declared.options.Options.{Options}
 use Rattle.osol_grammar.specs.declared.place.Place.{Place}
-use Rattle.osol_grammar.specs.declared.place.Place.TheVariants.{Outside, Osol, General, JobId, Job, MaxTime, Optimization, SolverOptions, SolverOption}
+use Rattle.osol_grammar.specs.declared.place.Place.TheVariants.{Outside, Osol, General, JobId, Job, MaxTime, Optimization, Variables, InitialValues, Var, SolverOptions, SolverOption}
 use Rattle.osol_grammar.specs.declared.standing.Standing.{Standing as State}
 use Rattle.osol_grammar.specs.Limits.{limit_row, amount_text}
 use Rattle.osol_grammar.specs.Options.{made, amount, with_amount, no_options, IsOption, IsAmountText, SaysAmount}
 use Rattle.osol_grammar.specs.Marked.{osol}
 use Rattle.osol_grammar.specs.Meaning.{IsOptions, IsOptionsText}
-use Rattle.osol_grammar.specs.Writing.{is_told, told_limits, option_nodes, time_nodes, options_nodes, options_text}
-use Rattle.osol_grammar.specs.Back.{IsJobName, IsNameOrNone, IsTimeOrNone, ComesBack}
+use Rattle.osol_grammar.specs.Writing.{is_told, told_limits, option_nodes, time_nodes, values_nodes, first_nodes, limit_nodes, options_nodes, options_text}
+use Rattle.osol_grammar.specs.Back.{IsJobName, IsNameOrNone, IsTimeOrNone, AreFirstOrNone, ComesBack}
 use Rattle.osol_grammar.specs.Times.{SaysTime}
+use Rattle.osol_grammar.specs.FirstValues.{most_variables, SaysIndex, SaysValue, HasFirst, more_first}
 use Rattle.osol_grammar.proofs.SaidTimes.{time_read}
+use Rattle.osol_grammar.proofs.SaidValues.{index_once, cut_values, cut_more, cut_some, cut_none, cut_all, not_yet}
 use Rattle.osol_grammar.proofs.LimitTable.{each_passes, option_once}
 use Rattle.osol_grammar.proofs.WrittenText.{optimization, text_document, text_not_blank}
 
@@ -90,6 +93,9 @@ named job = record no_options { job = job }
 abbrev timed : Option (List ℕ) → Option Frac → Options
 timed job seconds = record no_options { job = job; seconds = seconds }
 
+abbrev begun : Option (List ℕ) → Option Frac → Option (List (Option Frac)) → Options
+begun job seconds first = record no_options { job = job; seconds = seconds; first = first }
+
 -- a limit whose option isn't told has the amount that it has without it
 untold : (always : Bool) (n d : ℕ) → (always || not (n == d)) ≡ false → n ≡ d
 untold true n d e = absurd (cc)
@@ -105,21 +111,73 @@ told_or_not o q l ls same = by (is_told o l) refl
         (sym same ∙ ap (λ (n : ℕ). with_amount q l n) (sym (untold (limit_row l).always (amount o l) (limit_row l).default e))))
 
 -- so all that is told says the options
-all_said : (job : Option (List ℕ)) (seconds : Option Frac) (amounts : Limit → ℕ) → made job seconds amounts ≡ with_amounts (timed job seconds) (made job seconds amounts) (told_limits (made job seconds amounts))
-all_said job seconds amounts =
-    let o = made job seconds amounts in
-    let limited = with_amount (with_amount (timed job seconds) limits.Nodes o.nodes) limits.Turns o.turns in
+all_said : (job : Option (List ℕ)) (seconds : Option Frac) (first : Option (List (Option Frac))) (amounts : Limit → ℕ) → made job seconds first amounts ≡ with_amounts (begun job seconds first) (made job seconds first amounts) (told_limits (made job seconds first amounts))
+all_said job seconds first amounts =
+    let o = made job seconds first amounts in
+    let limited = with_amount (with_amount (begun job seconds first) limits.Nodes o.nodes) limits.Turns o.turns in
     let rounded = with_amount limited Rounds o.rounds in
     let labelled = with_amount rounded Names o.names in
     sym (told_or_not o limited Rounds (Names ∷ Form ∷ []) refl ∙ told_or_not o rounded Names (Form ∷ []) refl ∙ told_or_not o labelled Form [] refl)
 
+-- ---- the first values
+
+abbrev value_of_var : ℕ → Frac → List Attribute
+value_of_var n x = with_attribute (codes "idx") (decimal n) (with_attribute (codes "value") (ratio_text (ratio x)) [])
+
+-- options with the values so far
+abbrev with_cut : Options → List (Option Frac) → Options
+with_cut q us = record q { first = cut_values us }
+
+index_is : (n : ℕ) (x : Frac) → n < most_variables → SaysIndex (value_of_var n x) n
+index_is n x low = (count_read n (omega (arith, low)), low)
+
+value_is : (n : ℕ) (x : Frac) → SaysValue (value_of_var n x) x
+value_is n x = inl (written_ratio (ratio x) (x.above, x.reduced) (x.numer_within, x.denom_within))
+
+-- behind the values us the values vs are read
+values_say : (vs us : List (Option Frac)) (d n j i u : ℕ) (t : List ℕ) (o q : Options) (es : List Event) → d ≡ length us → length us + length vs ≤ most_variables → ((k : ℕ) → Say (at InitialValues k j i u t (with_cut q (us ++ vs))) (spread es) o)
+    → Say (at InitialValues n j i u t (with_cut q us)) (spread (nodes_events (values_nodes d vs) es)) o
+values_say [] us d n j i u t o q es e few more = subst (λ (l : List (Option Frac)). Say (at InitialValues n j i u t (with_cut q l)) (spread es) o) (append-nil us) (more n)
+values_say (None ∷ vs) us d n j i u t o q es e few more =
+    let long = length-append us (None ∷ []) in
+    let rest = values_say vs (us ++ None ∷ []) (d + 1) n j i u t o q es (omega (arith, e, long)) (omega (arith, few, long))
+    (λ k. subst (λ (l : List (Option Frac)). Say (at InitialValues k j i u t (with_cut q l)) (spread es) o) (sym (append_assoc us (None ∷ []) vs)) (more k)) in
+    subst (λ (f : Option (List (Option Frac))). Say (at InitialValues n j i u t (record q { first = f })) (spread (nodes_events (values_nodes (d + 1) vs) es)) o) (cut_none us) rest
+values_say (Some x ∷ vs) us d n j i u t o q es e few more =
+    let long = length-append us (Some x ∷ []) in
+    let low : d < most_variables = omega (arith, e, few) in
+    let rest = values_say vs (us ++ Some x ∷ []) (d + 1) (n + 1) j i u t o q es (omega (arith, e, long)) (omega (arith, few, long))
+    (λ k. subst (λ (l : List (Option Frac)). Say (at InitialValues k j i u t (with_cut q l)) (spread es) o) (sym (append_assoc us (Some x ∷ []) vs)) (more k)) in
+    let same : more_first (cut_values us) d x ≡ cut_values (us ++ Some x ∷ []) = ap (λ (k : ℕ). more_first (cut_values us) k x) e ∙ cut_more us x ∙ sym (cut_some us x) in
+    let there = subst (λ (f : Option (List (Option Frac))). Say (at InitialValues (n + 1) j i u t (record q { first = f })) (spread (nodes_events (values_nodes (d + 1) vs) es)) o) (sym same) rest in
+    let as' = value_of_var d x in
+    let index = index_is d x low in
+    let twice = λ (bad : (m : ℕ) × SaysIndex as' m × HasFirst (cut_values us) m). not_yet us (subst (λ (m : ℕ). HasFirst (cut_values us) m) (index_once as' bad.0 d bad.1 index ∙ e) bad.2) in
+    let p = record q { first = more_first (cut_values us) d x } in
+    (there.0, (at Var (n + 1) j i u t p, ((λ bad. bad d index, (twice, (λ bad. bad x (value_is d x), tt))), (d, x, index, value_is d x, refl)), (at InitialValues (n + 1) j i u t p, (tt, refl), there.1)), there.2)
+
+-- all of them, if there are any, and then more
+first_says : (first : Option (List (Option Frac))) (n j i u : ℕ) (t : List ℕ) (o q : Options) (behind : tree.Nodes) (es : List Event) → AreFirstOrNone first → ((k : ℕ) → Say (at Optimization k j i u t (record q { first = first })) (spread (nodes_events behind es)) o)
+    → Say (at Optimization n j i u t (record q { first = None })) (spread (nodes_events (first_nodes first behind) es)) o
+first_says None n j i u t o q behind es are more = more n
+first_says (Some vs) n j i u t o q behind es are more =
+    let few = are.few in
+    let rest = values_say vs [] 0 (n + 1 + 1) j i u t o q (Close (codes "initialVariableValues") ∷ Close (codes "variables") ∷ nodes_events behind es) refl (omega (arith, few))
+    (λ k.
+    let tail = subst (λ (f : Option (List (Option Frac))). Say (at Optimization k j i u t (record q { first = f })) (spread (nodes_events behind es)) o) (sym (cut_all vs are.some are.last)) (more k) in
+    (tail.0, (at Variables k j i u t (with_cut q vs), (tt, refl), (at Optimization k j i u t (with_cut q vs), (tt, refl), tail.1)), tail.2)) in
+    (rest.0, (at Variables (n + 1) j i u t (record q { first = None }), (tt, refl), (at InitialValues (n + 1 + 1) j i u t (record q { first = None }), (tt, refl), rest.1)), rest.2)
+
 -- and what stands round them
-optimization_says : (n j i u : ℕ) (t : List ℕ) (o q : Options) → AreWithin o → o ≡ with_amounts q o (told_limits o) → Say (at Osol n j i u t q) (spread (nodes_events (optimization o) (Close (codes "osol") ∷ []))) o
-optimization_says n j i u t o q within is =
-    let p = with_amounts q o (told_limits o) in
-    let rest = limits_say (told_limits o) (n + 1 + 1) j i u t o q (Close (codes "solverOptions") ∷ Close (codes "optimization") ∷ Close (codes "osol") ∷ []) within
+optimization_says : (n j i u : ℕ) (t : List ℕ) (o q : Options) → AreFirstOrNone o.first → AreWithin o → o ≡ with_amounts (record q { first = o.first }) o (told_limits o) → Say (at Osol n j i u t (record q { first = None })) (spread (nodes_events (optimization o) (Close (codes "osol") ∷ []))) o
+optimization_says n j i u t o q are within is =
+    let r = record q { first = o.first } in
+    let p = with_amounts r o (told_limits o) in
+    let limits = λ (m : ℕ). limits_say (told_limits o) (m + 1) j i u t o r (Close (codes "solverOptions") ∷ Close (codes "optimization") ∷ Close (codes "osol") ∷ []) within
     (λ k. (at Outside k j i u t p, (at Optimization k j i u t p, (tt, refl), (at Osol k j i u t p, (tt, refl), (at Outside k j i u t p, (tt, refl), refl))), is)) in
-    (rest.0, (at Optimization (n + 1) j i u t q, (tt, refl), (at SolverOptions (n + 1 + 1) j i u t q, (tt, refl), rest.1)), rest.2)
+    let rest = first_says o.first (n + 1) j i u t o q (group (codes "solverOptions") (limit_nodes o) tree.none) (Close (codes "optimization") ∷ Close (codes "osol") ∷ []) are
+    (λ k. let told = limits k in (told.0, (at SolverOptions (k + 1) j i u t r, (tt, refl), told.1), told.2)) in
+    (rest.0, (at Optimization (n + 1) j i u t (record q { first = None }), (tt, refl), rest.1), rest.2)
 
 -- ---- the time
 
@@ -147,13 +205,13 @@ timed_says text s n j t o q es says more = by text says more
     by (c ∷ cs) says more = opened (map Char (c ∷ cs) ++ (Finish (codes "maxTime") ∷ Finish (codes "job") ∷ spread es)) (heard_says (c ∷ cs) says more)
 
 -- what stands behind the job's name says the time, if there is one, and the rest
-rest_says : (job : Option (List ℕ)) (seconds : Option Frac) (amounts : Limit → ℕ) (n j : ℕ) (t : List ℕ) → IsTimeOrNone seconds → AreWithin (made job seconds amounts)
-    → Say (at Osol n j 0 1 t (named job)) (spread (nodes_events (time_nodes seconds (optimization (made job seconds amounts))) (Close (codes "osol") ∷ []))) (made job seconds amounts)
-rest_says job None amounts n j t is within = optimization_says n j 0 1 t (made job None amounts) (named job) within (all_said job None amounts)
-rest_says job (Some s) amounts n j t is within =
-    let o = made job (Some s) amounts in
+rest_says : (job : Option (List ℕ)) (seconds : Option Frac) (first : Option (List (Option Frac))) (amounts : Limit → ℕ) (n j : ℕ) (t : List ℕ) → IsTimeOrNone seconds → AreFirstOrNone first → AreWithin (made job seconds first amounts)
+    → Say (at Osol n j 0 1 t (named job)) (spread (nodes_events (time_nodes seconds (optimization (made job seconds first amounts))) (Close (codes "osol") ∷ []))) (made job seconds first amounts)
+rest_says job None first amounts n j t is are within = optimization_says n j 0 1 t (made job None first amounts) (named job) are within (all_said job None first amounts)
+rest_says job (Some s) first amounts n j t is are within =
+    let o = made job (Some s) first amounts in
     let text = ratio_text (ratio s) in
-    timed_says text s n j t o (named job) (after_time o) (time_read s is) (optimization_says (n + 1 + 1) j (n + 1 + 1) 1 text o (timed job (Some s)) within (all_said job (Some s) amounts))
+    timed_says text s n j t o (named job) (after_time o) (time_read s is) (optimization_says (n + 1 + 1) j (n + 1 + 1) 1 text o (timed job (Some s)) are within (all_said job (Some s) first amounts))
 
 -- ---- the job's name
 
@@ -171,15 +229,15 @@ named_says name q o more is says =
 
 -- ---- the whole document
 
-root_says : (job : Option (List ℕ)) (seconds : Option Frac) (amounts : Limit → ℕ) → IsNameOrNone job → IsTimeOrNone seconds → AreWithin (made job seconds amounts) → IsOptions (bare_root (codes "osol") (options_nodes (made job seconds amounts))) (made job seconds amounts)
-root_says None seconds amounts is time within =
-    let rest = rest_says None seconds amounts 1 0 [] time within in
+root_says : (job : Option (List ℕ)) (seconds : Option Frac) (first : Option (List (Option Frac))) (amounts : Limit → ℕ) → IsNameOrNone job → IsTimeOrNone seconds → AreFirstOrNone first → AreWithin (made job seconds first amounts) → IsOptions (bare_root (codes "osol") (options_nodes (made job seconds first amounts))) (made job seconds first amounts)
+root_says None seconds first amounts is time are within =
+    let rest = rest_says None seconds first amounts 1 0 [] time are within in
     (rest.0, (at Osol 1 0 0 1 [] no_options, (tt, refl), rest.1), rest.2)
-root_says (Some []) seconds amounts is time within = absurd (is.some refl)
-root_says (Some (c ∷ cs)) seconds amounts is time within =
+root_says (Some []) seconds first amounts is time are within = absurd (is.some refl)
+root_says (Some (c ∷ cs)) seconds first amounts is time are within =
     let name = c ∷ cs in
-    let o = made (Some name) seconds amounts in
-    let rest = named_says name no_options o (nodes_events (time_nodes seconds (optimization o)) (Close (codes "osol") ∷ [])) is (rest_says (Some name) seconds amounts 3 3 name time within) in
+    let o = made (Some name) seconds first amounts in
+    let rest = named_says name no_options o (nodes_events (time_nodes seconds (optimization o)) (Close (codes "osol") ∷ [])) is (rest_says (Some name) seconds first amounts 3 3 name time are within) in
     (rest.0, (at Osol 1 0 0 1 [] no_options, (tt, refl), (at General 2 0 0 1 [] no_options, (tt, refl), (at JobId 3 3 0 1 [] no_options, (((λ twice. omega (arith, twice)), tt), refl), rest.1))), rest.2)
 
 pub text_says : (o : Options) → ComesBack o → IsOptionsText (options_text o) o
@@ -188,6 +246,6 @@ text_says o back = inr (
   record {
     root = bare_root (codes "osol") (options_nodes o);
     document = text_document o back;
-    is = root_says o.job o.seconds (amount o) back.job back.seconds (λ l. (back.above l, back.below l));
+    is = root_says o.job o.seconds o.first (amount o) back.job back.seconds back.first (λ l. (back.above l, back.below l));
   },
 )

@@ -1,6 +1,7 @@
 pub mod LimitTable
 pub mod SaidAmounts
 pub mod SaidTimes
+mod SaidValues
 pub mod OneState
 pub mod OneAnswer
 pub mod WrittenLimits

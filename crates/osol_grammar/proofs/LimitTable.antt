@@ -9,7 +9,8 @@ use Rattle.osol_grammar.specs.declared.limit.Limit.{Limit}
 use Rattle.osol_grammar.specs.declared.limit.Limit.TheVariants.{Nodes, Turns, Rounds, Names, Form}
 use Rattle.osol_grammar.specs.declared.options.Options.{Options}
 use Rattle.osol_grammar.specs.Limits.{all, limit_row}
-use Rattle.osol_grammar.specs.Options.{IsOption, amount, with_amount}
+use Rattle.osol_grammar.specs.Options.{IsOption, amount, with_amount, with_first}
+use Rattle.fraction.specs.declared.frac.Frac.{Frac}
 
 -- names that a test tells apart
 other_name : (s t : List ℕ) → bytes_eq s t ≡ false → s ≡ t → ⊥
@@ -58,6 +59,22 @@ time_with o Turns n = refl
 time_with o Rounds n = refl
 time_with o Names n = refl
 time_with o Form n = refl
+
+-- and the first values stay
+pub first_with : (o : Options) (l : Limit) (n : ℕ) → (with_amount o l n).first ≡ o.first
+first_with o Nodes n = refl
+first_with o Turns n = refl
+first_with o Rounds n = refl
+first_with o Names n = refl
+first_with o Form n = refl
+
+-- one more first value leaves each amount
+pub amount_first : (o : Options) (n : ℕ) (x : Frac) (l : Limit) → amount (with_first o n x) l ≡ amount o l
+amount_first o n x Nodes = refl
+amount_first o n x Turns = refl
+amount_first o n x Rounds = refl
+amount_first o n x Names = refl
+amount_first o n x Form = refl
 
 -- ---- for all of them
 

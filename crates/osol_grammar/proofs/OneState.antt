@@ -11,17 +11,18 @@ use Rattle.osol_grammar.specs.declared.limit.Limit.{Limit}
 use Rattle.osol_grammar.specs.declared.limit.Limit.TheVariants.{Nodes, Turns, Rounds, Names, Form}
 use Rattle.osol_grammar.specs.Limits.{IsFormWord}
 use Rattle.osol_grammar.specs.declared.options.Options.{Options}
-use Rattle.osol_grammar.specs.declared.place.Place.TheVariants.{Job, MaxTime, SolverOption}
+use Rattle.osol_grammar.specs.declared.place.Place.TheVariants.{Job, MaxTime, Var, SolverOption}
 use Rattle.tag_tests.specs.declared.places.Led.{Led}
 use Rattle.osol_grammar.specs.declared.place.Place.{Place}
 use Rattle.tag_tests.specs.declared.places.Led.TheVariants.{To, OtherRoot}
 use Rattle.osol_grammar.specs.declared.standing.Standing.{Standing as State}
-use Rattle.osol_grammar.specs.Options.{IsAmountText, SaysAmount, with_amount, SaysOption}
+use Rattle.osol_grammar.specs.Options.{IsAmountText, SaysAmount, with_amount, with_first, SaysOption}
 use Rattle.osol_grammar.specs.Table.{kind, into, Begins, Ends, Leaves}
 use Rattle.tag_tests.specs.Places.{Kind, begins, ends}
 use Rattle.osol_grammar.specs.Marked.{osol}
 use Rattle.osol_grammar.proofs.LimitTable.{option_once}
 use Rattle.osol_grammar.proofs.SaidTimes.{time_once}
+use Rattle.osol_grammar.proofs.SaidValues.{index_once, value_once}
 
 -- a word says one form
 form_once : (text : List ℕ) (n m : ℕ) → IsFormWord text n → IsFormWord text m → n ≡ m
@@ -57,6 +58,10 @@ begins_once s as' (To MaxTime) a b (n, is, e) (m, at, f) =
     let both : Some n ≡ Some m = sym is ∙ at in
     let same : n ≡ m = cc in
     e ∙ ap (λ (u : ℕ). let z : State = record (into s MaxTime) { time_at = s.count + 1; unit = u; text = [] } in z) same ∙ sym f
+begins_once s as' (To Var) a b (n, x, is, says, e) (m, y, at, tells, f) =
+    let same : n ≡ m = index_once as' n m is at in
+    let value : x ≡ y = value_once as' x y says tells in
+    e ∙ ap (λ (i : ℕ). let z : State = record (into s Var) { options = with_first s.options i x } in z) same ∙ ap (λ (v : Frac). let z : State = record (into s Var) { options = with_first s.options m v } in z) value ∙ sym f
 begins_once s as' OtherRoot a b e f = absurd e
 begins_once s as' l a b e f = e ∙ sym f
 

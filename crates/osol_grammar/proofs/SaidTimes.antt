@@ -22,7 +22,7 @@ use Rattle.osol_grammar.specs.Times.{IsAmount, IsTime, SaysTime}
 one_ratio : (text : List ℕ) (x y : Frac) → RatioText text (ratio x) → RatioText text (ratio y) → x ≡ y
 one_ratio text x y a b = same_fraction x y (subst (IsSame (ratio x)) (ratio_once text (ratio x) (ratio y) a b) refl)
 
-amount_once : (text : List ℕ) (x y : Frac) → IsAmount text x → IsAmount text y → x ≡ y
+pub amount_once : (text : List ℕ) (x y : Frac) → IsAmount text x → IsAmount text y → x ≡ y
 amount_once text x y (inl a) (inl b) = one_ratio text x y a b
 amount_once text x y (inl a) (inr b) = absurd (b.0 x a)
 amount_once text x y (inr a) (inl b) = absurd (a.0 y b)

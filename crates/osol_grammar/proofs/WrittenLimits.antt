@@ -1,6 +1,8 @@
 -- The options of limits, told.
 use Rattle.std.proofs.Common.{◌≡◌, ◌∙◌, ℕ, Option, None, Some, Result, List, [], ◌++◌, refl, ap, subst}
-use Rattle.std.specs.Prelude.{OnOk, codes}
+use Rattle.std.specs.Prelude.{OnOk, codes, decimal}
+use Rattle.fraction.specs.Frac.{ratio}
+use Rattle.decimal_text.specs.Exact.{ratio_text}
 use Rattle.tree_grammar.specs.Elements.{Attribute, Nodes, none, Event, nodes_events}
 use Rattle.element_tree.specs.Building.{Building}
 use Rattle.document_tags.specs.Writing.{with_attribute}
@@ -11,7 +13,7 @@ use Rattle.osol_grammar.specs.declared.limit.Limit.{Limit}
 use Rattle.osol_grammar.specs.declared.options.Options.{Options}
 use Rattle.osol_grammar.specs.Limits.{limit_row, amount_text}
 use Rattle.osol_grammar.specs.Options.{amount}
-use Rattle.osol_grammar.specs.Writing.{limit_node, job_nodes, time_nodes}
+use Rattle.osol_grammar.specs.Writing.{limit_node, job_nodes, time_nodes, value_nodes, first_nodes}
 
 abbrev three : (name value : List ℕ) → List Attribute
 three name value = with_attribute (codes "name") name (with_attribute (codes "value") value (with_attribute (codes "solver") (codes "os_cert") []))
@@ -37,3 +39,22 @@ job_then (Some name) more k = refl
 pub time_then : (seconds : Option Frac) (more : Nodes) (k : List Event) → nodes_events (time_nodes seconds none) (nodes_events more k) ≡ nodes_events (time_nodes seconds more) k
 time_then None more k = refl
 time_then (Some s) more k = refl
+
+-- the first values, and then more
+pub value_then : (n : ℕ) (value : Option Frac) (more : Nodes) (k : List Event) → nodes_events (value_nodes n value none) (nodes_events more k) ≡ nodes_events (value_nodes n value more) k
+value_then n None more k = refl
+value_then n (Some x) more k = refl
+
+pub first_then : (first : Option (List (Option Frac))) (more : Nodes) (k : List Event) → nodes_events (first_nodes first none) (nodes_events more k) ≡ nodes_events (first_nodes first more) k
+first_then None more k = refl
+first_then (Some vs) more k = refl
+
+-- a first value, told
+pub value_told : {X E : Type 0} (r : Result X E) (a b c d : Building) (n : ℕ) (x : Frac) (index value : List ℕ) → a.attributes ≡ [] → index ≡ decimal n → value ≡ ratio_text (ratio x) → ToldAttributes a b (with_attribute (codes "idx") index [])
+    → Told b c (opening (codes "var") (b.attributes ++ with_attribute (codes "value") value [])) → OnOk r (Told c d (closing (codes "var"))) → OnOk r (Told a d (λ k. nodes_events (value_nodes n (Some x) none) k))
+value_told {X} {E} r a b c d n x index value no_wait is_index is_value first begins ends =
+    let two : (i v : List ℕ) → List Attribute = λ i v. with_attribute (codes "idx") i (with_attribute (codes "value") v []) in
+    let attributes : b.attributes ++ with_attribute (codes "value") value [] ≡ two (decimal n) (ratio_text (ratio x)) =
+    ap (λ (l : List Attribute). l ++ with_attribute (codes "value") value []) (first.waiting ∙ ap (λ (l : List Attribute). l ++ with_attribute (codes "idx") index []) no_wait) ∙ ap (λ (i : List ℕ). two i value) is_index ∙ ap (λ (v : List ℕ). two (decimal n) v) is_value in
+    let opened : Told b c (opening (codes "var") (two (decimal n) (ratio_text (ratio x)))) = subst (λ (as' : List Attribute). Told b c (opening (codes "var") as')) attributes begins in
+    ends_told r a c d (opening (codes "var") (two (decimal n) (ratio_text (ratio x)))) (closing (codes "var")) (told_after a b c _ first.told opened) ends

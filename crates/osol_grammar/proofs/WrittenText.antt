@@ -23,8 +23,8 @@ use Rattle.osol_grammar.specs.declared.limit.Limit.TheVariants.{Nodes, Turns, Ro
 use Rattle.osol_grammar.specs.declared.options.Options.{Options}
 use Rattle.osol_grammar.specs.Limits.{all, limit_row, amount_text}
 use Rattle.osol_grammar.specs.Options.{amount}
-use Rattle.osol_grammar.specs.Writing.{is_told, told_limits, job_nodes, time_nodes, option_nodes, limit_nodes, options_nodes, options_element, options_text}
-use Rattle.osol_grammar.specs.Back.{IsNameOrNone, ComesBack}
+use Rattle.osol_grammar.specs.Writing.{is_told, told_limits, job_nodes, time_nodes, values_nodes, first_nodes, option_nodes, limit_nodes, options_nodes, options_element, options_text}
+use Rattle.osol_grammar.specs.Back.{IsNameOrNone, AreFirstOrNone, ComesBack}
 use Rattle.osol_grammar.proofs.LimitTable.{each_passes}
 
 amount_xml : (l : Limit) (n : ℕ) → IsXmlText (amount_text l n)
@@ -51,47 +51,73 @@ limits_flat o (l ∷ more) =
 
 -- what stands behind the job's name and the time
 abbrev pub optimization : Options → tree.Nodes
-optimization o = group (codes "optimization") (group (codes "solverOptions") (limit_nodes o) none) none
+optimization o = group (codes "optimization") (first_nodes o.first (group (codes "solverOptions") (limit_nodes o) none)) none
 
-optimization_flat : (o : Options) → AreFlat 3 (optimization o) (optimization o)
-optimization_flat o =
-    let inner = element_flat 1 (codes "solverOptions") [] (limit_nodes o) none (limit_nodes o) none refl tt (limits_flat o (told_limits o)) (none_flat 2) in
-    element_flat 2 (codes "optimization") [] (group (codes "solverOptions") (limit_nodes o) none) none (group (codes "solverOptions") (limit_nodes o) none) none refl tt inner (none_flat 3)
-
-time_xml : (s : Frac) → IsXmlText (ratio_text (ratio s))
-time_xml s = printable_text (ratio_text (ratio s)) (each_append Printable (signed_decimal s.numer) (denominator_text s.denom) (signed_printable s.numer) (under (s.denom == 1) s.denom))
+ratio_xml : (s : Frac) → IsXmlText (ratio_text (ratio s))
+ratio_xml s = printable_text (ratio_text (ratio s)) (each_append Printable (signed_decimal s.numer) (denominator_text s.denom) (signed_printable s.numer) (under (s.denom == 1) s.denom))
   where
     under : (b : Bool) (d : ℕ) → Each Printable (cond b [] (47 ∷ decimal d))
     under true d = tt
     under false d = ((lit≤ tt, lit< tt), decimal_printable d)
 
-time_flat : (seconds : Option Frac) (more : tree.Nodes) → AreFlat 3 more more → AreFlat 3 (time_nodes seconds more) (time_nodes seconds more)
+-- the first values
+values_flat : (n : ℕ) (vs : List (Option Frac)) → AreFlat 1 (values_nodes n vs) (values_nodes n vs)
+values_flat n [] = none_flat 1
+values_flat n (None ∷ vs) = values_flat (n + 1) vs
+values_flat n (Some x ∷ vs) = element_flat 0 (codes "var") _ none (values_nodes (n + 1) vs) none (values_nodes (n + 1) vs) refl (number_text n, (ratio_xml x, tt)) (none_flat 0) (values_flat (n + 1) vs)
+
+first_flat : (first : Option (List (Option Frac))) (more : tree.Nodes) → AreFlat 3 more more → AreFlat 3 (first_nodes first more) (first_nodes first more)
+first_flat None more rest = rest
+first_flat (Some vs) more rest =
+    let inner = element_flat 1 (codes "initialVariableValues") [] (values_nodes 0 vs) none (values_nodes 0 vs) none refl tt (values_flat 0 vs) (none_flat 2) in
+    element_flat 2 (codes "variables") [] (group (codes "initialVariableValues") (values_nodes 0 vs) none) more (group (codes "initialVariableValues") (values_nodes 0 vs) none) more refl tt inner rest
+
+optimization_flat : (o : Options) → AreFlat 4 (optimization o) (optimization o)
+optimization_flat o =
+    let limits = group (codes "solverOptions") (limit_nodes o) none in
+    let inner = element_flat 2 (codes "solverOptions") [] (limit_nodes o) none (limit_nodes o) none refl tt (still_flat 1 2 (limit_nodes o) (limit_nodes o) (lit≤ tt) (limits_flat o (told_limits o))) (none_flat 3) in
+    element_flat 3 (codes "optimization") [] (first_nodes o.first limits) none (first_nodes o.first limits) none refl tt (first_flat o.first limits inner) (none_flat 4)
+
+time_flat : (seconds : Option Frac) (more : tree.Nodes) → AreFlat 4 more more → AreFlat 4 (time_nodes seconds more) (time_nodes seconds more)
 time_flat None more rest = rest
 time_flat (Some s) more rest =
     let text = ratio_text (ratio s) in
-    let inner = element_flat 1 (codes "maxTime") [] (text_nodes text) none (text_nodes text) none refl tt (text_flat 1 text (time_xml s)) (none_flat 2) in
-    element_flat 2 (codes "job") [] (leaf (codes "maxTime") text none) more (leaf (codes "maxTime") text none) more refl tt inner rest
+    let inner = element_flat 2 (codes "maxTime") [] (text_nodes text) none (text_nodes text) none refl tt (text_flat 2 text (ratio_xml s)) (none_flat 3) in
+    element_flat 3 (codes "job") [] (leaf (codes "maxTime") text none) more (leaf (codes "maxTime") text none) more refl tt inner rest
+
+signed_size : (z : ℤ) → length (signed_decimal z) ≤ 65
+signed_size (pos n) = let a = decimal_size n in omega (arith, a)
+signed_size (negsuc n) = let a = decimal_size (suc n) in omega (arith, a)
+
+under_size : (b : Bool) (d : ℕ) → length (cond b [] (47 ∷ decimal d)) ≤ 65
+under_size true d = omega arith
+under_size false d = let a = decimal_size d in omega (arith, a)
+
+ratio_size : (s : Frac) → length (ratio_text (ratio s)) ≤ 130
+ratio_size s = let a = signed_size s.numer in let b = under_size (s.denom == 1) s.denom in omega (arith, a, b, length-append (signed_decimal s.numer) (denominator_text s.denom))
 
 time_size : (seconds : Option Frac) (more : tree.Nodes) → nodes_size (time_nodes seconds more) ≤ 2000 + nodes_size more
 time_size None more = omega arith
-time_size (Some s) more = let text = text_size (ratio_text (ratio s)) in let short = seconds_size s in omega (arith, text, short)
-  where
-    size_by : (z : ℤ) → length (signed_decimal z) ≤ 65
-    size_by (pos n) = let a = decimal_size n in omega (arith, a)
-    size_by (negsuc n) = let a = decimal_size (suc n) in omega (arith, a)
+time_size (Some s) more = let text = text_size (ratio_text (ratio s)) in let short = ratio_size s in omega (arith, text, short)
 
-    under_by : (b : Bool) (d : ℕ) → length (cond b [] (47 ∷ decimal d)) ≤ 65
-    under_by true d = omega arith
-    under_by false d = let a = decimal_size d in omega (arith, a)
+values_size : (n : ℕ) (vs : List (Option Frac)) → nodes_size (values_nodes n vs) ≤ 2000 * length vs
+values_size n [] = omega arith
+values_size n (None ∷ vs) = let rest = values_size (n + 1) vs in omega (arith, rest)
+values_size n (Some x ∷ vs) =
+    let rest = values_size (n + 1) vs in
+    let index = decimal_size n in
+    let value = ratio_size x in
+    omega (arith, rest, index, value)
 
-    seconds_size : (s : Frac) → length (ratio_text (ratio s)) ≤ 130
-    seconds_size s = let a = size_by s.numer in let b = under_by (s.denom == 1) s.denom in omega (arith, a, b, length-append (signed_decimal s.numer) (denominator_text s.denom))
+first_size : (first : Option (List (Option Frac))) (more : tree.Nodes) → AreFirstOrNone first → nodes_size (first_nodes first more) ≤ 2010000 + nodes_size more
+first_size None more are = omega arith
+first_size (Some vs) more are = let values = values_size 0 vs in let few = are.few in omega (arith, values, few)
 
-job_flat : (job : Option (List ℕ)) (more : tree.Nodes) → IsNameOrNone job → AreFlat 3 more more → AreFlat 3 (job_nodes job more) (job_nodes job more)
+job_flat : (job : Option (List ℕ)) (more : tree.Nodes) → IsNameOrNone job → AreFlat 4 more more → AreFlat 4 (job_nodes job more) (job_nodes job more)
 job_flat None more is rest = rest
 job_flat (Some job) more is rest =
-    let inner = element_flat 1 (codes "jobID") [] (text_nodes job) none (text_nodes job) none refl tt (text_flat 1 job is.characters) (none_flat 2) in
-    element_flat 2 (codes "general") [] (leaf (codes "jobID") job none) more (leaf (codes "jobID") job none) more refl tt inner rest
+    let inner = element_flat 2 (codes "jobID") [] (text_nodes job) none (text_nodes job) none refl tt (text_flat 2 job is.characters) (none_flat 3) in
+    element_flat 3 (codes "general") [] (leaf (codes "jobID") job none) more (leaf (codes "jobID") job none) more refl tt inner rest
 
 job_size : (job : Option (List ℕ)) (more : tree.Nodes) → IsNameOrNone job → nodes_size (job_nodes job more) ≤ 2000 + nodes_size more
 job_size None more is = omega arith
@@ -120,13 +146,14 @@ text_short o back =
     let whole = written_short (options_element o) in
     let job = job_size o.job (time_nodes o.seconds (optimization o)) back.job in
     let time = time_size o.seconds (optimization o) in
+    let first = first_size o.first (group (codes "solverOptions") (limit_nodes o) none) back.first in
     let limits = limits_size o (told_limits o) in
     let few = filter_few (is_told o) all in
-    omega (arith, whole, job, time, limits, few)
+    omega (arith, whole, job, time, first, limits, few)
 
 pub text_document : (o : Options) → ComesBack o → IsDocument (options_text o) (bare_root (codes "osol") (options_nodes o))
 text_document o back =
-    root_is_document (codes "osol") (options_nodes o) refl refl (still_flat 3 31 (options_nodes o) (options_nodes o) (lit≤ tt) (job_flat o.job (time_nodes o.seconds (optimization o)) back.job (time_flat o.seconds (optimization o) (optimization_flat o)))) (text_short o back)
+    root_is_document (codes "osol") (options_nodes o) refl refl (still_flat 4 31 (options_nodes o) (options_nodes o) (lit≤ tt) (job_flat o.job (time_nodes o.seconds (optimization o)) back.job (time_flat o.seconds (optimization o) (optimization_flat o)))) (text_short o back)
 
 -- a text that doesn't begin with white space
 still_some : (b : Bool) (x : ℕ) (xs rest : List ℕ) → (rest ≡ [] → ⊥) → cond b rest (x ∷ xs) ≡ [] → ⊥

@@ -1,5 +1,5 @@
 -- The options that come back from their text.
-use Rattle.std.specs.Prelude.{◌≡◌, ◌≢◌, ℕ, ◌≤◌, Option, None, Some, List, [], length}
+use Rattle.std.specs.Prelude.{◌≡◌, ◌≢◌, ℕ, ◌-◌, ◌≤◌, Option, None, Some, List, [], length}
 use Rattle.tree_grammar.specs.Characters.{IsXmlText}
 use Rattle.fraction.specs.declared.frac.Frac.{Frac}
 use Rattle.decimal_text.specs.Space.{trimmed}
@@ -8,6 +8,7 @@ use Rattle.osol_grammar.specs.declared.options.Options.{Options}
 use Rattle.osol_grammar.specs.Limits.{limit_row}
 use Rattle.osol_grammar.specs.Options.{amount}
 use Rattle.osol_grammar.specs.Times.{IsTime}
+use Rattle.osol_grammar.specs.FirstValues.{most_variables, IsSaid}
 
 -- a job's name: characters of XML, one at least and of at most 256 bytes, with no white space round them
 pub record IsJobName (job : List ℕ) : Type 0 where
@@ -25,9 +26,20 @@ abbrev pub IsTimeOrNone : Option Frac → Type 0
 IsTimeOrNone None = Unit {0}
 IsTimeOrNone (Some s) = IsTime s
 
--- there is no job's name or it is one, the seconds are a time where there are some, and each limit is one that it may be
+-- the last first value is said, and none is past the last variable that an instance may have
+pub record AreFirstValues (vs : List (Option Frac)) : Type 0 where
+  pub some : vs ≢ []
+  pub few : length vs ≤ most_variables
+  pub last : IsSaid vs (length vs - 1)
+
+abbrev pub AreFirstOrNone : Option (List (Option Frac)) → Type 0
+AreFirstOrNone None = Unit {0}
+AreFirstOrNone (Some vs) = AreFirstValues vs
+
+-- there is no job's name or it is one, the seconds are a time where there are some, so are the first values, and each limit is one that it may be
 pub record ComesBack (o : Options) : Type 0 where
   pub job : IsNameOrNone o.job
   pub seconds : IsTimeOrNone o.seconds
+  pub first : AreFirstOrNone o.first
   pub above : (l : Limit) → (limit_row l).least ≤ amount o l
   pub below : (l : Limit) → amount o l ≤ (limit_row l).most

@@ -8,10 +8,11 @@ use Rattle.osol_grammar.specs.declared.limit.Limit.{Limit}
 use Rattle.osol_grammar.specs.declared.limit.Limit.TheVariants.{Nodes, Turns, Rounds, Names, Form}
 use Rattle.osol_grammar.specs.declared.options.Options.{Options}
 use Rattle.osol_grammar.specs.Limits.{limit_row, IsFormWord}
+use Rattle.osol_grammar.specs.FirstValues.{more_first}
 
--- the options of a job's name, of seconds, and of an amount for each limit
-abbrev pub made : Option (List ℕ) → Option Frac → (Limit → ℕ) → Options
-made job seconds amounts = record { job = job; seconds = seconds; nodes = amounts Nodes; turns = amounts Turns; rounds = amounts Rounds; names = amounts Names; form = amounts Form }
+-- the options of a job's name, of seconds, of first values, and of an amount for each limit
+abbrev pub made : Option (List ℕ) → Option Frac → Option (List (Option Frac)) → (Limit → ℕ) → Options
+made job seconds first amounts = record { job = job; seconds = seconds; first = first; nodes = amounts Nodes; turns = amounts Turns; rounds = amounts Rounds; names = amounts Names; form = amounts Form }
 
 -- what options say of a limit, and the options that say another amount of it
 abbrev pub amount : Options → Limit → ℕ
@@ -28,9 +29,13 @@ with_amount o Rounds n = record o { rounds = n }
 with_amount o Names n = record o { names = n }
 with_amount o Form n = record o { form = n }
 
--- no options: no job's name, no time, and each limit by default
+-- no options: no job's name, no time, no first values, and each limit by default
 abbrev pub no_options : Options
-no_options = made None None (λ l. (limit_row l).default)
+no_options = made None None None (λ l. (limit_row l).default)
+
+-- the options with one more first value
+abbrev pub with_first : Options → ℕ → Frac → Options
+with_first o n x = record o { first = more_first o.first n x }
 
 -- the attributes of an option of this limit: it has its name, and is meant for each solver or for this one
 pub record IsOption (l : Limit) (as' : List Attribute) : Type 0 where

@@ -11,14 +11,15 @@ use Rattle.tag_tests.specs.Places.{child, Kind, begins, text, ends, ends_over}
 use Rattle.tag_tests.specs.Contents.{ChildPlaces, root, reads, leads_by, kind_by, keeps_in}
 use Rattle.tag_tests.specs.Characters.{heard}
 use Rattle.osol_grammar.specs.declared.fault.Refusal.{Refusal}
-use Rattle.osol_grammar.specs.declared.fault.Refusal.TheVariants.{Root, JobTwice, TimeTwice, BadUnit, BadTime, BadLimit, LongJob}
+use Rattle.osol_grammar.specs.declared.fault.Refusal.TheVariants.{Root, JobTwice, TimeTwice, BadUnit, BadTime, BadIndex, IndexTwice, BadValue, BadLimit, LongJob}
 use Rattle.osol_grammar.specs.declared.limit.Limit.{Limit}
 use Rattle.osol_grammar.specs.declared.options.Options.{Options}
 use Rattle.osol_grammar.specs.declared.place.Place.{Place}
-use Rattle.osol_grammar.specs.declared.place.Place.TheVariants.{Outside, Osol, General, JobId, Job, MaxTime, Optimization, SolverOptions, SolverOption}
+use Rattle.osol_grammar.specs.declared.place.Place.TheVariants.{Outside, Osol, General, JobId, Job, MaxTime, Optimization, Variables, InitialValues, Var, SolverOptions, SolverOption}
 use Rattle.osol_grammar.specs.declared.standing.Standing.{Standing as State}
 use Rattle.osol_grammar.specs.declared.standing.Refused.{Refused}
-use Rattle.osol_grammar.specs.Options.{no_options, IsOption, SaysAmount, SaysOption}
+use Rattle.osol_grammar.specs.Options.{no_options, with_first, IsOption, SaysAmount, SaysOption}
+use Rattle.osol_grammar.specs.FirstValues.{SaysIndex, SaysValue, HasFirst}
 use Rattle.osol_grammar.specs.Times.{unit_named, SaysTime}
 
 -- before all marks
@@ -31,10 +32,13 @@ content Outside = root (codes "osol") Osol
 content Osol = reads (child (codes "general") General ∷ child (codes "job") Job ∷ child (codes "optimization") Optimization ∷ [])
 content General = reads (child (codes "jobID") JobId ∷ [])
 content Job = reads (child (codes "maxTime") MaxTime ∷ [])
-content Optimization = reads (child (codes "solverOptions") SolverOptions ∷ [])
+content Optimization = reads (child (codes "variables") Variables ∷ child (codes "solverOptions") SolverOptions ∷ [])
+content Variables = reads (child (codes "initialVariableValues") InitialValues ∷ [])
+content InitialValues = reads (child (codes "var") Var ∷ [])
 content SolverOptions = reads (child (codes "solverOption") SolverOption ∷ [])
 content JobId = reads []
 content MaxTime = reads []
+content Var = reads []
 content SolverOption = reads []
 
 -- where an end tag leads
@@ -46,6 +50,9 @@ around JobId = General
 around Job = Osol
 around MaxTime = Job
 around Optimization = Osol
+around Variables = Optimization
+around InitialValues = Variables
+around Var = InitialValues
 around SolverOptions = Optimization
 around SolverOption = SolverOptions
 
@@ -58,6 +65,7 @@ abbrev pub tests : Kind Place → List Refusal
 tests (begins OtherRoot as') = Root ∷ []
 tests (begins (To JobId) as') = JobTwice ∷ []
 tests (begins (To MaxTime) as') = TimeTwice ∷ BadUnit ∷ []
+tests (begins (To Var) as') = BadIndex ∷ IndexTwice ∷ BadValue ∷ []
 tests (begins (To SolverOption) as') = BadLimit ∷ []
 tests (ends JobId) = LongJob ∷ []
 tests (ends MaxTime) = BadTime ∷ []
@@ -67,13 +75,16 @@ abbrev pub attributes : Kind Place → List Attribute
 attributes (begins l as') = as'
 attributes k = []
 
--- WHEN EACH TEST FAILS: always; a `jobID` has begun before; a `maxTime` has; its unit isn't one of those that are read; its characters are no time; an option of a limit has no value that is an amount that the limit may have; the job's name, without the white space round it, has more than 256 bytes
+-- WHEN EACH TEST FAILS: always; a `jobID` has begun before; a `maxTime` has; its unit isn't one of those that are read; its characters are no time; a first value has no index that a variable may have; another one had it before; it has no value that is a number; an option of a limit has no value that is an amount that the limit may have; the job's name, without the white space round it, has more than 256 bytes
 abbrev pub Fails : State → Kind Place → Refusal → Type 0
 Fails s k Root = Unit {0}
 Fails s k JobTwice = 0 < s.job_at
 Fails s k TimeTwice = 0 < s.time_at
 Fails s k BadUnit = unit_named (value_of (codes "unit") (attributes k)) ≡ None
 Fails s k BadTime = (x : Frac) → SaysTime s.unit s.text x → ⊥
+Fails s k BadIndex = (n : ℕ) → SaysIndex (attributes k) n → ⊥
+Fails s k IndexTwice = (n : ℕ) × SaysIndex (attributes k) n × HasFirst s.options.first n
+Fails s k BadValue = (x : Frac) → SaysValue (attributes k) x → ⊥
 Fails s k BadLimit = (l : Limit) × IsOption l (attributes k) × ((n : ℕ) → SaysAmount l (attributes k) n → ⊥)
 Fails s k LongJob = 256 < length (trimmed s.text)
 
@@ -94,6 +105,7 @@ into s p = record s { place = p; count = s.count + 1 }
 abbrev pub Begins : State → List Attribute → Led Place → State → Type 0
 Begins s as' (To JobId) z = z ≡ record (into s JobId) { job_at = s.count + 1; text = [] }
 Begins s as' (To MaxTime) z = (n : ℕ) × (unit_named (value_of (codes "unit") as') ≡ Some n) × (z ≡ record (into s MaxTime) { time_at = s.count + 1; unit = n; text = [] })
+Begins s as' (To Var) z = (n : ℕ) × (x : Frac) × SaysIndex as' n × SaysValue as' x × (z ≡ record (into s Var) { options = with_first s.options n x })
 Begins s as' (To SolverOption) z = (o : Options) × SaysOption as' s.options o × (z ≡ record (into s SolverOption) { options = o })
 Begins s as' (To p) z = z ≡ into s p
 Begins s as' OtherRoot z = ⊥

@@ -1,8 +1,9 @@
 -- The document that options are written as (Optimization Services option language), and its text.
-use Rattle.std.specs.Prelude.{ℕ, Bool, filter, not, ◌==◌, ◌||◌, Option, None, Some, List, [], ◌∷◌, codes}
+use Rattle.std.specs.Prelude.{ℕ, ◌+◌, Bool, filter, not, ◌==◌, ◌||◌, Option, None, Some, List, [], ◌∷◌, codes}
 use Rattle.tree_grammar.specs.Elements as tree
 use Rattle.tree_grammar.specs.Elements.{none, element, Element}
 use Rattle.tree_grammar.specs.WrittenText.{written}
+use Rattle.std.specs.Fmt.{decimal}
 use Rattle.fraction.specs.Frac.{ratio}
 use Rattle.fraction.specs.declared.frac.Frac.{Frac}
 use Rattle.decimal_text.specs.Exact.{ratio_text}
@@ -21,6 +22,19 @@ job_nodes (Some job) more = group (codes "general") (leaf (codes "jobID") job no
 abbrev pub time_nodes : Option Frac → tree.Nodes → tree.Nodes
 time_nodes None more = more
 time_nodes (Some s) more = group (codes "job") (leaf (codes "maxTime") (ratio_text (ratio s)) none) more
+
+-- the first value of variable n, if there is one, and then more; those of the variables from n on; and the list of all, if there is one, and then more
+abbrev pub value_nodes : ℕ → Option Frac → tree.Nodes → tree.Nodes
+value_nodes n None more = more
+value_nodes n (Some x) more = element (codes "var") (with_attribute (codes "idx") (decimal n) (with_attribute (codes "value") (ratio_text (ratio x)) [])) none more
+
+abbrev pub values_nodes : ℕ → List (Option Frac) → tree.Nodes
+values_nodes n [] = none
+values_nodes n (v ∷ vs) = value_nodes n v (values_nodes (n + 1) vs)
+
+abbrev pub first_nodes : Option (List (Option Frac)) → tree.Nodes → tree.Nodes
+first_nodes None more = more
+first_nodes (Some vs) more = group (codes "variables") (group (codes "initialVariableValues") (values_nodes 0 vs) none) more
 
 -- the option of a limit is written always, or where the amount isn't the one that the limit has without it
 abbrev pub is_told : Options → Limit → Bool
@@ -43,7 +57,7 @@ abbrev pub limit_nodes : Options → tree.Nodes
 limit_nodes o = option_nodes o (told_limits o)
 
 abbrev pub options_nodes : Options → tree.Nodes
-options_nodes o = job_nodes o.job (time_nodes o.seconds (group (codes "optimization") (group (codes "solverOptions") (limit_nodes o) none) none))
+options_nodes o = job_nodes o.job (time_nodes o.seconds (group (codes "optimization") (first_nodes o.first (group (codes "solverOptions") (limit_nodes o) none)) none))
 
 -- the root that options are written as
 abbrev pub options_element : Options → Element

@@ -18,6 +18,12 @@ pub enum Refusal {
     BadUnit,
     /// The time isn't a number from 0 on, or is past 2^63 - 1 seconds.
     BadTime,
+    /// A first value's index is wanting, isn't a count, or is past the last variable that an instance may have.
+    BadIndex,
+    /// There is a further first value of this index.
+    IndexTwice,
+    /// A first value is wanting, or isn't a number that fits.
+    BadValue,
     /// The value of a limit's option is wanting, isn't a count, or of the form one of its words, or isn't one that the limit may have.
     BadLimit,
     /// The job's name, without the white space round it, has more than 256 bytes.
@@ -48,6 +54,9 @@ impl fmt::Display for Refusal {
             Refusal::TimeTwice => write!(f, "TimeTwice"),
             Refusal::BadUnit => write!(f, "BadUnit"),
             Refusal::BadTime => write!(f, "BadTime"),
+            Refusal::BadIndex => write!(f, "BadIndex"),
+            Refusal::IndexTwice => write!(f, "IndexTwice"),
+            Refusal::BadValue => write!(f, "BadValue"),
             Refusal::BadLimit => write!(f, "BadLimit"),
             Refusal::LongJob => write!(f, "LongJob"),
         }

@@ -20,6 +20,7 @@ mod reading;
 mod standing;
 mod texts;
 mod times;
+mod values;
 mod writing;
 
 pub use fault::{OsolFault, Refusal};
@@ -31,4 +32,5 @@ pub use options::Options;
 pub use reading::decode;
 pub use texts::refusal_text;
 pub use times::whole_seconds;
+pub use values::Values;
 pub use writing::encode;

@@ -1,17 +1,20 @@
 //! What a job asks for beside its instance.
 
 use crate::limit::Limit;
+use crate::values::{Values, is_said, with_value};
 use fraction::Frac;
-use os_io::Text;
+use os_io::{Memory, Text};
+use std::alloc::Global;
 
-/// The job's name, if it has one, for how many seconds it may be searched, if that is limited, and how much may be done for it: so many nodes of the tree of cases, 1 to 1,000,000,
-/// so many turns of the simplex method, 1 to 100,000,000, and so many rows that rounds add, 0 to 100. The values of its
+/// The job's name, if it has one, for how many seconds it may be searched, if that is limited, the values of the point that the search
+/// begins with, if any, and how much may be done for it: so many nodes of the tree of cases, 1 to 1,000,000, so many turns of the simplex method, 1 to 100,000,000, and so many rows that rounds add, 0 to 100. The values of its
 /// result are told with names where `names` is 1, and without them where it is 0; its certificate is told with multipliers
 /// of rows alone where `form` is 1 and the checker accepts it so, else whole.
 #[derive(Drop)]
 pub struct Options {
     pub job: Option<Text>,
     pub seconds: Option<Frac>,
+    pub first: Option<Values>,
     pub nodes: u32,
     pub turns: u32,
     pub rounds: u32,
@@ -20,17 +23,19 @@ pub struct Options {
 }
 
 impl Options {
-    ghost use Rattle.std.specs.Prelude.{◌≡◌};
+    ghost use Rattle.std.specs.Prelude.{◌≡◌, ◌↔◌, IsTrue, OnOk};
+    ghost use Rattle.osol_grammar.specs.FirstValues as values_said;
     ghost use Rattle.osol_grammar.specs.Options as said;
     ghost use Rattle.osol_grammar.specs.Meaning.{IsNoOptions};
 
-    /// No options: no job's name, no time, 10,000 nodes, 1,000,000 turns, no rounds, no names, and the whole form.
+    /// No options: no job's name, no time, no first values, 10,000 nodes, 1,000,000 turns, no rounds, no names, and the whole form.
     pub fn none() -> Options
         ensures { IsNoOptions result }
     {
         Options {
             job: None,
             seconds: None,
+            first: None,
             nodes: Limit::Nodes.row().default,
             turns: Limit::Turns.row().default,
             rounds: Limit::Rounds.row().default,
@@ -50,6 +55,33 @@ impl Options {
             Limit::Names => self.names,
             Limit::Form => self.form,
         }
+    }
+
+    /// Whether a first value of this index is said.
+    pub(crate) fn has_first(&self, index: usize) -> bool
+        ensures { IsTrue result ↔ values_said.HasFirst self.now.first index }
+    {
+        match &self.first {
+            Some(values) => is_said(values.as_slice(), index),
+            None => false,
+        }
+    }
+
+    /// Says a first value.
+    pub(crate) fn set_first(
+        &mut self,
+        alloc: Global,
+        index: usize,
+        value: Frac,
+    ) -> Result<(), Memory>
+        ensures { OnOk result (self.new ≡ said.with_first self.old index value) }
+    {
+        let values = match self.first.take() {
+            Some(values) => values,
+            None => Values::new(alloc),
+        };
+        self.first = Some(with_value(values, index, value)?);
+        Ok(())
     }
 
     /// Sets a limit.

@@ -17,6 +17,9 @@ pub(crate) enum Place {
     Job,
     MaxTime,
     Optimization,
+    Variables,
+    InitialValues,
+    Var,
     SolverOptions,
     SolverOption,
 }
@@ -43,19 +46,32 @@ pub(crate) fn leads(place: Place, name: &[u8]) -> Led<Place>
         }
         Place::General => named(name, b"jobID", Led::To(Place::JobId), Led::Over),
         Place::Job => named(name, b"maxTime", Led::To(Place::MaxTime), Led::Over),
-        Place::Optimization => named(
+        Place::Optimization => {
+            if name == b"variables".as_slice() {
+                Led::To(Place::Variables)
+            } else {
+                named(
+                    name,
+                    b"solverOptions",
+                    Led::To(Place::SolverOptions),
+                    Led::Over,
+                )
+            }
+        }
+        Place::Variables => named(
             name,
-            b"solverOptions",
-            Led::To(Place::SolverOptions),
+            b"initialVariableValues",
+            Led::To(Place::InitialValues),
             Led::Over,
         ),
+        Place::InitialValues => named(name, b"var", Led::To(Place::Var), Led::Over),
         Place::SolverOptions => named(
             name,
             b"solverOption",
             Led::To(Place::SolverOption),
             Led::Over,
         ),
-        Place::JobId | Place::MaxTime | Place::SolverOption => Led::Over,
+        Place::JobId | Place::MaxTime | Place::Var | Place::SolverOption => Led::Over,
     }
 }
 
@@ -68,7 +84,9 @@ pub(crate) fn around(place: Place) -> Place
         Place::General | Place::Job | Place::Optimization => Place::Osol,
         Place::JobId => Place::General,
         Place::MaxTime => Place::Job,
-        Place::SolverOptions => Place::Optimization,
+        Place::Variables | Place::SolverOptions => Place::Optimization,
+        Place::InitialValues => Place::Variables,
+        Place::Var => Place::InitialValues,
         Place::SolverOption => Place::SolverOptions,
     }
 }

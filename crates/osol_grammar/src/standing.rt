@@ -16,6 +16,7 @@ use crate::fault::Refusal;
 use crate::options::Options;
 use crate::place::{Place, around, leads};
 use crate::times::{time_of, unit_of};
+use crate::values::{index_of, value_of};
 use decimal_text::trim;
 use element_tree::Attributes;
 use os_io::{Memory, Text};
@@ -126,6 +127,29 @@ impl Standing {
         Ok(())
     }
 
+    /// Goes past a start tag `var` of first values.
+    fn begin_value(
+        &mut self,
+        alloc: Global,
+        attributes: &Attributes<'_>,
+    ) -> Result<(), Stop<Refused>>
+        requires { self.old.count + 1 < 2 ^ 64 }
+        ensures { StepsAs by_kinds self.old (begins (leading.To places.Var) attributes.now) self.new result }
+    {
+        let Some(index) = index_of(attributes) else {
+            return Err(self.refused(Refusal::BadIndex));
+        };
+        if self.options.has_first(index) {
+            return Err(self.refused(Refusal::IndexTwice));
+        }
+        let Some(value) = value_of(attributes) else {
+            return Err(self.refused(Refusal::BadValue));
+        };
+        self.options.set_first(alloc, index, value)?;
+        self.go(Place::Var);
+        Ok(())
+    }
+
     /// Goes past a start tag `solverOption`.
     fn begin_option(&mut self, attributes: &Attributes<'_>) -> Result<(), Stop<Refused>>
         requires { self.old.count + 1 < 2 ^ 64 }
@@ -155,7 +179,12 @@ impl Standing {
     }
 
     /// Goes past a start tag that leads there.
-    fn begin(&mut self, led: Led<Place>, attributes: &Attributes<'_>) -> Result<(), Stop<Refused>>
+    fn begin(
+        &mut self,
+        alloc: Global,
+        led: Led<Place>,
+        attributes: &Attributes<'_>,
+    ) -> Result<(), Stop<Refused>>
         requires { self.old.count + 1 < 2 ^ 64 }
         ensures { StepsAs by_kinds self.old (begins led attributes.now) self.new result }
     {
@@ -163,12 +192,15 @@ impl Standing {
             Led::To(place) => match place {
                 Place::JobId => self.begin_job(attributes),
                 Place::MaxTime => self.begin_time(attributes),
+                Place::Var => self.begin_value(alloc, attributes),
                 Place::SolverOption => self.begin_option(attributes),
                 Place::Outside
                 | Place::Osol
                 | Place::General
                 | Place::Job
                 | Place::Optimization
+                | Place::Variables
+                | Place::InitialValues
                 | Place::SolverOptions => {
                     self.go(place);
                     Ok(())
@@ -230,6 +262,9 @@ impl Standing {
             | Place::General
             | Place::Job
             | Place::Optimization
+            | Place::Variables
+            | Place::InitialValues
+            | Place::Var
             | Place::SolverOptions
             | Place::SolverOption => {
                 self.place = around(place);
@@ -259,7 +294,7 @@ impl MarkReader<Refused> for Standing {
 
     fn enter(
         &mut self,
-        _alloc: Global,
+        alloc: Global,
         name: &[u8],
         attributes: &Attributes<'_>,
     ) -> Result<(), Stop<Refused>> {
@@ -267,7 +302,7 @@ impl MarkReader<Refused> for Standing {
             return Err(Stop::Memory);
         }
         let led = led_from(self.depth, leads(self.place, name));
-        self.begin(led, attributes)
+        self.begin(alloc, led, attributes)
     }
 
     fn chars(&mut self, _alloc: Global, text: &[u8]) -> Result<(), Stop<Refused>> {

@@ -35,7 +35,7 @@ pub(crate) fn unit_of(attributes: &Attributes<'_>) -> Option<u32>
 }
 
 /// The number that a text is.
-fn read_amount(text: &[u8]) -> Option<Frac>
+pub(crate) fn read_amount(text: &[u8]) -> Option<Frac>
     ensures { MatchOption result ((x : fractions.Frac) → IsAmount text.now x → ⊥) (λ x. IsAmount text.now x) }
 {
     match read_ratio(text) {

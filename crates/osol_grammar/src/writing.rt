@@ -8,6 +8,7 @@ ghost use Rattle.osol_grammar.specs.Writing as writing;
 
 use crate::limit::{LIMITS, Limit};
 use crate::options::Options;
+use crate::values::Values;
 use decimal_text::write_ratio;
 use document_tags::{attribute, close, leaf, open, open_after, open_with, told_text};
 use element_tree::TreeBuilder;
@@ -42,6 +43,53 @@ fn tell_time(alloc: Global, b: &mut TreeBuilder, seconds: Option<Frac>) -> Resul
     open(b, b"job")?;
     leaf(b, b"maxTime", text.as_slice())?;
     close(b, b"job")
+}
+
+/// Tells the first value of a variable, if there is one.
+fn tell_value(
+    alloc: Global,
+    b: &mut TreeBuilder,
+    index: usize,
+    value: Option<Frac>,
+) -> Result<(), Memory>
+    requires { b.old.attributes ≡ [] }
+    ensures { OnOk result (Told b.old b.new (λ k. nodes_events (writing.value_nodes index value none) k)) }
+{
+    let Some(value) = value else {
+        return Ok(());
+    };
+    let mut text = Text::new(alloc);
+    write_ratio(value, &mut text)?;
+    let mut number = Buffer::new();
+    attribute(b, b"idx", number.format(index).as_bytes())?;
+    open_after(b, b"var", b"value", text.as_slice())?;
+    close(b, b"var")
+}
+
+/// Tells the first values of all variables that have one.
+fn tell_values(alloc: Global, b: &mut TreeBuilder, values: &[Option<Frac>]) -> Result<(), Memory>
+    requires { b.old.attributes ≡ [] }
+    ensures { OnOk result (Told b.old b.new (nodes_events (writing.values_nodes 0 values.now))) }
+{
+    for index in 0..values.len() {
+        tell_value(alloc, b, index, values[index])?;
+    }
+    Ok(())
+}
+
+/// Tells the first values, if there are any.
+fn tell_first(alloc: Global, b: &mut TreeBuilder, first: &Option<Values>) -> Result<(), Memory>
+    requires { b.old.attributes ≡ [] }
+    ensures { OnOk result (Told b.old b.new (λ k. nodes_events (writing.first_nodes first.now none) k)) }
+{
+    let Some(first) = first else {
+        return Ok(());
+    };
+    open(b, b"variables")?;
+    open(b, b"initialVariableValues")?;
+    tell_values(alloc, b, first.as_slice())?;
+    close(b, b"initialVariableValues")?;
+    close(b, b"variables")
 }
 
 /// Whether the option of a limit is written.
@@ -109,6 +157,7 @@ fn tell_options(alloc: Global, b: &mut TreeBuilder, options: &Options) -> Result
     tell_job(b, &options.job)?;
     tell_time(alloc, b, options.seconds)?;
     open(b, b"optimization")?;
+    tell_first(alloc, b, &options.first)?;
     open(b, b"solverOptions")?;
     tell_limits(b, options)?;
     close(b, b"solverOptions")?;
@@ -116,8 +165,8 @@ fn tell_options(alloc: Global, b: &mut TreeBuilder, options: &Options) -> Result
     close(b, b"osol")
 }
 
-/// The text of options: a document with the namespace of the option language, the job's name and the time where there are any, and the
-/// option of each limit, those of rounds, of names and of the form only where they aren't as without them.
+/// The text of options: a document with the namespace of the option language, the job's name, the time and the first values where there are
+/// any, and the option of each limit, those of rounds, of names and of the form only where they aren't as without them.
 pub fn encode(alloc: Global, options: &Options) -> Result<Text, Memory>
     ensures { IfOk result (λ text. text ≡ writing.options_text options.now) }
 {

@@ -60,7 +60,7 @@ none_derived P l derived none (inl e) = inl e
 none_derived P l derived none (inr a) = inr (a, none)
 
 -- a level's first moment
-begun_holds : (P : Problem) (l : Level) (c : Clock) (best : Option Found) → IsLevel P l → ((f : Found) → best ≡ Some f → IsFound P l f) → (best ≡ None → l.shown ≡ []) → (P.later ≡ []) ⊎ All HasNoRounds l.shown
+pub begun_holds : (P : Problem) (l : Level) (c : Clock) (best : Option Found) → IsLevel P l → ((f : Found) → best ≡ Some f → IsFound P l f) → (best ≡ None → l.shown ≡ []) → (P.later ≡ []) ⊎ All HasNoRounds l.shown
     → Holds P (record { level = l; rounds = []; waiting = undivided l.program ∷ []; nodes = []; clock = c; best = best })
 begun_holds P l c best is found first rounds = record {
   level = is;

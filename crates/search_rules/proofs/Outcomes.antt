@@ -124,24 +124,19 @@ module _ (P : Problem) (t : Terms) (m : SearchMoment) (C : Case) (rest : List Ca
   goes_shown before (TooWide w) o d s e = given_shown P m h _ o d _ e
   goes_shown before Stopped o d s e = given_shown P m h _ o d _ e
 
+-- how a search ends from a moment
+pub next_shown : (P : Problem) (t : Terms) (m : SearchMoment) → Holds P m → (o : Outcome) (d : Clock) → IsNextInSearch P t m (Out o d) → IsShown P o
+next_shown P t m h o d (inl (none, c)) = closes_shown P m h none t o d m.best m.level.later refl refl c
+next_shown P t m h o d (inr (inl (some, b))) = stops_shown P m h t o d b
+next_shown P t m h o d (inr (inr v)) =
+    let C = v.visit.case in
+    let opened = this P C v.visit.rest m v.visit.is h in
+    goes_shown P t (record m { clock = v.clock }) C v.visit.rest v.visit.is (clocked P m v.clock h) (looked_once m.clock) v.end o d
+    (run_true C.program (is_some C.ray) t (looked_once m.clock) v.end v.clock opened.case.numbers v.visit.run) v.goes
+
 -- what a search's outcome says is shown
 pub outcome_shown : (P : Problem) (t : Terms) (o : Outcome) (d : Clock) → IsProblem P → Search P t o d → IsShown P o
-outcome_shown P t o d n s = by s.ends
-  where
-    m : SearchMoment
-    m = s.last
-
-    h : Holds P m
-    h = comes_hold P t n m s.comes
-
-    by : IsNextInSearch P t m (Out o d) → IsShown P o
-    by (inl (none, c)) = closes_shown P m h none t o d m.best m.level.later refl refl c
-    by (inr (inl (some, b))) = stops_shown P m h t o d b
-    by (inr (inr v)) =
-        let C = v.visit.case in
-        let opened = this P C v.visit.rest m v.visit.is h in
-        goes_shown P t (record m { clock = v.clock }) C v.visit.rest v.visit.is (clocked P m v.clock h) (looked_once m.clock) v.end o d
-        (run_true C.program (is_some C.ray) t (looked_once m.clock) v.end v.clock opened.case.numbers v.visit.run) v.goes
+outcome_shown P t o d n s = next_shown P t s.last (comes_hold P t n s.last s.comes) o d s.ends
 
 -- and so is the point that is answered where memory is wanting
 pub answer_shown : (P : Problem) (t : Terms) (o : Outcome) (d : Clock) → IsProblem P → IsSearchAnswer P t o d → IsShown P o

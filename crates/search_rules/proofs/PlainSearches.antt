@@ -8,8 +8,10 @@ use Rattle.simplex_rules.specs.Runs.{looked_once}
 use Rattle.simplex_rules.specs.declared.columns.Status.{Status}
 use Rattle.search_rules.specs.Branching.{Case}
 use Rattle.search_rules.specs.Cuts.{Trial, NoCut, WideCut, Cut, TriesBasis}
-use Rattle.search_rules.specs.Search.{Found, SearchMoment, To, undivided, next_level_at, Branches, TakesFound, TakesPoint, GoesFromTrial, GoesFrom, ClosesLevel, IsVisit, IsNextInSearch, ComesInSearch, begins, goes_on}
+use Rattle.search_rules.specs.Search.{Found, SearchMoment, To, undivided, next_level_at, Branches, TakesFound, TakesPoint, GoesFromTrial, GoesFrom, ClosesLevel, IsVisit, IsNextInSearch, ComesInSearch}
 use Rattle.search_rules.specs.Outcomes.{HaveOneRange, IsPlain}
+use Rattle.search_rules.specs.Beginnings.{ComesFrom, begins, goes_on}
+use Rattle.search_rules.proofs.FirstPoints.{comes_from_none}
 
 -- the level's own program is still to be searched, or nothing is
 abbrev pub IsEither : SearchMoment → Type 0
@@ -109,6 +111,9 @@ module _ (P : Problem) (t : Terms) (plain : IsPlain P.program) (ranges : HaveOne
   next_plain m n h (inr (inl (some, inr (within, stop, e)))) = absurd (cc)
   next_plain m n h (inr (inr v)) = let c = visit_closed m n h v in record { variables = ap (λ l. l.program.variables) c.0 ∙ h.variables; either = inr c.1 }
 
+  pub from_plain : (start : Option Found) (m : SearchMoment) → ComesFrom P t start m → IsPlainMoment P m
+  from_plain start m begins = record { variables = refl; either = inl refl }
+  from_plain start m (goes_on {m = before} c next) = next_plain before m (from_plain start before c) next
+
   pub comes_plain : (m : SearchMoment) → ComesInSearch P t m → IsPlainMoment P m
-  comes_plain m begins = record { variables = refl; either = inl refl }
-  comes_plain m (goes_on {m = before} c next) = next_plain before m (comes_plain before c) next
+  comes_plain m c = from_plain None m (comes_from_none P t m c)

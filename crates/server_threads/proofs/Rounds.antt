@@ -6,7 +6,7 @@ use Rattle.std.proofs.lemmas.List.Elements.{All-nil, All-cons, All-head, All-tai
 use Rattle.std.proofs.lemmas.List.Recursion.{is_sum_by}
 use Rattle.std.proofs.lemmas.List.Sorted.{IsPermutation-refl, IsPermutation-sym, IsPermutation-trans, IsPermutation-cons, IsPermutation-middle, IsPermutation-to_front, IsPermutation-append_right, IsPermutation-map, length_permutation, All-permutation, Contains-permutation, sum_by-IsPermutation}
 use Rattle.atomic_table.specs.Seated.{TableId}
-use Rattle.job_table.specs.History.{MoveEntry as Said}
+use Rattle.job_table.specs.History.{MoveEntry}
 use Rattle.os_io.specs.Streams.{Tells}
 use Rattle.os_io.specs.Links.{Comes, IsGivenBack}
 use Rattle.desk.specs.declared.view.SeatEntry.{SeatEntry}
@@ -89,7 +89,7 @@ module _ {A : Type 0} where
 -- ---- seats
 
 -- a seat made these moves, whichever of its histories are legal
-pub acts_by : {T : Type 0} {legal : List SeatEntry → Type 0} (holds : List Said → Type 0) (was seat : DeskSeat T) (said : List Said) → IsSeatOf was.table_id seat → AskedBy legal was.me.0 seat.me.0 said → holds said
+pub acts_by : {T : Type 0} {legal : List SeatEntry → Type 0} (holds : List MoveEntry → Type 0) (was seat : DeskSeat T) (said : List MoveEntry) → IsSeatOf was.table_id seat → AskedBy legal was.me.0 seat.me.0 said → holds said
     → Acts AnyHistory holds was seat
 acts_by holds was seat said is asked held = record {
   desk_is = is;
@@ -139,7 +139,7 @@ module _ {T : Type 0} (desk : TableId) where
   }
 
   -- one of the seats that are out was met
-  pub keeps_met : (legal : List SeatEntry → Type 0) (holds : List Said → Type 0) (v w after : View) (met : List Met) (s other : DeskSeat T) (out : List (DeskSeat T))
+  pub keeps_met : (legal : List SeatEntry → Type 0) (holds : List MoveEntry → Type 0) (v w after : View) (met : List Met) (s other : DeskSeat T) (out : List (DeskSeat T))
       → KeepsSeats desk v w met (s ∷ out) → (a : Acts legal holds s other) → Meets w other.me.0 after → KeepsSeats desk v after (met ++ record { seat = s.me.0.number; entries = by s.me.0.number a.said } ∷ []) out
   keeps_met legal holds v w after met s other out k a m =
       let n : ℕ = s.me.0.number in
@@ -254,7 +254,7 @@ find [] v k below is = absurd (omega arith)
 find (t ∷ ts) v zero below is = ([], t, ts, refl, is)
 find (t ∷ ts) v (suc k) below is = let f = find ts v k (omega arith) is in (t ∷ f.0, f.1, f.2, ap (λ (l : List LinkTalk). t ∷ l) f.3, f.4)
 
-module _ (talked : Tells → List Said → Tells → Bool → Type 0) where
+module _ (talked : Tells → List MoveEntry → Tells → Bool → Type 0) where
   abbrev HasTalked : LinkTalk → Type 0
   HasTalked t = talked t.came t.said t.back t.short
 
@@ -372,7 +372,7 @@ module _ (servers : ℕ) where
 
 -- ---- links that are being served
 
-module _ {J T L S B : Type 0} (legal : List SeatEntry → Type 0) (talked : Tells → List Said → Tells → Bool → Type 0) (tells : L → Tells) (servers : ℕ) (desk : TableId) (old : Stand) where
+module _ {J T L S B : Type 0} (legal : List SeatEntry → Type 0) (talked : Tells → List MoveEntry → Tells → Bool → Type 0) (tells : L → Tells) (servers : ℕ) (desk : TableId) (old : Stand) where
   abbrev Lasting : Stand → ℕ → List (Conversing J T L S B) → Type 0
   Lasting now short places = Going legal talked tells servers desk old now short places
 
@@ -457,7 +457,7 @@ module _ {J T L S B : Type 0} (legal : List SeatEntry → Type 0) (talked : Tell
       let all = g.keeps.given in let same = length-map g.talks talk_met in let least = short_fits g.talks in let is = g.shorts in omega arith
 
   -- the seat that was promised back is the desk's
-  pub seat_of_desk : (now : Stand) (short : ℕ) (places : List (Conversing J T L S B)) (place : Conversing J T L S B) (holds : List Said → Type 0) (seat : DeskSeat T) → Lasting now short (place ∷ places)
+  pub seat_of_desk : (now : Stand) (short : ℕ) (places : List (Conversing J T L S B)) (place : Conversing J T L S B) (holds : List MoveEntry → Type 0) (seat : DeskSeat T) → Lasting now short (place ∷ places)
       → Acts legal holds (promised place).seat.value seat → IsSeatOf desk seat
   seat_of_desk now short places place holds seat g a =
       let out : IsSplitOff desk (seat_out place) = All-head (IsSplitOff desk) (seat_out place) (map seat_out places) g.keeps.waits in
@@ -552,7 +552,7 @@ module _ {J T S : Type 0} (legal : List SeatEntry → Type 0) (made : List ℕ �
       }
 
   -- while they worked, other seats were split off and met
-  pub staffed_begins : {talked : Tells → List Said → Tells → Bool → Type 0} (u : View) (servers : ℕ) (old new : Stand) (count : ℕ) (places : List (Working J T S)) → (o : LinksServed talked servers old new) → v ≡ u → Hired legal made desk u old.view count places
+  pub staffed_begins : {talked : Tells → List MoveEntry → Tells → Bool → Type 0} (u : View) (servers : ℕ) (old new : Stand) (count : ℕ) (places : List (Working J T S)) → (o : LinksServed talked servers old new) → v ≡ u → Hired legal made desk u old.view count places
       → Staffed legal made desk v new.view count (map talk_met o.returned) places
   staffed_begins u servers old new count places o is hired =
       let h = subst (λ (z : View). Hired legal made desk z old.view count places) (sym is) hired in
@@ -574,7 +574,7 @@ module _ {J T S : Type 0} (legal : List SeatEntry → Type 0) (made : List ℕ �
         counted = let all = h.counted in omega arith;
       }
 
-  pub worker_of_desk : (w : View) (count : ℕ) (met : List Met) (items rest : List (Working J T S)) (place : Working J T S) (holds : List Said → Type 0) (seat : DeskSeat T) → Staffed legal made desk v w count met items
+  pub worker_of_desk : (w : View) (count : ℕ) (met : List Met) (items rest : List (Working J T S)) (place : Working J T S) (holds : List MoveEntry → Type 0) (seat : DeskSeat T) → Staffed legal made desk v w count met items
       → items ≡ place ∷ rest → Acts legal holds (shift_promised place).seat.value seat → IsSeatOf desk seat
   worker_of_desk w count met items rest place holds seat s is a =
       let went = subst (λ (l : List (Working J T S)). Staffed legal made desk v w count met l) is s in
@@ -623,7 +623,7 @@ module _ {J T S : Type 0} (legal : List SeatEntry → Type 0) (made : List ℕ �
       }
 
 -- workers came, links were served, and the workers left
-pub serves : {J T S : Type 0} (legal : List SeatEntry → Type 0) (made : List ℕ → List ℕ → List Bool → Option (List ℕ) → Type 0) (talked : Tells → List Said → Tells → Bool → Type 0) (desk : TableId) (v : View) (servers : ℕ) (old staffed served new : Stand) (count : ℕ) (places : List (Working J T S))
+pub serves : {J T S : Type 0} (legal : List SeatEntry → Type 0) (made : List ℕ → List ℕ → List Bool → Option (List ℕ) → Type 0) (talked : Tells → List MoveEntry → Tells → Bool → Type 0) (desk : TableId) (v : View) (servers : ℕ) (old staffed served new : Stand) (count : ℕ) (places : List (Working J T S))
     → v ≡ old.view → Hired legal made desk old.view staffed.view count places → staffed.coming ≡ old.coming → staffed.given_back ≡ old.given_back → staffed.reached ≡ old.reached → (o : LinksServed talked servers staffed served)
     → HaveLeft made v new.view count (map talk_met o.returned) → StartsWith new.view.seen served.view.seen → new.coming ≡ served.coming → new.given_back ≡ served.given_back → new.reached ≡ served.reached → ServesLinks made talked servers count old new o.links
 serves {J} {T} {S} legal made talked desk v servers old staffed served new count places is h coming back reached o left later coming' back' reached' =
@@ -654,13 +654,13 @@ serves {J} {T} {S} legal made talked desk v servers old staffed served new count
     }
 
 -- of the links that were served it is known how many they are, by the seats that were split off
-ends : {X E : Type 0} (talked : Tells → List Said → Tells → Bool → Type 0) (servers : ℕ) (old served : Stand) (came : Result X E) (short connections faults faults' : ℕ) → (o : LinksServed talked servers old served) → short ≡ short_of o.links
+ends : {X E : Type 0} (talked : Tells → List MoveEntry → Tells → Bool → Type 0) (servers : ℕ) (old served : Stand) (came : Result X E) (short connections faults faults' : ℕ) → (o : LinksServed talked servers old served) → short ≡ short_of o.links
     → CameSo came connections old.view.given served.view.given faults faults' → EndsServing (served_result came short) connections o.links faults faults'
 ends talked servers old served (Ok x) short connections faults faults' o shorts c = (shorts, (let all = o.given in let is = c.0 in omega arith), c.1)
 ends talked servers old served (Err e) short connections faults faults' o shorts c = (let all = o.given in let is = c.0 in omega arith, c.1)
 
 -- all links that came were served
-pub links_served : {X E : Type 0} (talked : Tells → List Said → Tells → Bool → Type 0) (servers : ℕ) (begun old served : Stand) (came : Result X E) (short connections seats faults faults' faults'' : ℕ) (answer : Result ℕ ServeFault) → begun ≡ old
+pub links_served : {X E : Type 0} (talked : Tells → List MoveEntry → Tells → Bool → Type 0) (servers : ℕ) (begun old served : Stand) (came : Result X E) (short connections seats faults faults' faults'' : ℕ) (answer : Result ℕ ServeFault) → begun ≡ old
     → (over : (o : LinksServed talked servers begun served) × (short ≡ short_of o.links)) → CameSo came connections old.view.given seats faults faults' → served.view.given ≡ seats → faults'' ≡ faults' → answer ≡ served_result came short
     → (o : LinksServed talked servers old served) × EndsServing answer connections o.links faults faults''
 links_served talked servers begun old served came short connections seats faults faults' faults'' answer start over c given same is =
@@ -671,7 +671,7 @@ links_served talked servers begun old served came short connections seats faults
     )
 
 -- where there was no room, nothing was served
-pub serves_none : (made : List ℕ → List ℕ → List Bool → Option (List ℕ) → Type 0) (talked : Tells → List Said → Tells → Bool → Type 0) (servers count : ℕ) (old : Stand) → ServesLinks made talked servers count old old []
+pub serves_none : (made : List ℕ → List ℕ → List Bool → Option (List ℕ) → Type 0) (talked : Tells → List MoveEntry → Tells → Bool → Type 0) (servers count : ℕ) (old : Stand) → ServesLinks made talked servers count old old []
 serves_none made talked servers count old = record {
   shifts = [];
   returned = [];

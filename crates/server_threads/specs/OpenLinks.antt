@@ -2,7 +2,7 @@
 use Rattle.std.specs.Prelude.{◌≡◌, ℕ, ◌+◌, ◌<◌, ◌≤◌, ◌^◌, Bool, List, [], ◌∷◌, ◌++◌, length, map, All, Contains, IsPermutation, Option, Result, Ok, Err}
 use Rattle.std.specs.VecDeque.{deque_len, deque_capacity}
 use Rattle.atomic_table.specs.Seated.{TableId}
-use Rattle.job_table.specs.History.{MoveEntry as Said}
+use Rattle.job_table.specs.History.{MoveEntry}
 use Rattle.os_io.specs.Streams.{Tells, HasRisen}
 use Rattle.os_io.specs.Links.{NetTells}
 use Rattle.desk.specs.declared.view.SeatEntry.{SeatEntry}
@@ -81,7 +81,7 @@ module _ {J T L S B : Type 0} where
   abbrev pub number_out : Conversing J T L S B → ℕ
   number_out place = (seat_out place).me.0.number
 
-  module _ (legal : List SeatEntry → Type 0) (talked : Tells → List Said → Tells → Bool → Type 0) (tells : L → Tells) where
+  module _ (legal : List SeatEntry → Type 0) (talked : Tells → List MoveEntry → Tells → Bool → Type 0) (tells : L → Tells) where
     abbrev pub visit_out : Conversing J T L S B → Visit
     visit_out place = (number_out place, tells (promised place).link.value)
 
@@ -127,7 +127,7 @@ module _ {E J T N L R S B : Type 0} where
     pub faults : (net_tells net').faults ≡ (net_tells net).faults
 
 -- links came in this order, were served, each by a seat of its own, and were given back, perhaps in another order, so that none is being served any more
-pub record LinksServed (talked : Tells → List Said → Tells → Bool → Type 0) (servers : ℕ) (old new : Stand) : Type 0 where
+pub record LinksServed (talked : Tells → List MoveEntry → Tells → Bool → Type 0) (servers : ℕ) (old new : Stand) : Type 0 where
   pub links : List LinkTalk
   pub returned : List LinkTalk
   pub all_back : IsPermutation links returned
@@ -144,7 +144,7 @@ pub record LinksServed (talked : Tells → List Said → Tells → Bool → Type
   pub known : HasMet new.view.seen (map talk_met returned)
 
 -- links were served beside the workers: from this seat and listener to those, with this answer
-abbrev pub HasServedLinks : {T N : Type 0} → (talked : Tells → List Said → Tells → Bool → Type 0) → (N → NetTells) → ServeLimits → (seat seat' : DeskSeat T) → (net net' : N) → Result ℕ ServeFault → Type 0
+abbrev pub HasServedLinks : {T N : Type 0} → (talked : Tells → List MoveEntry → Tells → Bool → Type 0) → (N → NetTells) → ServeLimits → (seat seat' : DeskSeat T) → (net net' : N) → Result ℕ ServeFault → Type 0
 HasServedLinks talked tells limits seat seat' net net' answer =
     (o : LinksServed talked limits.servers (stand tells seat net) (stand tells seat' net')) × EndsServing answer limits.connections o.links (tells net).faults (tells net').faults
 

@@ -1,6 +1,6 @@
 -- What serving does to the first seat and to the listener.
 use Rattle.std.specs.Prelude.{◌≡◌, ◌⊎◌, ℕ, ◌+◌, ◌≤◌, ◌<◌, Bool, List, [], ◌∷◌, ◌++◌, length, map, All, Contains, IsPermutation, vec_len, Option, Some, None, Result, Ok, Err}
-use Rattle.job_table.specs.History.{MoveEntry as Said}
+use Rattle.job_table.specs.History.{MoveEntry}
 use Rattle.os_io.specs.Streams.{Tells, HasRisen}
 use Rattle.os_io.specs.Links.{Reached, NetTells}
 use Rattle.desk.specs.declared.view.View.{View}
@@ -55,7 +55,7 @@ pub record Opens (servers : ℕ) (log : List SeatEntry) (links : List LinkTalk) 
 abbrev pub AtOnce : (servers : ℕ) → List SeatEntry → List LinkTalk → Type 0
 AtOnce servers log links = All (λ t. (seen : List SeatEntry) × Opens servers log links t.seat seen) links
 
-module _ (made : List ℕ → List ℕ → List Bool → Option (List ℕ) → Type 0) (talked : Tells → List Said → Tells → Bool → Type 0) where
+module _ (made : List ℕ → List ℕ → List Bool → Option (List ℕ) → Type 0) (talked : Tells → List MoveEntry → Tells → Bool → Type 0) where
   -- the links came in this order, and were given back, perhaps in another. The seat met one seat for each link, as the link was given back, and
   -- at most so many workers' seats; it has seen all their moves, and made none itself
   pub record ServesLinks (servers workers : ℕ) (old new : Stand) (links : List LinkTalk) : Type 0 where
@@ -84,7 +84,7 @@ EndsServing (Err Failed) connections links faults faults' = (length links < conn
 EndsServing (Err Memory) connections links faults faults' = (links ≡ []) × (faults' ≡ faults)
 
 -- links and workers served: from this seat and listener to those, within these limits, with this answer
-abbrev pub HasServed : {T N : Type 0} → (made : List ℕ → List ℕ → List Bool → Option (List ℕ) → Type 0) → (talked : Tells → List Said → Tells → Bool → Type 0) → (N → NetTells) → ServeLimits → (seat seat' : DeskSeat T) → (net net' : N)
+abbrev pub HasServed : {T N : Type 0} → (made : List ℕ → List ℕ → List Bool → Option (List ℕ) → Type 0) → (talked : Tells → List MoveEntry → Tells → Bool → Type 0) → (N → NetTells) → ServeLimits → (seat seat' : DeskSeat T) → (net net' : N)
     → Result ℕ ServeFault → Type 0
 HasServed made talked tells limits seat seat' net net' answer =
     (links : List LinkTalk) × ServesLinks made talked limits.servers limits.workers (stand tells seat net) (stand tells seat' net') links × EndsServing answer limits.connections links (tells net).faults (tells net').faults

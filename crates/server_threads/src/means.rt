@@ -15,7 +15,7 @@ use std::alloc::Global;
 use std::collections::VecDeque;
 use std::sync::atomic::AtomicU64;
 use thiserror::Error;
-use workers::{Naps, Wake, wake_pair};
+use workers::{Wake, WakeSignals, wake_pair};
 
 /// Serving ended before all links were served.
 #[derive(Clone, Copy, PartialEq, Eq, Debug, Drop, Error)]
@@ -46,7 +46,7 @@ pub(crate) struct Means<'s, J: Verdicts, T: Slotted<J>, R, S> {
     pub(crate) alloc: Global,
     pub(crate) desk: &'s DeskOf<J, T>,
     pub(crate) service: &'s S,
-    pub(crate) naps: &'s Naps,
+    pub(crate) signals: &'s WakeSignals,
     /// Where a thread that served a link says, as its last act, which place becomes free.
     pub(crate) leaving: &'s Sender<usize>,
     /// The number of the worker that couldn't be started last.
@@ -64,7 +64,7 @@ impl<'s, J: Verdicts, T: Slotted<J>, R, S> Means<'s, J, T, R, S> {
             alloc,
             desk,
             service,
-            naps,
+            signals,
             leaving,
             missing,
             limits,
@@ -74,7 +74,7 @@ impl<'s, J: Verdicts, T: Slotted<J>, R, S> Means<'s, J, T, R, S> {
             alloc,
             desk,
             service,
-            naps,
+            signals,
             leaving,
             missing,
             limits,
@@ -111,7 +111,7 @@ impl<J: Verdicts, T: Slotted<J>, L: Link + Drop, S: Service<J>> Room<J, T, L, S>
     pub(crate) fn new(
         alloc: Global,
         limits: &ServeLimits,
-    ) -> Result<(Room<J, T, L, S>, Naps, Sender<usize>), Memory>
+    ) -> Result<(Room<J, T, L, S>, WakeSignals, Sender<usize>), Memory>
         requires { 0 < limits.now.servers }
         ensures { IfOk result (λ r. MayServe limits.now r.0) }
     {
@@ -119,7 +119,7 @@ impl<J: Verdicts, T: Slotted<J>, L: Link + Drop, S: Service<J>> Room<J, T, L, S>
         let (places, free) = free_places(alloc, servers)?;
         let shifts = VecDeque::with_capacity(alloc, limits.workers as usize)?;
         let (leaving, left) = bounded(alloc, servers)?;
-        let (wake, naps) = wake_pair(alloc)?;
+        let (wake, signals) = wake_pair(alloc)?;
         let running = Running {
             places,
             free,
@@ -131,6 +131,6 @@ impl<J: Verdicts, T: Slotted<J>, L: Link + Drop, S: Service<J>> Room<J, T, L, S>
             shifts,
             wake,
         };
-        Ok((room, naps, leaving))
+        Ok((room, signals, leaving))
     }
 }

@@ -101,7 +101,7 @@ where
     ensures seat { IsSeatOf (desk_id desk.now) result.0 }
     ensures served { HasServed S.ran (S.talked Untold) N.tells limits seat result.0 net.old net.new result.1 }
 {
-    let Ok((room, naps, leaving)) = Room::new(alloc, &limits) else {
+    let Ok((room, signals, leaving)) = Room::new(alloc, &limits) else {
         return (seat, Err(ServeFault::Memory));
     };
     let missing = AtomicU64::new(u64::MAX);
@@ -110,7 +110,7 @@ where
         alloc,
         desk,
         service,
-        naps: &naps,
+        signals: &signals,
         leaving: &leaving,
         missing: &missing,
         limits,

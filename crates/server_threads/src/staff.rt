@@ -23,7 +23,7 @@ use std::sync::Wait;
 use std::sync::atomic::AtomicU64;
 use std::sync::atomic::Ordering::SeqCst;
 use std::thread::{Scope, Threads};
-use workers::{Naps, OpenGate, work_loop};
+use workers::{OpenGate, WakeSignals, work_loop};
 
 /// The workers that are at work, in the order in which they came.
 pub(crate) type Shifts<J, T, S> = VecDeque<Started<SeatOf<T>, ToWork<J, T, S>>>;
@@ -33,7 +33,7 @@ fn work_by<J: Verdicts, T: Slotted<J>, R: Wait, S: Service<J>>(
     rt: &R,
     alloc: Global,
     desk: &DeskOf<J, T>,
-    naps: &Naps,
+    signals: &WakeSignals,
     missing: &AtomicU64,
     service: &S,
     mut seat: SeatOf<T>,
@@ -45,7 +45,7 @@ fn work_by<J: Verdicts, T: Slotted<J>, R: Wait, S: Service<J>>(
     if missing.load(SeqCst) == number {
         return seat;
     }
-    work_loop(rt, alloc, desk, &mut seat, naps, service, &mut OpenGate);
+    work_loop(rt, alloc, desk, &mut seat, signals, service, &mut OpenGate);
     seat
 }
 
@@ -72,7 +72,7 @@ fn hire<
         alloc,
         desk,
         service,
-        naps,
+        signals,
         missing,
         ..
     } = *means;
@@ -89,7 +89,7 @@ fn hire<
     let work = move || -> SeatOf<T>
         requires { IsSeatOf (desk_id desk.now) seat }
         ensures { Acts AnyHistory (IsShift S.ran) seat result }
-    { work_by(rt, alloc, desk, naps, missing, service, seat, number) };
+    { work_by(rt, alloc, desk, signals, missing, service, seat, number) };
     match scope.spawn_with(promise, work) {
         Ok(child) => Started::Thread(child),
         Err(refused) => {

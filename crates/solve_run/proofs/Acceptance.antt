@@ -14,7 +14,9 @@ use Rattle.certificate.specs.declared.causes.Cause.TheVariants as causes
 use Rattle.certificate.specs.declared.claims.Claim.{Claim}
 use Rattle.certificate.specs.declared.claims.Claim.TheVariants as Has
 use Rattle.simplex_rules.specs.Ends.{Terms, Clock}
-use Rattle.search_rules.specs.Search.{Outcome, IsSearchAnswer, searched, given_up as given_up_at, early}
+use Rattle.search_rules.specs.Search.{Found, Outcome, early}
+use Rattle.search_rules.specs.Beginnings.{IsFirstBest, IsAnswerFrom, searched, given_up as given_up_at}
+use Rattle.rational.specs.Ratio.{Ratio}
 use Rattle.search_rules.specs.Outcomes.{IsShown}
 use Rattle.osol_grammar.specs.declared.options.Options.{Options}
 use Rattle.osol_grammar.specs.Meaning.{IsOptionsText}
@@ -35,7 +37,7 @@ use Rattle.solve_run.specs.JobAnswers.{TakesHanded, Solved, IsNoteOfJob, IsJobOf
 use Rattle.solve_run.specs.Untils.{job_terms, renamed}
 use Rattle.solve_run.proofs.Lengths.{IsShortName, unsure_short, error_short}
 use Rattle.solve_run.proofs.Texts.{noted_claim}
-use Rattle.solve_run.proofs.HandedMessages.{note_bare}
+use Rattle.solve_run.proofs.HandedMessages.{whole_bare}
 use Rattle.solve_run.proofs.HandedClaims.{left_accepted, left_short}
 use Rattle.solve_run.proofs.Closings.{fitted_back}
 use Rattle.solve_run.proofs.InkedTexts.{IsMessage}
@@ -115,7 +117,7 @@ told_good p job c told valid name accepted (inr (long, same)) =
 
 module _ (names : (bytes : List ℕ) (o : Options) → IsOptionsText bytes o → IsNameOrNone o.job)
     (numbers : (p : Parts) → IsProblem (problem p))
-    (shows : (P : Problem) (t : Terms) (o : Outcome) (c : Clock) → IsProblem P → IsSearchAnswer P t o c → IsShown P o)
+    (shows : (P : Problem) (t : Terms) (gs : Option (List (Option Ratio))) (start : Option Found) (o : Outcome) (c : Clock) → IsProblem P → IsFirstBest P gs start → IsAnswerFrom P t start o c → IsShown P o)
     (comes_back : (r : Report) → ComesBack r → IsReportText (report_text r) r)
     (read_back : (bytes : List ℕ) (r : Report) (c : Claim) → IsReportText bytes r → r.claim ≡ Some c → ClaimComesBack (Some c)) where
   -- a report of a good claim is read from its own text, and accepted
@@ -135,7 +137,7 @@ module _ (names : (bytes : List ℕ) (o : Options) → IsOptionsText bytes o →
   solved_good : (osil osol : List ℕ) (stop : Option ℕ) (timed : Option Frac) (looks : ℕ) (r : Report) → Solved osil osol stop timed looks r → IsGoodReport osil r
   solved_good osil osol stop timed looks r s =
       let g = s.given in
-      let shown = shows (problem g.parts) (job_terms g.options stop) s.outcome _ (numbers g.parts) (searched s.ends) in
+      let shown = shows (problem g.parts) (job_terms g.options stop) _ s.start s.outcome _ (numbers g.parts) s.first (searched s.ends) in
       let good = closed_good g.parts g.options.job g.valid (short_name g.options.job (names osol g.options g.options_text)) g.options.form s.turns s.found s.told (record { outcome = renamed timed s.outcome; tells = s.tells; shown = renamed_shown (problem g.parts) timed s.outcome shown }) s.closed in
       record {
         job = g.options.job;
@@ -147,7 +149,7 @@ module _ (names : (bytes : List ℕ) (o : Options) → IsOptionsText bytes o →
         accepted = λ k says. accepts_of g.parts s.told k good.shown good.accepted says;
         short = good.short;
         note = s.note;
-        note_bare = note_bare g.parts s.handed.handed s.note s.handed.notes;
+        note_bare = whole_bare osol g.options g.parts s.start s.note s.noting;
         is = s.is;
       }
 
@@ -174,7 +176,7 @@ module _ (names : (bytes : List ℕ) (o : Options) → IsOptionsText bytes o →
 
   job_note_bare : (osil osol : List ℕ) (note : Option (List ℕ)) → IsNoteOfJob osil osol note → IsBareOrNone note
   job_note_bare osil osol note (inl none) = subst IsBareOrNone (sym none) tt
-  job_note_bare osil osol note (inr (g, h)) = note_bare g.parts h.handed note h.notes
+  job_note_bare osil osol note (inr h) = whole_bare osol h.given.options h.given.parts h.start note h.noting
 
   job_bare : (osol : List ℕ) (job : Option (List ℕ)) → IsJobOf osol job → IsBareOrNone job × IsShortName job
   job_bare osol job (inl none) = (subst IsBareOrNone (sym none) tt, subst IsShortName (sym none) tt)
@@ -184,7 +186,7 @@ module _ (names : (bytes : List ℕ) (o : Options) → IsOptionsText bytes o →
   best_good osil osol job note c r whose noting b is =
       let g = b.given in
       let named = job_bare osol job whose in
-      let shown = shows (problem g.parts) (job_terms g.options None) (early b.moment.best causes.Memory) b.moment.clock (numbers g.parts) (given_up_at b.comes) in
+      let shown = shows (problem g.parts) (job_terms g.options None) _ b.start (early b.moment.best causes.Memory) b.moment.clock (numbers g.parts) b.first (given_up_at b.comes) in
       let claimed : IsShownClaim g.parts c = record { outcome = early b.moment.best causes.Memory; tells = b.tells; shown = shown } in
       let good = other_good g.parts job g.valid named.1 c claimed (wanting c b.moment.best b.tells) in
       record {

@@ -12,7 +12,8 @@ use Rattle.simplex_rules.specs.Ends.{Terms, Clock, End, Clash, Empty, Best, Endl
 use Rattle.simplex_rules.specs.Runs.{looked_once}
 use Rattle.search_rules.specs.Branching.{Case}
 use Rattle.search_rules.specs.Cuts.{Trial, NoCut, WideCut, Cut}
-use Rattle.search_rules.specs.Search.{Found, Outcome, SearchMoment, NextOfSearch, To, Out, early, shown_at, StopsBefore, Branches, MayCut, TakesFound, TakesPoint, MeetsPoint, GoesFromTrial, GoesFromBest, GoesFrom, ClosesLevel, IsNextInSearch, ComesInSearch, begins, goes_on, IsSearchAnswer, searched, given_up, given_up_after}
+use Rattle.search_rules.specs.Search.{Found, Outcome, SearchMoment, NextOfSearch, To, Out, early, shown_at, StopsBefore, Branches, MayCut, TakesFound, TakesPoint, MeetsPoint, GoesFromTrial, GoesFromBest, GoesFrom, ClosesLevel, IsNextInSearch}
+use Rattle.search_rules.specs.Beginnings.{ComesFrom, begins, goes_on, IsAnswerFrom, searched, given_up, given_up_after}
 use Rattle.branch_bound.specs.Claims.{said}
 use Rattle.solve_run.proofs.ClaimNodes.{said_certificates}
 
@@ -101,11 +102,11 @@ module _ (P : Problem) (t : Terms) where
   next_few m next few (inr (inl (some, s))) = stops_few m next s
   next_few m next few (inr (inr v)) = goes_few (record m { clock = v.clock }) few v.visit.rest next v.visit.case (looked_once m.clock) v.end v.goes
 
-  comes_few : (m : SearchMoment) → ComesInSearch P t m → AreFew m
-  comes_few m begins = (All-nil HasFew, omega arith)
-  comes_few m (goes_on {m = before} c next) = next_few before (To m) (comes_few before c) next
+  comes_few : (start : Option Found) (m : SearchMoment) → ComesFrom P t start m → AreFew m
+  comes_few start m begins = (All-nil HasFew, omega arith)
+  comes_few start m (goes_on {m = before} c next) = next_few before (To m) (comes_few start before c) next
 
-  pub answer_few : (o : Outcome) (c : Clock) → IsSearchAnswer P t o c → CarriesFew o
-  answer_few o c (searched s) = next_few s.last (Out o c) (comes_few s.last s.comes) s.ends
-  answer_few o c (given_up {m} h) = early_few m.best _
-  answer_few o c (given_up_after {m} h r) = early_few m.best _
+  pub answer_few : (start : Option Found) (o : Outcome) (c : Clock) → IsAnswerFrom P t start o c → CarriesFew o
+  answer_few start o c (searched s) = next_few s.last (Out o c) (comes_few start s.last s.comes) s.ends
+  answer_few start o c (given_up {m} h) = early_few m.best _
+  answer_few start o c (given_up_after {m} h r) = early_few m.best _

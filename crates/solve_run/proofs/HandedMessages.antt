@@ -1,4 +1,4 @@
--- What is said of a result that is handed in, and isn't taken, may be told in a report.
+-- What is said of a result that is handed in, and isn't taken, and of first values, may be told in a report.
 use Rattle.std.proofs.Common.{◌≡◌, ℕ, ◌+◌, inl, inr, Bool, true, false, cond, Option, None, Some, List, [], ◌∷◌, ◌++◌, refl, sym, subst, arith, length-append, lit<, lit≤}
 use Rattle.std.specs.Prelude.{codes, decimal, nat_eq}
 use Rattle.instance.specs.Parts.{Parts}
@@ -15,7 +15,10 @@ use Rattle.cert_checker.specs.declared.refused.Refused.{Refused}
 use Rattle.cert_checker.specs.declared.refused.Refused.TheVariants as reasons
 use Rattle.cert_checker.specs.declared.refused.Unshown.{Unshown}
 use Rattle.cert_checker.specs.declared.refused.Unshown.TheVariants as why
-use Rattle.osrl_grammar.specs.Back.{IsBare, IsBareOrNone}
+use Rattle.osrl_grammar.specs.Back.{IsBareOrNone}
+use Rattle.fraction.specs.declared.frac.Frac.{Frac}
+use Rattle.search_rules.specs.Search.{Found}
+use Rattle.osol_grammar.specs.declared.options.Options.{Options}
 use Rattle.osrl_grammar.specs.Texts as results
 use Rattle.osrl_grammar.specs.declared.fault.OsrlFault.{OsrlFault}
 use Rattle.osrl_grammar.specs.declared.fault.OsrlFault.TheVariants as result_faults
@@ -26,7 +29,8 @@ use Rattle.document_checker.specs.Texts.{reason, quoted, IsCheckFaultText}
 use Rattle.handed_results.specs.declared.handed.Handed.{Handed}
 use Rattle.handed_results.specs.declared.handed.Handed.TheVariants.{Nothing, Once, Twice}
 use Rattle.solve_run.specs.Handing.{about_handed, IsNoteOf}
-use Rattle.solve_run.proofs.InkedTexts.{IsPiece, piece_behind, is_word, word_piece, number_piece, bare_of}
+use Rattle.solve_run.specs.Firsts.{first_note, both_notes, IsNoteFrom}
+use Rattle.solve_run.proofs.InkedTexts.{IsPiece, piece_behind, is_word, word_piece, number_piece, StartsSo, bare_of}
 use Rattle.solve_run.proofs.FaultMessages.{spaced, worded}
 use Rattle.solve_run.proofs.FaultMessages as refusals
 
@@ -98,30 +102,59 @@ result_piece result_faults.Memory text says = absurd says
 
 -- ---- messages
 
-about_bare : (words : List ℕ) → IsSomePiece words → IsBare (about_handed (reason words))
-about_bare words (n, piece) =
-    bare_of (23 + n) (about_handed (reason words)) (lit≤ tt, lit< tt)
-    (piece_behind 23 n (codes "os_cert.result refused ") words (list_printable (codes "os_cert.result refused ") refl) (lit≤ tt) piece)
+-- a piece that begins so too
+abbrev IsTold : List ℕ → Type 0
+IsTold text = StartsSo text × IsSomePiece text
 
-quoted_bare : (told : List ℕ) → IsSomePiece told → IsBare (about_handed (quoted (codes "Result") told))
-quoted_bare told (n, piece) = about_bare (codes "Result" ++ (32 ∷ told)) (64 + (1 + n), worded (1 + n) (codes "Result") (32 ∷ told) refl (spaced n told piece))
+about_told : (words : List ℕ) → IsSomePiece words → IsTold (about_handed (reason words))
+about_told words (n, piece) = ((lit≤ tt, lit< tt), (23 + n, piece_behind 23 n (codes "os_cert.result refused ") words (list_printable (codes "os_cert.result refused ") refl) (lit≤ tt) piece))
 
-result_bare : (f : OsrlFault) (words : List ℕ) → IsCheckFaultText (faults.Result f) words → IsBare (about_handed words)
-result_bare f words (told, says, is) = subst (λ (w : List ℕ). IsBare (about_handed w)) (sym is) (quoted_bare told (result_piece f told says))
+quoted_told : (told : List ℕ) → IsSomePiece told → IsTold (about_handed (quoted (codes "Result") told))
+quoted_told told (n, piece) = about_told (codes "Result" ++ (32 ∷ told)) (64 + (1 + n), worded (1 + n) (codes "Result") (32 ∷ told) refl (spaced n told piece))
 
-claim_bare : (r : Refused) (words : List ℕ) → IsCheckFaultText (faults.Claim r) words → IsBare (about_handed words)
-claim_bare r words is = subst (λ (w : List ℕ). IsBare (about_handed w)) (sym is) (about_bare (refused_words r) (refused_piece r))
+result_told : (f : OsrlFault) (words : List ℕ) → IsCheckFaultText (faults.Result f) words → IsTold (about_handed words)
+result_told f words (told, says, is) = subst (λ (w : List ℕ). IsTold (about_handed w)) (sym is) (quoted_told told (result_piece f told says))
 
-refused_bare : (P : Of.Problem) (o : Option Claim) (f : CheckFault) (words : List ℕ) → ClaimRefuses P o f → IsCheckFaultText f words → IsBare (about_handed words)
-refused_bare P None f words is says = claim_bare reasons.NoClaim words (subst (λ (g : CheckFault). IsCheckFaultText g words) is says)
-refused_bare P (Some c) f words (r, refused, is) says = claim_bare r words (subst (λ (g : CheckFault). IsCheckFaultText g words) is says)
+claim_told : (r : Refused) (words : List ℕ) → IsCheckFaultText (faults.Claim r) words → IsTold (about_handed words)
+claim_told r words is = subst (λ (w : List ℕ). IsTold (about_handed w)) (sym is) (about_told (refused_words r) (refused_piece r))
 
-unshown_bare : (p : Parts) (text : List ℕ) (f : CheckFault) (words : List ℕ) → IsUnshownIn p text f → IsCheckFaultText f words → IsBare (about_handed words)
-unshown_bare p text f words (inl missing) says = result_bare missing.fault words (subst (λ (g : CheckFault). IsCheckFaultText g words) missing.is says)
-unshown_bare p text f words (inr (inl h)) says = refused_bare (problem p) h.report.claim f words h.refuses says
-unshown_bare p text f words (inr (inr none)) says = absurd (subst (λ (g : CheckFault). IsCheckFaultText g words) none says)
+refused_told : (P : Of.Problem) (o : Option Claim) (f : CheckFault) (words : List ℕ) → ClaimRefuses P o f → IsCheckFaultText f words → IsTold (about_handed words)
+refused_told P None f words is says = claim_told reasons.NoClaim words (subst (λ (g : CheckFault). IsCheckFaultText g words) is says)
+refused_told P (Some c) f words (r, refused, is) says = claim_told r words (subst (λ (g : CheckFault). IsCheckFaultText g words) is says)
 
-pub note_bare : (p : Parts) (h : Handed) (note : Option (List ℕ)) → IsNoteOf p h note → IsBareOrNone note
-note_bare p Nothing note is = subst IsBareOrNone (sym is) tt
-note_bare p (Once text) note (words, refused, is) = subst IsBareOrNone (sym is) (unshown_bare p text refused.fault words refused.unshown refused.says)
-note_bare p Twice note is = subst IsBareOrNone (sym is) (about_bare (codes "Twice") (64, word_piece (codes "Twice") refl))
+unshown_told : (p : Parts) (text : List ℕ) (f : CheckFault) (words : List ℕ) → IsUnshownIn p text f → IsCheckFaultText f words → IsTold (about_handed words)
+unshown_told p text f words (inl missing) says = result_told missing.fault words (subst (λ (g : CheckFault). IsCheckFaultText g words) missing.is says)
+unshown_told p text f words (inr (inl h)) says = refused_told (problem p) h.report.claim f words h.refuses says
+unshown_told p text f words (inr (inr none)) says = absurd (subst (λ (g : CheckFault). IsCheckFaultText g words) none says)
+
+abbrev MayTell : Option (List ℕ) → Type 0
+MayTell None = Unit {0}
+MayTell (Some text) = IsTold text
+
+note_told : (p : Parts) (h : Handed) (note : Option (List ℕ)) → IsNoteOf p h note → MayTell note
+note_told p Nothing note is = subst MayTell (sym is) tt
+note_told p (Once text) note (words, refused, is) = subst MayTell (sym is) (unshown_told p text refused.fault words refused.unshown refused.says)
+note_told p Twice note is = subst MayTell (sym is) (about_told (codes "Twice") (64, word_piece (codes "Twice") refl))
+
+-- ---- first values
+
+first_told : (gs : Option (List (Option Frac))) (start : Option Found) → MayTell (first_note gs start)
+first_told None start = tt
+first_told (Some vs) None = ((lit≤ tt, lit< tt), (47 + 64, piece_behind 47 64 (codes "initialVariableValues passed over: no feasible ") (codes "point") (list_printable (codes "initialVariableValues passed over: no feasible ") refl) (lit≤ tt) (word_piece (codes "point") refl)))
+first_told (Some vs) (Some f) = tt
+
+both_told : (a b : Option (List ℕ)) → MayTell a → MayTell b → MayTell (both_notes a b)
+both_told None b h k = k
+both_told (Some a) None h k = h
+both_told (Some []) (Some b) h k = absurd h.0
+both_told (Some (x ∷ xs)) (Some b) (starts, (m, first)) (begins, (n, second)) =
+    let short = first.short in
+    (starts, ((2 + m) + n, piece_behind (2 + m) n ((x ∷ xs) ++ codes "; ") b (each_append Printable (x ∷ xs) (codes "; ") first.printable (list_printable (codes "; ") refl)) (omega (arith, short, length-append (x ∷ xs) (codes "; "))) second))
+
+told_bare : (note : Option (List ℕ)) → MayTell note → IsBareOrNone note
+told_bare None h = tt
+told_bare (Some text) (starts, (n, piece)) = bare_of n text starts piece
+
+pub whole_bare : (osol : List ℕ) (o : Options) (p : Parts) (start : Option Found) (note : Option (List ℕ)) → IsNoteFrom osol o p start note → IsBareOrNone note
+whole_bare osol o p start note h =
+    told_bare note (subst MayTell (sym h.is) (both_told h.handed (first_note o.first start) (note_told p h.none_handed.handed h.handed h.none_handed.notes) (first_told o.first start)))

@@ -16,6 +16,7 @@ pub mod RoundTrips
 pub mod RowForms
 pub mod HandedClaims
 pub mod Closings
+pub mod Firsts
 pub mod Runs
 pub mod Untils
 pub mod OneClaim

@@ -6,7 +6,9 @@ use Rattle.instance.specs.Program.{problem}
 use Rattle.certificate.specs.Meanings as Means
 use Rattle.certificate.specs.declared.claims.Claim.{Claim}
 use Rattle.simplex_rules.specs.Ends.{Clock}
-use Rattle.search_rules.specs.Search.{Outcome, Search}
+use Rattle.search_rules.specs.Search.{Found, Outcome}
+use Rattle.search_rules.specs.Beginnings.{SearchFrom}
+use Rattle.solve_run.specs.Firsts.{IsFirstOf, first_note, both_notes, IsNoteFrom}
 use Rattle.branch_bound.specs.Claims.{ClaimTells}
 use Rattle.cert_checker.specs.declared.refused.Refused.{Refused}
 use Rattle.cert_checker.specs.Refusals.{IsRefusedFor}
@@ -66,7 +68,7 @@ module _ (options : OptionsAreOne) (instances_one : InstancesAreOne) where
   pub handed_search : HandedAreOne → (osil osol : List ℕ) (stop : Option ℕ) (timed : Option Frac) (looks : ℕ) (r s : Report) → TakesHanded osil osol r → Solved osil osol stop timed looks s → ⊥
   handed_search laws osil osol stop timed looks r s a b =
       let parts = instances_one.once osil b.given.parts a.given.parts b.given.instance_text a.given.instance_text in
-      claim_or_note laws osil a.given.parts a.given.instance_text osol a.given.options a.given.options_text a.claim b.note a.handed (subst (λ (p : Parts). HandsInNone osol p b.note) parts b.handed)
+      claim_or_note laws osil a.given.parts a.given.instance_text osol a.given.options a.given.options_text a.claim b.noting.handed a.handed (subst (λ (p : Parts). HandsInNone osol p b.noting.handed) parts b.noting.none_handed)
 
   pub options_once : (osol : List ℕ) (r s : Report) → RefusesOptions osol r → RefusesOptions osol s → r ≡ s
   options_once osol r s a b =
@@ -107,27 +109,31 @@ module _ (laws : SearchesAreOne) where
   -- a search of an instance that ended, and what is told of it
   record Ended (osol : List ℕ) (o : Options) (p : Parts) (stop : Option ℕ) (timed : Option Frac) (looks : ℕ) (r : Report) : Type 0 where
     turns : ℕ
+    start : Option Found
+    first : IsFirstOf (problem p) o start
     outcome : Outcome
-    ends : Search (problem p) (job_terms o stop) outcome (record { turns = turns; looks = looks })
+    ends : SearchFrom (problem p) (job_terms o stop) start outcome (record { turns = turns; looks = looks })
     found : Claim
     tells : ClaimTells found (renamed timed outcome)
     told : Claim
     closed : IsToldOf p o.job o.form turns found told
     note : Option (List ℕ)
-    none_handed : HandsInNone osol p note
+    noting : IsNoteFrom osol o p start note
     is : r ≡ noted note (claim_report o.job told)
 
   ended : (osil osol : List ℕ) (stop : Option ℕ) (timed : Option Frac) (looks : ℕ) (r : Report) (s : Solved osil osol stop timed looks r) → Ended osol s.given.options s.given.parts stop timed looks r
-  ended osil osol stop timed looks r s = record { turns = s.turns; outcome = s.outcome; ends = s.ends; found = s.found; tells = s.tells; told = s.told; closed = s.closed; note = s.note; none_handed = s.handed; is = s.is }
+  ended osil osol stop timed looks r s = record { turns = s.turns; start = s.start; first = s.first; outcome = s.outcome; ends = s.ends; found = s.found; tells = s.tells; told = s.told; closed = s.closed; note = s.note; noting = s.noting; is = s.is }
 
   ended_once : (osol : List ℕ) (o : Options) (p : Parts) (stop : Option ℕ) (timed : Option Frac) (looks more : ℕ) (r s : Report) → ((n m : Option (List ℕ)) → HandsInNone osol p n → HandsInNone osol p m → n ≡ m) → Ended osol o p stop timed looks r → Ended osol o p stop timed more s → (r ≡ s) × (looks ≡ more)
   ended_once osol o p stop timed looks more r s once a b =
-      let both = laws.once (problem p) (job_terms o stop) a.outcome b.outcome _ _ (laws.numbers p) a.ends b.ends in
+      let both = laws.once (problem p) (job_terms o stop) _ a.start b.start a.outcome b.outcome _ _ (laws.numbers p) a.first b.first a.ends b.ends in
+      let start = laws.first (problem p) _ a.start b.start (laws.numbers p) a.first b.first in
+      let note : a.note ≡ b.note = a.noting.is ∙ ap₂ (λ (h : Option (List ℕ)) (s : Option Found). both_notes h (first_note o.first s)) (once a.noting.handed b.noting.handed a.noting.none_handed b.noting.none_handed) start ∙ sym b.noting.is in
       let found = claim_once laws.fractions a.found b.found (renamed timed b.outcome) (subst (λ (c : Outcome). ClaimTells a.found (renamed timed c)) both.0 a.tells) b.tells in
       let turns = ap (λ (c : Clock). c.turns) both.1 in
       let closed : IsToldOf p o.job o.form b.turns b.found a.told = subst (λ (t : ℕ). IsToldOf p o.job o.form t b.found a.told) turns (subst (λ (c : Claim). IsToldOf p o.job o.form a.turns c a.told) found a.closed) in
       let told = closed_once p o.job o.form b.turns b.found a.told b.told closed b.closed in
-      (a.is ∙ ap₂ noted (once a.note b.note a.none_handed b.none_handed) (ap (claim_report o.job) told) ∙ sym b.is, ap (λ (c : Clock). c.looks) both.1)
+      (a.is ∙ ap₂ noted note (ap (claim_report o.job) told) ∙ sym b.is, ap (λ (c : Clock). c.looks) both.1)
 
   module _ (options : OptionsAreOne) (instances_one : InstancesAreOne) (handed_one : HandedAreOne) where
     moved : (osil osol : List ℕ) (g h : AreJobTexts osil osol) (stop : Option ℕ) (timed : Option Frac) (looks : ℕ) (r : Report) → Ended osol g.options g.parts stop timed looks r → Ended osol h.options h.parts stop timed looks r
@@ -148,33 +154,34 @@ module _ (laws : SearchesAreOne) where
         a.is ∙ ap₂ claim_report job (fitted_once b.given.options.job b.claim a.told b.told fitted b.fitted) ∙ sym b.is
 
     -- a search that ends with a claim that is refused for no width, and isn't too long in its form, is told
-    complete : (osil osol : List ℕ) (o : Options) (p : Parts) (oc : Outcome) (found formed : Claim) (c : Clock) (r : Report) → IsOptionsText osol o → IsInstanceText osil p → Search (problem p) (job_terms o None) oc c → ClaimTells found oc
-        → ((q : Refused) (n : ℕ) → IsRefusedFor (problem p) (Means.claim found) q → IsWideAt q n → ⊥) → IsFormed p o.form found formed → IsShort o.job formed → (looks : ℕ) → Solved osil osol None None looks r → (note : Option (List ℕ)) × HandsInNone osol p note × (r ≡ noted note (claim_report o.job formed))
-    complete osil osol o p oc found formed c r options_text instance_text ends tells fits forms short looks s =
+    complete : (osil osol : List ℕ) (o : Options) (p : Parts) (start : Option Found) (oc : Outcome) (found formed : Claim) (c : Clock) (r : Report) → IsOptionsText osol o → IsInstanceText osil p → IsFirstOf (problem p) o start → SearchFrom (problem p) (job_terms o None) start oc c → ClaimTells found oc
+        → ((q : Refused) (n : ℕ) → IsRefusedFor (problem p) (Means.claim found) q → IsWideAt q n → ⊥) → IsFormed p o.form found formed → IsShort o.job formed → (looks : ℕ) → Solved osil osol None None looks r → (note : Option (List ℕ)) × IsNoteFrom osol o p start note × (r ≡ noted note (claim_report o.job formed))
+    complete osil osol o p start oc found formed c r options_text instance_text first ends tells fits forms short looks s =
         let here = ended osil osol None None looks r s in
         let moved_here = subst (λ (x : Options). Ended osol x p None None looks r) (options.once osol s.given.options o s.given.options_text options_text)
         (subst (λ (q : Parts). Ended osol s.given.options q None None looks r) (instances_one.once osil s.given.parts p s.given.instance_text instance_text) here) in
-        let both = laws.once (problem p) (job_terms o None) moved_here.outcome oc _ c (laws.numbers p) moved_here.ends ends in
+        let both = laws.once (problem p) (job_terms o None) _ moved_here.start start moved_here.outcome oc _ c (laws.numbers p) moved_here.first first moved_here.ends ends in
+        let begun = laws.first (problem p) _ moved_here.start start (laws.numbers p) moved_here.first first in
         let same = claim_once laws.fractions moved_here.found found oc (subst (ClaimTells moved_here.found) both.0 moved_here.tells) tells in
         let closed : IsToldOf p o.job o.form moved_here.turns found moved_here.told = subst (λ (x : Claim). IsToldOf p o.job o.form moved_here.turns x moved_here.told) same moved_here.closed in
-        (moved_here.note, moved_here.none_handed, moved_here.is ∙ ap (λ (c : Claim). noted moved_here.note (claim_report o.job c)) (by moved_here.turns moved_here.told closed.width closed.formed closed.judged closed.forms closed.fitted))
+        (moved_here.note, subst (λ (x : Option Found). IsNoteFrom osol o p x moved_here.note) begun moved_here.noting, moved_here.is ∙ ap (λ (c : Claim). noted moved_here.note (claim_report o.job c)) (by moved_here.turns moved_here.told closed.width closed.formed closed.judged closed.forms closed.fitted))
       where
         by : (turns : ℕ) (told : Claim) (width : Option ℕ) (shaped : Claim) → IsJudged p found width → IsFormed p o.form (checked found turns width) shaped → IsFitted o.job shaped told → told ≡ formed
         by turns told None shaped judged form (inl (few, same)) = same ∙ formed_once p o.form found shaped formed form forms
         by turns told None shaped judged form (inr (long, same)) = absurd (long (subst (IsShort o.job) (sym (formed_once p o.form found shaped formed form forms)) short))
         by turns told (Some n) shaped (final, q, refused, wide) form fitted = absurd (fits q n refused wide)
 
-    pub told_at_end : (osil osol : List ℕ) (o : Options) (p : Parts) (oc : Outcome) (found formed : Claim) (c : Clock) (r : Report) → IsOptionsText osol o → IsInstanceText osil p → Search (problem p) (job_terms o None) oc c → ClaimTells found oc → ((q : Refused) (n : ℕ) → IsRefusedFor (problem p) (Means.claim found) q → IsWideAt q n → ⊥) → IsFormed p o.form found formed → IsShort o.job formed → AnswersJob osil osol false r
-        → ((note : Option (List ℕ)) × HandsInNone osol p note × (r ≡ noted note (claim_report o.job formed))) ⊎ TakesHanded osil osol r ⊎ GaveUp osil osol r ⊎ ((s : Frac) × (looks : ℕ) × (o.seconds ≡ Some s) × Solved osil osol (Some looks) (Some s) looks r)
-    told_at_end osil osol o p oc found formed c r options_text instance_text ends tells fits forms short (no_options a) = absurd (no_options_given options instances_one osol o r a options_text)
-    told_at_end osil osol o p oc found formed c r options_text instance_text ends tells fits forms short (no_instance a) = absurd (no_instance_given options instances_one osil osol p r a instance_text)
-    told_at_end osil osol o p oc found formed c r options_text instance_text ends tells fits forms short (handed h) = inr (inl h)
-    told_at_end osil osol o p oc found formed c r options_text instance_text ends tells fits forms short (solved stop looks None may s) = inl (complete osil osol o p oc found formed c r options_text instance_text ends tells fits forms short looks (subst (λ (x : Option ℕ). Solved osil osol x None looks r) (none may) s))
+    pub told_at_end : (osil osol : List ℕ) (o : Options) (p : Parts) (start : Option Found) (oc : Outcome) (found formed : Claim) (c : Clock) (r : Report) → IsOptionsText osol o → IsInstanceText osil p → IsFirstOf (problem p) o start → SearchFrom (problem p) (job_terms o None) start oc c → ClaimTells found oc → ((q : Refused) (n : ℕ) → IsRefusedFor (problem p) (Means.claim found) q → IsWideAt q n → ⊥) → IsFormed p o.form found formed → IsShort o.job formed → AnswersJob osil osol false r
+        → ((note : Option (List ℕ)) × IsNoteFrom osol o p start note × (r ≡ noted note (claim_report o.job formed))) ⊎ TakesHanded osil osol r ⊎ GaveUp osil osol r ⊎ ((s : Frac) × (looks : ℕ) × (o.seconds ≡ Some s) × Solved osil osol (Some looks) (Some s) looks r)
+    told_at_end osil osol o p start oc found formed c r options_text instance_text first ends tells fits forms short (no_options a) = absurd (no_options_given options instances_one osol o r a options_text)
+    told_at_end osil osol o p start oc found formed c r options_text instance_text first ends tells fits forms short (no_instance a) = absurd (no_instance_given options instances_one osil osol p r a instance_text)
+    told_at_end osil osol o p start oc found formed c r options_text instance_text first ends tells fits forms short (handed h) = inr (inl h)
+    told_at_end osil osol o p start oc found formed c r options_text instance_text first ends tells fits forms short (solved stop looks None may s) = inl (complete osil osol o p start oc found formed c r options_text instance_text first ends tells fits forms short looks (subst (λ (x : Option ℕ). Solved osil osol x None looks r) (none may) s))
       where
         none : MayStop false stop looks → stop ≡ None
         none (inl is) = is
         none (inr (asked, is)) = absurd (cc)
-    told_at_end osil osol o p oc found formed c r options_text instance_text ends tells fits forms short (solved stop looks (Some x) (says, at) s) =
+    told_at_end osil osol o p start oc found formed c r options_text instance_text first ends tells fits forms short (solved stop looks (Some x) (says, at) s) =
         let its = options.once osol says.0 o says.1 options_text in
         inr (inr (inr (x, looks, sym (ap (λ (q : Options). q.seconds) its) ∙ says.2, subst (λ (k : Option ℕ). Solved osil osol k (Some x) looks r) at s)))
-    told_at_end osil osol o p oc found formed c r options_text instance_text ends tells fits forms short (gave_up a) = inr (inr (inl a))
+    told_at_end osil osol o p start oc found formed c r options_text instance_text first ends tells fits forms short (gave_up a) = inr (inr (inl a))

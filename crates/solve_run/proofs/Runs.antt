@@ -20,7 +20,10 @@ use Rattle.certificate.specs.declared.claims.Claim.{Claim}
 use Rattle.certificate.specs.declared.claims.Claim.TheVariants as Has
 use Rattle.simplex_rules.specs.Ends.{Terms, Clock}
 use Rattle.simplex_rules.specs.Looks.{answers, went_on, looks_after, stop_after}
-use Rattle.search_rules.specs.Search.{Found, Outcome, Optimal, Infeasible, Unbounded, BestSoFar, Unsure, SearchMoment, ComesInSearch, Search, IsSearchAnswer, early, searched, given_up as given_up_at, given_up_after}
+use Rattle.search_rules.specs.Search.{Found, Outcome, Optimal, Infeasible, Unbounded, BestSoFar, Unsure, SearchMoment, early}
+use Rattle.search_rules.specs.Beginnings.{IsFirstBest, ComesFrom, SearchFrom, IsAnswerFrom, searched, given_up as given_up_at, given_up_after}
+use Rattle.rational.specs.Ratio.{Ratio}
+use Rattle.solve_run.specs.Firsts.{IsFirstOf, IsNoteFrom}
 use Rattle.search_rules.specs.Outcomes.{IsShown}
 use Rattle.branch_bound.specs.Claims.{ClaimTells, said, is_killed}
 use Rattle.osol_grammar.specs.declared.options.Options.{Options}
@@ -38,7 +41,7 @@ use Rattle.solve_run.specs.declared.document.Document.{Document}
 use Rattle.solve_run.specs.Judging.{IsShownClaim, AreFewRounds, HasFewRounds, IsFinal, IsJudged, checked}
 use Rattle.solve_run.specs.RowForms.{IsFormed}
 use Rattle.solve_run.specs.Closings.{claim_report, error_report, noted, IsShort, IsFitted, IsToldOf}
-use Rattle.solve_run.specs.Handing.{HandsInClaim, HandsInNone}
+use Rattle.solve_run.specs.Handing.{HandsInClaim}
 use Rattle.solve_run.specs.Untils.{job_terms, stop_by, looks_by, is_stopped_by, MayTime, left, renamed, FindsUntil}
 use Rattle.solve_run.specs.JobAnswers.{AreJobTexts, IsJobOf, MayStop, MayEnd, AnswersJob, Right}
 use Rattle.solve_run.specs.JobAnswers as right
@@ -88,7 +91,7 @@ memory_killed (Some f) = refl
 abbrev clock_after : (turns looks : ℕ) → Clock
 clock_after turns looks = record { turns = turns; looks = looks }
 
-module _ (osil osol : List ℕ) (o : Options) (p : Parts) (valid : IsValid p) (options_text : IsOptionsText osol o) (name : IsNameOrNone o.job) (instance_text : IsInstanceText osil p) (ns : NameLists) (due : AreDueNames osil o ns) (note : Option (List ℕ)) (none_handed : HandsInNone osol p note) where
+module _ (osil osol : List ℕ) (o : Options) (p : Parts) (valid : IsValid p) (options_text : IsOptionsText osol o) (name : IsNameOrNone o.job) (instance_text : IsInstanceText osil p) (ns : NameLists) (due : AreDueNames osil o ns) (start : Option Found) (first : IsFirstOf (problem p) o start) (note : Option (List ℕ)) (noting : IsNoteFrom osol o p start note) where
   abbrev given : AreJobTexts osil osol
   given = record { options = o; options_text = options_text; parts = p; valid = valid; instance_text = instance_text }
 
@@ -99,7 +102,7 @@ module _ (osil osol : List ℕ) (o : Options) (p : Parts) (valid : IsValid p) (o
 
   module _ (found : Claim) (turns n : ℕ) (doc : Document) (killed : Bool) where
     -- memory was wanting in the search: the claim of its moment is told
-    wanted : (timed : Option Frac) (oc : Outcome) (m : SearchMoment) → ClaimTells found (renamed timed oc) → is_killed oc ≡ is_stopped_by killed timed → IsShown (problem p) oc → ComesInSearch (problem p) (job_terms o (stop_by n killed timed)) m → early m.best Memory ≡ oc → ClosesClaim p ns note o.job o.form turns found doc → TellsOutcome osil osol n killed doc
+    wanted : (timed : Option Frac) (oc : Outcome) (m : SearchMoment) → ClaimTells found (renamed timed oc) → is_killed oc ≡ is_stopped_by killed timed → IsShown (problem p) oc → ComesFrom (problem p) (job_terms o (stop_by n killed timed)) start m → early m.best Memory ≡ oc → ClosesClaim p ns note o.job o.form turns found doc → TellsOutcome osil osol n killed doc
     wanted (Some s) oc m tells stopped shown comes is closes = let went : true ≡ false = sym stopped ∙ ap is_killed (sym is) ∙ memory_killed m.best in absurd (cc)
     wanted None oc m tells stopped shown comes is closes =
         let early_told : ClaimTells found (early m.best Memory) = subst (ClaimTells found) (sym is) tells in
@@ -114,24 +117,28 @@ module _ (osil osol : List ℕ) (o : Options) (p : Parts) (valid : IsValid p) (o
             claim = closes.told;
             claims = inr (record {
               given = given;
+              start = start;
+              first = first;
               moment = m;
-              comes = subst (λ (k : Bool). ComesInSearch (problem p) (job_terms o (stop_after n k)) m) went comes;
+              comes = subst (λ (k : Bool). ComesFrom (problem p) (job_terms o (stop_after n k)) start m) went comes;
               tells = subst (λ (c : Claim). ClaimTells c (early m.best Memory)) (sym same) early_told;
             });
             note = note;
-            noting = inr (given, none_handed);
+            noting = inr (record { given = given; start = start; first = first; noting = noting });
             is = refl;
           });
           is = named_answer osil osol o options_text p instance_text ns due (noted note (claim_report o.job closes.told)) doc closes.is;
         }
 
     module _ (timed : Option Frac) (may : MayTime o killed timed) where
-      ended : (oc : Outcome) → ClaimTells found (renamed timed oc) → Search (problem p) (job_terms o (stop_by n killed timed)) oc (clock_after turns (looks_by n killed timed)) → ClosesClaim p ns note o.job o.form turns found doc → TellsOutcome osil osol n killed doc
+      ended : (oc : Outcome) → ClaimTells found (renamed timed oc) → SearchFrom (problem p) (job_terms o (stop_by n killed timed)) start oc (clock_after turns (looks_by n killed timed)) → ClosesClaim p ns note o.job o.form turns found doc → TellsOutcome osil osol n killed doc
       ended oc tells ends closes = record {
         report = noted note (claim_report o.job closes.told);
         reports = solved timed (may_out killed timed may) (record {
           given = given;
           turns = turns;
+          start = start;
+          first = first;
           outcome = oc;
           ends = ends;
           found = found;
@@ -140,16 +147,16 @@ module _ (osil osol : List ℕ) (o : Options) (p : Parts) (valid : IsValid p) (o
           closed = closes.closed;
           numbers = closes.numbers;
           note = note;
-          handed = none_handed;
+          noting = noting;
           is = refl;
         });
         is = named_answer osil osol o options_text p instance_text ns due (noted note (claim_report o.job closes.told)) doc closes.is;
       }
 
-      answered : (oc of : Outcome) (d : Clock) → of ≡ oc → d ≡ clock_after turns (looks_by n killed timed) → ClaimTells found (renamed timed oc) → is_killed oc ≡ is_stopped_by killed timed → IsShown (problem p) oc → IsSearchAnswer (problem p) (job_terms o (stop_by n killed timed)) of d → ClosesClaim p ns note o.job o.form turns found doc → TellsOutcome osil osol n killed doc
+      answered : (oc of : Outcome) (d : Clock) → of ≡ oc → d ≡ clock_after turns (looks_by n killed timed) → ClaimTells found (renamed timed oc) → is_killed oc ≡ is_stopped_by killed timed → IsShown (problem p) oc → IsAnswerFrom (problem p) (job_terms o (stop_by n killed timed)) start of d → ClosesClaim p ns note o.job o.form turns found doc → TellsOutcome osil osol n killed doc
       answered oc of d e f tells stopped shown (searched s) closes =
-          ended oc tells (subst (λ (x : Outcome). Search (problem p) (job_terms o (stop_by n killed timed)) x (clock_after turns (looks_by n killed timed))) e
-          (subst (λ (x : Clock). Search (problem p) (job_terms o (stop_by n killed timed)) of x) f s)) closes
+          ended oc tells (subst (λ (x : Outcome). SearchFrom (problem p) (job_terms o (stop_by n killed timed)) start x (clock_after turns (looks_by n killed timed))) e
+          (subst (λ (x : Clock). SearchFrom (problem p) (job_terms o (stop_by n killed timed)) start of x) f s)) closes
       answered oc of d e f tells stopped shown (given_up_at {m} c) closes = wanted timed oc m tells stopped shown c e closes
       answered oc of d e f tells stopped shown (given_up_after {m} c r) closes = wanted timed oc m tells stopped shown c e closes
 
@@ -166,26 +173,26 @@ abbrev AreFewOf : ℕ → Outcome → Type 0
 AreFewOf n oc = All (λ (c : Certificate). length c.rounds ≤ n) (said_certificates (said oc))
 
 -- the run of an instance
-module _ (p : Parts) (o : Options) (Came : List Bool → Type 0) (found : Claim) (turns : ℕ) (f : FindsUntil p o Came found turns) where
+module _ (p : Parts) (o : Options) (start : Option Found) (first : IsFirstOf (problem p) o start) (Came : List Bool → Type 0) (found : Claim) (turns : ℕ) (f : FindsUntil p o start Came found turns) where
   pub ran : {E : Type 0} (osil osol : List ℕ) (ns : NameLists) (note : Option (List ℕ)) (result : Result Document E)
-      → IsValid p → IsNameOrNone o.job → IsOptionsText osol o → IsInstanceText osil p → AreDueNames osil o ns → HandsInNone osol p note → IsShown (problem p) f.outcome
+      → IsValid p → IsNameOrNone o.job → IsOptionsText osol o → IsInstanceText osil p → AreDueNames osil o ns → IsNoteFrom osol o p start note → IsShown (problem p) f.outcome
       → IfOk result (IsClaimTold p ns note o.job o.form turns found) → Ran Came osil osol (TellsDocument osil osol result)
-  ran {E} osil osol ns note result valid name options_text instance_text due none_handed shown told =
+  ran {E} osil osol ns note result valid name options_text instance_text due noting shown told =
       record {
         went_on = f.went_on;
         killed = f.killed;
         came = f.came;
-        looks = inr (record { given = given osil osol o p valid options_text name instance_text ns due note none_handed; turns = turns; outcome = f.outcome; timed = f.timed; may = f.may; answers = f.answer });
+        looks = inr (record { given = given osil osol o p valid options_text name instance_text ns due start first note noting; turns = turns; start = start; first = first; outcome = f.outcome; timed = f.timed; may = f.may; answers = f.answer });
         tells = IfOk-weaker result (IsClaimTold p ns note o.job o.form turns found) (TellsOutcome osil osol f.went_on f.killed) by told;
       }
     where
       by : (doc : Document) → IsClaimTold p ns note o.job o.form turns found doc → TellsOutcome osil osol f.went_on f.killed doc
-      by doc (inl closes) = answered osil osol o p valid options_text name instance_text ns due note none_handed found turns f.went_on doc f.killed f.timed f.may f.outcome f.outcome (clock_after turns (looks_by f.went_on f.killed f.timed)) refl refl f.tells f.stopped shown f.answer closes
+      by doc (inl closes) = answered osil osol o p valid options_text name instance_text ns due start first note noting found turns f.went_on doc f.killed f.timed f.may f.outcome f.outcome (clock_after turns (looks_by f.went_on f.killed f.timed)) refl refl f.tells f.stopped shown f.answer closes
       by doc (inr memory) = untold osil osol f.went_on f.killed o.job doc (inr (o, options_text, refl)) memory
 
   -- what was found is shown
-  pub shown_by : ((P : Problem) (t : Terms) (oc : Outcome) (c : Clock) → IsProblem P → IsSearchAnswer P t oc c → IsShown P oc) → ((q : Parts) → IsProblem (problem q)) → IsShown (problem p) f.outcome
-  shown_by shows numbers = shows (problem p) _ f.outcome _ (numbers p) f.answer
+  pub shown_by : ((P : Problem) (t : Terms) (gs : Option (List (Option Ratio))) (begun : Option Found) (oc : Outcome) (c : Clock) → IsProblem P → IsFirstBest P gs begun → IsAnswerFrom P t begun oc c → IsShown P oc) → ((q : Parts) → IsProblem (problem q)) → IsShown (problem p) f.outcome
+  shown_by shows numbers = shows (problem p) _ _ start f.outcome _ (numbers p) first f.answer
 
   pub claim_shown : IsShown (problem p) f.outcome → IsShownClaim p found
   claim_shown shown = record { outcome = renamed f.timed f.outcome; tells = f.tells; shown = renamed_shown (problem p) f.timed f.outcome shown }
@@ -193,7 +200,7 @@ module _ (p : Parts) (o : Options) (Came : List Bool → Type 0) (found : Claim)
   -- with no more rounds than the options ask for
   pub few_by : AreFewRounds o.rounds → HasFewRounds found
   few_by asked i d h =
-      let few = renamed_few f.timed f.outcome (answer_few (problem p) (job_terms o (stop_by f.went_on f.killed f.timed)) f.outcome _ f.answer) in
+      let few = renamed_few f.timed f.outcome (answer_few (problem p) (job_terms o (stop_by f.went_on f.killed f.timed)) start f.outcome _ f.answer) in
       let each : All (λ (c : Certificate). length c.rounds ≤ o.rounds) (Means.certificates (certs_of found)) = subst (All (λ (c : Certificate). length c.rounds ≤ o.rounds)) (carried found (renamed f.timed f.outcome) f.tells) few in
       let cert : Cert = slice_index_or (certs_of found) i d in
       let less = each i (Means.certificate d) (omega (arith, h, length-map (certs_of found) Means.certificate)) in

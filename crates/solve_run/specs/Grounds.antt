@@ -1,6 +1,6 @@
 -- What the laws of the crates below say of all options, instances, searches, claims and reports.
-use Rattle.std.specs.Prelude.{◌≡◌, ◌≢◌, ℕ, Result, MatchResult, List}
-use Rattle.rational.specs.Ratio.{IsSame}
+use Rattle.std.specs.Prelude.{◌≡◌, ◌≢◌, ℕ, Option, Result, MatchResult, List}
+use Rattle.rational.specs.Ratio.{Ratio, IsSame}
 use Rattle.fraction.specs.Frac.{ratio}
 use Rattle.fraction.specs.declared.frac.Frac.{Frac}
 use Rattle.evidence.specs.Instance.{Problem, IsProblem}
@@ -9,7 +9,8 @@ use Rattle.evidence.specs.Claim.{Accepts}
 use Rattle.instance.specs.Parts.{Parts}
 use Rattle.instance.specs.Program.{problem}
 use Rattle.simplex_rules.specs.Ends.{Terms, Clock}
-use Rattle.search_rules.specs.Search.{Outcome, Search}
+use Rattle.search_rules.specs.Search.{Found, Outcome}
+use Rattle.search_rules.specs.Beginnings.{IsFirstBest, SearchFrom}
 use Rattle.cert_checker.specs.declared.refused.Refused.{Refused}
 use Rattle.cert_checker.specs.Refusals.{IsRefusedFor}
 use Rattle.osol_grammar.specs.declared.options.Options.{Options}
@@ -38,7 +39,8 @@ pub record OptionsAreOne : Type 0 where
 -- a search has one outcome, whose claim is checked with one answer
 pub record SearchesAreOne : Type 0 where
   pub numbers : (p : Parts) → IsProblem (problem p)
-  pub once : (P : Problem) (t : Terms) (o p : Outcome) (c d : Clock) → IsProblem P → Search P t o c → Search P t p d → (o ≡ p) × (c ≡ d)
+  pub first : (P : Problem) (gs : Option (List (Option Ratio))) (a b : Option Found) → IsProblem P → IsFirstBest P gs a → IsFirstBest P gs b → a ≡ b
+  pub once : (P : Problem) (t : Terms) (gs : Option (List (Option Ratio))) (a b : Option Found) (o p : Outcome) (c d : Clock) → IsProblem P → IsFirstBest P gs a → IsFirstBest P gs b → SearchFrom P t a o c → SearchFrom P t b p d → (o ≡ p) × (c ≡ d)
   pub fractions : (x y : Frac) → IsSame (ratio x) (ratio y) → x ≡ y
   pub refusal : (P : Problem) (claim : Says.Claim) (r s : Refused) → IsProblem P → IsRefusedFor P claim r → IsRefusedFor P claim s → r ≡ s
   pub apart : (P : Problem) (claim : Says.Claim) (r : Refused) → IsProblem P → IsRefusedFor P claim r → Accepts P claim → ⊥

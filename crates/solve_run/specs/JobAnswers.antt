@@ -6,7 +6,8 @@ use Rattle.instance.specs.Program.{problem}
 use Rattle.certificate.specs.declared.causes.Cause.TheVariants.{Memory}
 use Rattle.certificate.specs.declared.claims.Claim.{Claim}
 use Rattle.certificate.specs.declared.claims.Claim.TheVariants.{Unsure}
-use Rattle.search_rules.specs.Search.{Outcome, SearchMoment, ComesInSearch, Search, early}
+use Rattle.search_rules.specs.Search.{Found, Outcome, SearchMoment, early}
+use Rattle.search_rules.specs.Beginnings.{ComesFrom, SearchFrom}
 use Rattle.branch_bound.specs.Claims.{ClaimTells}
 use Rattle.osol_grammar.specs.declared.options.Options.{Options}
 use Rattle.osol_grammar.specs.declared.fault.OsolFault.{OsolFault}
@@ -23,7 +24,8 @@ use Rattle.osrl_writing.specs.Writing.{told_text}
 use Rattle.instance_names.specs.Reading.{GivesNames}
 use Rattle.osrl_grammar.specs.Back.{ClaimComesBack}
 use Rattle.solve_run.specs.Closings.{error_report, claim_report, noted, IsFitted, IsToldOf}
-use Rattle.solve_run.specs.Handing.{HandsInClaim, HandsInNone}
+use Rattle.solve_run.specs.Handing.{HandsInClaim}
+use Rattle.solve_run.specs.Firsts.{IsFirstOf, IsNoteFrom}
 use Rattle.solve_run.specs.Untils.{job_terms, renamed}
 
 -- the options are refused: the report is an error's of no job, and says why
@@ -61,19 +63,21 @@ pub record TakesHanded (osil osol : List ℕ) (r : Report) : Type 0 where
   pub fitted : IsFitted given.options.job claim told
   pub is : r ≡ claim_report given.options.job told
 
--- no such result is handed in, the search of the instance within the options' limits ends after so many looks, of which the given one stops it, for a time that is over, or not, and the report tells what it found, with that time as its cause, and with the message about what is handed in; the claim's numbers are those of their types
+-- no such result is handed in, the search of the instance within the options' limits, from the first point that they say, ends after so many looks, of which the given one stops it, for a time that is over, or not, and the report tells what it found, with that time as its cause, and with the message about what is handed in and about first values; the claim's numbers are those of their types
 pub record Solved (osil osol : List ℕ) (stop : Option ℕ) (timed : Option Frac) (looks : ℕ) (r : Report) : Type 0 where
   pub given : AreJobTexts osil osol
   pub turns : ℕ
+  pub start : Option Found
+  pub first : IsFirstOf (problem given.parts) given.options start
   pub outcome : Outcome
-  pub ends : Search (problem given.parts) (job_terms given.options stop) outcome (record { turns = turns; looks = looks })
+  pub ends : SearchFrom (problem given.parts) (job_terms given.options stop) start outcome (record { turns = turns; looks = looks })
   pub found : Claim
   pub tells : ClaimTells found (renamed timed outcome)
   pub told : Claim
   pub closed : IsToldOf given.parts given.options.job given.options.form turns found told
   pub numbers : ClaimComesBack (Some told)
   pub note : Option (List ℕ)
-  pub handed : HandsInNone osol given.parts note
+  pub noting : IsNoteFrom osol given.options given.parts start note
   pub is : r ≡ noted note (claim_report given.options.job told)
 
 -- a job's name that is told: none, or that of the options
@@ -83,13 +87,22 @@ IsJobOf osol job = (job ≡ None) ⊎ ((o : Options) × IsOptionsText osol o × 
 -- the claim has the best point of some moment of the search
 pub record IsBestOfSearch (osil osol : List ℕ) (c : Claim) : Type 0 where
   pub given : AreJobTexts osil osol
+  pub start : Option Found
+  pub first : IsFirstOf (problem given.parts) given.options start
   pub moment : SearchMoment
-  pub comes : ComesInSearch (problem given.parts) (job_terms given.options None) moment
+  pub comes : ComesFrom (problem given.parts) (job_terms given.options None) start moment
   pub tells : ClaimTells c (early moment.best Memory)
 
--- no message, or that about what the options hand in
+-- the message of some job with these texts
+pub record IsNoteOfTexts (osil osol : List ℕ) (note : Option (List ℕ)) : Type 0 where
+  pub given : AreJobTexts osil osol
+  pub start : Option Found
+  pub first : IsFirstOf (problem given.parts) given.options start
+  pub noting : IsNoteFrom osol given.options given.parts start note
+
+-- no message, or that one
 abbrev pub IsNoteOfJob : (osil osol : List ℕ) → Option (List ℕ) → Type 0
-IsNoteOfJob osil osol note = (note ≡ None) ⊎ ((g : AreJobTexts osil osol) × HandsInNone osol g.parts note)
+IsNoteOfJob osil osol note = (note ≡ None) ⊎ IsNoteOfTexts osil osol note
 
 -- memory was wanting: nothing is claimed, or the best point of some moment of the search
 pub record GaveUp (osil osol : List ℕ) (r : Report) : Type 0 where

@@ -15,6 +15,7 @@ pub mod Judging
 pub mod RowForms
 pub mod Closings
 pub mod Handing
+pub mod Firsts
 pub mod JobAnswers
 pub mod Runs
 pub mod Grounds

@@ -7,7 +7,8 @@ use Rattle.certificate.specs.declared.causes.Cause.TheVariants.{Memory}
 use Rattle.certificate.specs.declared.claims.Claim.{Claim}
 use Rattle.certificate.specs.declared.claims.Claim.TheVariants.{Optimal, Infeasible, Unbounded, BestSoFar, Unsure}
 use Rattle.simplex_rules.specs.Looks.{answers}
-use Rattle.search_rules.specs.Search.{Outcome, IsSearchAnswer}
+use Rattle.search_rules.specs.Search.{Found, Outcome}
+use Rattle.search_rules.specs.Beginnings.{IsAnswerFrom}
 use Rattle.osrl_writing.specs.declared.report.Report.{Report}
 use Rattle.osrl_writing.specs.declared.told_names.NameLists.{NameLists}
 use Rattle.osrl_writing.specs.Labels.{no_names}
@@ -22,6 +23,7 @@ use Rattle.solve_run.specs.declared.handing.Handing.TheVariants.{Taken, Passed}
 use Rattle.document_checker.specs.Documents.{IsShownIn}
 use Rattle.handed_results.specs.declared.handed.Handed.TheVariants.{Once}
 use Rattle.solve_run.specs.declared.document.Document.{Document}
+use Rattle.solve_run.specs.Firsts.{IsFirstOf}
 use Rattle.solve_run.specs.Untils.{job_terms, stop_by, looks_by, MayTime}
 use Rattle.solve_run.specs.JobAnswers.{SaysSeconds, RefusesOptions, RefusesInstance, AreJobTexts, TakesHanded, Solved, GaveUp, AnswersJob, TellsReport}
 
@@ -29,10 +31,12 @@ use Rattle.solve_run.specs.JobAnswers.{SaysSeconds, RefusesOptions, RefusesInsta
 pub record AreSearched (osil osol : List ℕ) (n : ℕ) (killed : Bool) : Type 0 where
   pub given : AreJobTexts osil osol
   pub turns : ℕ
+  pub start : Option Found
+  pub first : IsFirstOf (problem given.parts) given.options start
   pub outcome : Outcome
   pub timed : Option Frac
   pub may : MayTime given.options killed timed
-  pub answers : IsSearchAnswer (problem given.parts) (job_terms given.options (stop_by n killed timed)) outcome (record { turns = turns; looks = looks_by n killed timed })
+  pub answers : IsAnswerFrom (problem given.parts) (job_terms given.options (stop_by n killed timed)) start outcome (record { turns = turns; looks = looks_by n killed timed })
 
 -- there were no looks, or those of the search
 abbrev pub AreSearchLooks : (osil osol : List ℕ) → ℕ → Bool → Type 0

@@ -9,7 +9,8 @@ use Rattle.certificate.specs.declared.causes.Cause.TheVariants.{TimeLimit}
 use Rattle.certificate.specs.declared.claims.Claim.{Claim}
 use Rattle.simplex_rules.specs.Ends.{Terms}
 use Rattle.simplex_rules.specs.Looks.{answers, stop_after, looks_after}
-use Rattle.search_rules.specs.Search.{Outcome, Optimal, Infeasible, Unbounded, BestSoFar, Unsure, IsSearchAnswer}
+use Rattle.search_rules.specs.Search.{Found, Outcome, Optimal, Infeasible, Unbounded, BestSoFar, Unsure}
+use Rattle.search_rules.specs.Beginnings.{IsAnswerFrom}
 use Rattle.branch_bound.specs.Claims.{ClaimTells, is_killed}
 use Rattle.osol_grammar.specs.declared.options.Options.{Options}
 
@@ -56,8 +57,8 @@ named false seconds c = c
 named true None c = c
 named true (Some s) c = given_up c (TimeLimit s)
 
--- what a search within the options' limits and their time found after so many turns, with a watch that came by these looks
-pub record FindsUntil (p : Parts) (o : Options) (Came : List Bool → Type 0) (claim : Claim) (turns : ℕ) : Type 0 where
+-- what a search within the options' limits and their time, from this point on, if from one, found after so many turns, with a watch that came by these looks
+pub record FindsUntil (p : Parts) (o : Options) (start : Option Found) (Came : List Bool → Type 0) (claim : Claim) (turns : ℕ) : Type 0 where
   pub went_on : ℕ
   pub killed : Bool
   pub timed : Option Frac
@@ -65,5 +66,5 @@ pub record FindsUntil (p : Parts) (o : Options) (Came : List Bool → Type 0) (c
   pub came : Came (answers went_on killed)
   pub outcome : Outcome
   pub stopped : is_killed outcome ≡ is_stopped_by killed timed
-  pub answer : IsSearchAnswer (problem p) (job_terms o (stop_by went_on killed timed)) outcome (record { turns = turns; looks = looks_by went_on killed timed })
+  pub answer : IsAnswerFrom (problem p) (job_terms o (stop_by went_on killed timed)) start outcome (record { turns = turns; looks = looks_by went_on killed timed })
   pub tells : ClaimTells claim (renamed timed outcome)

@@ -7,7 +7,7 @@ ghost use Rattle.instance.specs.Program.{problem};
 ghost use Rattle.certificate.specs.Meanings as Means;
 ghost use Rattle.certificate.specs.declared.claims.Claim.{Claim};
 ghost use Rattle.simplex_rules.specs.Ends.{Terms, Clock};
-ghost use Rattle.search_rules.specs.Search.{Outcome, Search};
+ghost use Rattle.search_rules.specs.Search.{Found, Outcome};
 ghost use Rattle.branch_bound.specs.Claims.{ClaimTells};
 ghost use Rattle.osol_grammar.specs.declared.options.Options as kinds;
 ghost use Rattle.osol_grammar.specs.Meaning.{IsOptionsText};
@@ -22,7 +22,9 @@ ghost use Rattle.document_checker.specs.Documents.{kind, IsAcceptedText};
 ghost use Rattle.solve_run.specs.Judging.{IsFinal, IsWideAt};
 ghost use Rattle.solve_run.specs.RowForms.{IsFormed};
 ghost use Rattle.solve_run.specs.Closings.{IsShort, claim_report, noted};
-ghost use Rattle.solve_run.specs.Handing.{HandsInNone};
+ghost use Rattle.rational.specs.Ratio.{Ratio};
+ghost use Rattle.search_rules.specs.Beginnings.{IsFirstBest, SearchFrom};
+ghost use Rattle.solve_run.specs.Firsts.{IsFirstOf, IsNoteFrom};
 ghost use Rattle.solve_run.specs.JobAnswers.{RefusesOptions, RefusesInstance, TakesHanded, Solved, GaveUp, AnswersJob, TellsReport, Right};
 ghost use Rattle.solve_run.specs.Grounds.{OptionsAreOne, SearchesAreOne, HandedAreOne};
 ghost use Rattle.fraction.specs.declared.frac.Frac.{Frac};
@@ -46,7 +48,7 @@ use osol_grammar::{
 use osrl_grammar::{
     document_has_one_report, named_texts_are_reports, read_claims_fit, written_texts_are_reports,
 };
-use search_rules::{answers_are_shown, outcomes_are_shown, searches_have_one_outcome};
+use search_rules::{first_points_are_one, searches_from_points_are_shown};
 
 /// The laws of options' texts.
 fn options_are_one()
@@ -63,7 +65,8 @@ fn searches_are_one()
     ensures { SearchesAreOne }
 {
     problems_have_numbers();
-    searches_have_one_outcome();
+    first_points_are_one();
+    searches_from_points_are_shown();
     equal_fractions();
     claims_have_one_refusal();
     refused_is_not_accepted();
@@ -112,19 +115,19 @@ pub fn answers_are_one()
 /// Law: a claim that a search finds, that a point is optimal, that none is feasible or that points have no best value, is refused
 /// by the checker for width alone.
 pub fn found_claims_are_refused_for_width_alone()
-    ensures { (p : Parts) (t : Terms) (o : Outcome) (found : Claim) (c : Clock) (r : Refused) → Search (problem p) t o c → ClaimTells found o → IsFinal found → IsRefusedFor (problem p) (Means.claim found) r → (n : ℕ) × IsWideAt r n }
+    ensures { (p : Parts) (t : Terms) (gs : Option (List (Option Ratio))) (start : Option Found) (o : Outcome) (found : Claim) (c : Clock) (r : Refused) → IsFirstBest (problem p) gs start → SearchFrom (problem p) t start o c → ClaimTells found o → IsFinal found → IsRefusedFor (problem p) (Means.claim found) r → (n : ℕ) × IsWideAt r n }
 {
     problems_have_numbers();
-    outcomes_are_shown();
+    searches_from_points_are_shown();
     shown_is_refused_for_width_alone();
 }
 
 /// Law: where the search of a job that isn't asked to stop ends with a claim that is refused for no width, and whose document
-/// isn't too long in the form that is asked for, the job's answer tells it so, with the message about a result that is handed in and isn't taken, if there is such;
+/// isn't too long in the form that is asked for, the job's answer tells it so, with the message about a result that is handed in and about first values, which aren't taken, if there are such;
 /// or such a result is taken, or memory is wanting, or a time that its options say was over at a look. Such is each claim that a point is optimal, that none is feasible or that points
 /// have no best value, and that the checker accepts.
 pub fn ended_searches_are_told()
-    ensures { (osil osol : List ℕ) (o : kinds.Options) (p : Parts) (oc : Outcome) (found formed : Claim) (c : Clock) (r : Report) → IsOptionsText osol o → IsInstanceText osil p → Search (problem p) (job_terms o None) oc c → ClaimTells found oc → ((q : Refused) (n : ℕ) → IsRefusedFor (problem p) (Means.claim found) q → IsWideAt q n → ⊥) → IsFormed p o.form found formed → IsShort o.job formed → AnswersJob osil osol false r → ((note : Option (List ℕ)) × HandsInNone osol p note × (r ≡ noted note (claim_report o.job formed))) ⊎ TakesHanded osil osol r ⊎ GaveUp osil osol r ⊎ ((s : Frac) × (looks : ℕ) × (o.seconds ≡ Some s) × Solved osil osol (Some looks) (Some s) looks r) }
+    ensures { (osil osol : List ℕ) (o : kinds.Options) (p : Parts) (start : Option Found) (oc : Outcome) (found formed : Claim) (c : Clock) (r : Report) → IsOptionsText osol o → IsInstanceText osil p → IsFirstOf (problem p) o start → SearchFrom (problem p) (job_terms o None) start oc c → ClaimTells found oc → ((q : Refused) (n : ℕ) → IsRefusedFor (problem p) (Means.claim found) q → IsWideAt q n → ⊥) → IsFormed p o.form found formed → IsShort o.job formed → AnswersJob osil osol false r → ((note : Option (List ℕ)) × IsNoteFrom osol o p start note × (r ≡ noted note (claim_report o.job formed))) ⊎ TakesHanded osil osol r ⊎ GaveUp osil osol r ⊎ ((s : Frac) × (looks : ℕ) × (o.seconds ≡ Some s) × Solved osil osol (Some looks) (Some s) looks r) }
 {
     options_are_one();
     instances_are_one();
@@ -143,7 +146,7 @@ pub fn result_documents_are_read_back()
     named_texts_are_reports();
     options_have_names();
     problems_have_numbers();
-    answers_are_shown();
+    searches_from_points_are_shown();
     read_claims_fit();
     written_texts_are_reports();
 }
@@ -158,7 +161,7 @@ pub fn claims_are_accepted()
     result_documents_are_read_back();
     options_have_names();
     problems_have_numbers();
-    answers_are_shown();
+    searches_from_points_are_shown();
     read_claims_fit();
     written_texts_are_reports();
     accepted_documents_are_true();

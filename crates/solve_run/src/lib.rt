@@ -19,6 +19,7 @@ mod document;
 mod finding;
 mod handing;
 mod laws;
+mod noting;
 mod row_forms;
 mod running;
 mod telling;

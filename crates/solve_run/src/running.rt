@@ -4,22 +4,26 @@ ghost use Rattle.instance.specs.Parts.{IsValid};
 ghost use Rattle.osol_grammar.specs.Meaning.{IsOptionsText};
 ghost use Rattle.osil_grammar.specs.Reading.{IsInstanceText};
 ghost use Rattle.solve_run.specs.Judging.{AreFewRounds};
+ghost use Rattle.instance.specs.Program.{problem};
+ghost use Rattle.branch_bound.specs.Walks.{best as best_of};
+ghost use Rattle.solve_run.specs.Firsts.{IsFirstOf, IsNoteFrom};
 ghost use Rattle.solve_run.specs.Handing.{HandsInNone};
 ghost use Rattle.solve_run.specs.JobAnswers.{Right};
 ghost use Rattle.solve_run.specs.Runs.{Ran, IsRight, AreDueNames, TellsDocument, TellsText};
 
 use crate::document::Document;
-use crate::finding::find_until;
+use crate::finding::{find_until, first_of};
 use crate::handing::{Handing, judge_handed};
+use crate::noting::whole_note;
 use crate::telling::{fitted, found_document, memory_document, refusal};
-use branch_bound::Searched;
+use branch_bound::{Found, Searched};
 use instance::{Instance, problems_have_numbers};
 use instance_names::read_names;
 use os_io::{Memory, Text, Watch};
 use osil_grammar::OsilFault;
 use osol_grammar::{Options, OsolFault, options_have_names, read_options_come_back};
 use osrl_writing::NameLists;
-use search_rules::answers_are_shown;
+use search_rules::searches_from_points_are_shown;
 use std::alloc::Global;
 use std::time::Clock;
 
@@ -33,13 +37,13 @@ fn due_names(alloc: Global, osil: &[u8], options: &Options) -> Result<NameLists,
     read_names(alloc, osil)
 }
 
-/// Runs a job whose options, instance and names are read, and whose options hand in no result that is taken. This message is due about
-/// what they hand in.
-fn run_instance<W: Watch, T: Clock>(
+/// Runs a job whose options, instance and names are read, by a search from this point on, if from one, with this message, if any.
+fn run_from<W: Watch, T: Clock>(
     alloc: Global,
     instance: &Instance,
     names: &NameLists,
     note: Option<Text>,
+    first: Option<Found>,
     options: Options,
     clock: &T,
     watch: &mut W,
@@ -47,12 +51,13 @@ fn run_instance<W: Watch, T: Clock>(
     requires valid { IsValid instance.now }
     requires rounds { AreFewRounds options.rounds }
     requires stops { W.stops watch.old < 2 ^ 64 - 1 }
-    ensures { (osil osol : List ℕ) → IsOptionsText osol options → IsInstanceText osil instance.now → AreDueNames osil options names.now → HandsInNone osol instance.now note → Ran (W.came watch.old watch.new) osil osol (TellsDocument osil osol result) }
+    requires first { IsFirstOf (problem instance.now) options (best_of first) }
+    ensures { (osil osol : List ℕ) → IsOptionsText osol options → IsInstanceText osil instance.now → AreDueNames osil options names.now → IsNoteFrom osol options instance.now (best_of first) note → Ran (W.came watch.old watch.new) osil osol (TellsDocument osil osol result) }
 {
-    let Searched { claim, turns } = find_until(alloc, instance, &options, clock, watch);
+    let Searched { claim, turns } = find_until(alloc, instance, &options, first, clock, watch);
     options_have_names();
     problems_have_numbers();
-    answers_are_shown();
+    searches_from_points_are_shown();
     let form = options.form;
     found_document(
         alloc,
@@ -64,6 +69,31 @@ fn run_instance<W: Watch, T: Clock>(
         claim,
         turns,
     )
+}
+
+/// Runs a job whose options, instance and names are read, and whose options hand in no result that is taken. This message is due about
+/// what they hand in.
+fn run_instance<W: Watch, T: Clock>(
+    alloc: Global,
+    instance: &Instance,
+    names: &NameLists,
+    handed: Option<Text>,
+    options: Options,
+    clock: &T,
+    watch: &mut W,
+) -> Result<Document, Memory>
+    requires valid { IsValid instance.now }
+    requires rounds { AreFewRounds options.rounds }
+    requires stops { W.stops watch.old < 2 ^ 64 - 1 }
+    ensures { (osil osol : List ℕ) → IsOptionsText osol options → IsInstanceText osil instance.now → AreDueNames osil options names.now → HandsInNone osol instance.now handed → Ran (W.came watch.old watch.new) osil osol (TellsDocument osil osol result) }
+{
+    let Ok(first) = first_of(alloc, instance, &options) else {
+        return memory_document(alloc, options.job);
+    };
+    let Ok(note) = whole_note(alloc, handed, &options, &first) else {
+        return memory_document(alloc, options.job);
+    };
+    run_from(alloc, instance, names, note, first, options, clock, watch)
 }
 
 /// Runs a job whose options, instance and names are read. A result that its options hand in is its answer where it is shown of

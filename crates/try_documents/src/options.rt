@@ -2,6 +2,7 @@
 
 use cases::{DocumentCases, Documents};
 use decimal_text::write_ratio;
+use fraction::Frac;
 use itoa::Buffer;
 use os_io::{Memory, Text};
 use osol_grammar::{Options, OsolFault, decode, encode, refusal_text};
@@ -15,6 +16,18 @@ pub(crate) struct Osol;
 fn put_amount(text: &mut Text, word: &[u8], amount: u32) -> Result<(), Memory> {
     text.extend(word)?;
     text.extend(Buffer::new().format(amount).as_bytes())
+}
+
+/// Appends first values, `-` for each that isn't said.
+fn put_values(text: &mut Text, values: &[Option<Frac>]) -> Result<(), Memory> {
+    for value in values {
+        text.extend(b" ")?;
+        match value {
+            Some(value) => write_ratio(*value, text)?,
+            None => text.extend(b"-")?,
+        }
+    }
+    Ok(())
 }
 
 impl Documents for Osol {
@@ -46,6 +59,10 @@ impl Documents for Osol {
         if let Some(seconds) = options.seconds {
             text.extend(b" seconds ")?;
             write_ratio(seconds, &mut text)?;
+        }
+        if let Some(first) = &options.first {
+            text.extend(b" first")?;
+            put_values(&mut text, first.as_slice())?;
         }
         if let Some(job) = &options.job {
             text.extend(b" job ")?;

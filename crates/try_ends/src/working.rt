@@ -81,7 +81,7 @@ fn queue<R: Wait>(
 /// Queues two jobs, runs one by a seat, and has a worker work until it leaves.
 fn work_and_leave<R: Wait>(rt: &R, alloc: Global) -> Result<String, Fault> {
     let (desk, mut seat) = Desk::<AnyDocument>::new(alloc, 1)?;
-    let (wake, naps) = shared(wake_pair(alloc)?);
+    let (wake, signals) = shared(wake_pair(alloc)?);
     queue(rt, alloc, &desk, &mut seat, &wake)?;
     queue(rt, alloc, &desk, &mut seat, &wake)?;
     drop(wake);
@@ -89,7 +89,7 @@ fn work_and_leave<R: Wait>(rt: &R, alloc: Global) -> Result<String, Fault> {
     let worked = work_one_by_seat(rt, alloc, &desk, &mut seat, &Echo, false, &mut gate);
     let claimed = if worked { "a job" } else { "no job" };
     let look = gate.0;
-    work_loop(rt, alloc, &desk, &mut seat, &naps, &Echo, &mut OpenGate);
+    work_loop(rt, alloc, &desk, &mut seat, &signals, &Echo, &mut OpenGate);
     let shown = desk.ask(rt, &mut seat, Retrieve { number: 2 })?;
     let document = match &shown {
         Retrieved::Finished(Some(document)) => text_of(document.as_slice()),
@@ -107,9 +107,9 @@ fn heard(is_heard: bool) -> &'static str {
 
 /// Rings where somebody may sleep, and where nobody can any more.
 fn ring<R: Wait>(rt: &R, alloc: Global) -> Result<String, Fault> {
-    let (wake, naps) = wake_pair(alloc)?;
+    let (wake, signals) = wake_pair(alloc)?;
     let first = heard(wake.ring(rt));
-    drop(naps);
+    drop(signals);
     let last = heard(wake.ring(rt));
     Ok(format!(in alloc; "{first}, and where nobody can sleep {last}")?)
 }

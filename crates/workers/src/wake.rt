@@ -16,14 +16,14 @@ pub struct Wake {
 
 /// The end that workers sleep on, any number of them.
 #[derive(Drop)]
-pub struct Naps {
+pub struct WakeSignals {
     tokens: Receiver<()>,
 }
 
 /// The two ends of a channel of tokens.
-pub fn wake_pair(alloc: Global) -> Result<(Wake, Naps), Memory> {
+pub fn wake_pair(alloc: Global) -> Result<(Wake, WakeSignals), Memory> {
     let (sender, receiver) = unbounded(alloc)?;
-    Ok((Wake { tokens: sender }, Naps { tokens: receiver }))
+    Ok((Wake { tokens: sender }, WakeSignals { tokens: receiver }))
 }
 
 /// What wakes workers. What a ring did is known by its answer alone, so whoever is generic over bells can't say that a worker was woken,
@@ -49,9 +49,9 @@ impl Bell for Wake {
     }
 }
 
-impl Naps {
+impl WakeSignals {
     /// Waits for a token. False once the channel is closed and no token is left.
-    pub fn nap<R: Wait>(&self, rt: &R) -> bool {
+    pub fn wait<R: Wait>(&self, rt: &R) -> bool {
         self.tokens.recv(rt).is_ok()
     }
 }

@@ -10,7 +10,7 @@ ghost use Rattle.workers.specs.Shifts.{WorksUntilNone, WorksThrough};
 ghost use Rattle.workers.specs.Gates.{look_numbers};
 
 use crate::gate::{Gate, Gated};
-use crate::wake::Naps;
+use crate::wake::WakeSignals;
 use desk::{DeskOf, LentSeatOf, SeatOf, Slotted};
 use job_runs::Runner;
 use job_table::{Mover, Verdicts};
@@ -61,7 +61,7 @@ pub fn work_loop<J: Verdicts, T: Slotted<J>, R: Wait, U: Runner<J>, G: Gate>(
     alloc: Global,
     desk: &DeskOf<J, T>,
     seat: &mut SeatOf<T>,
-    naps: &Naps,
+    signals: &WakeSignals,
     runner: &U,
     gate: &mut G,
 )
@@ -76,7 +76,7 @@ pub fn work_loop<J: Verdicts, T: Slotted<J>, R: Wait, U: Runner<J>, G: Gate>(
         looks: 0,
         verdicts: PhantomData,
     };
-    work_through(rt, alloc, &mut gated, naps, runner);
+    work_through(rt, alloc, &mut gated, signals, runner);
     let Gated {
         mover,
         gate: _gate,
@@ -95,13 +95,13 @@ fn work_through<V: Verdicts, C: Mover<V>, R: Wait, U: Runner<V>>(
     rt: &R,
     alloc: Global,
     mover: &mut C,
-    naps: &Naps,
+    signals: &WakeSignals,
     runner: &U,
 )
     ensures { (own : List MoveEntry) × C.did mover.old mover.new own × WorksThrough U.ran own }
 {
     mover.enlist();
-    work_and_sleep(rt, alloc, mover, naps, runner);
+    work_and_sleep(rt, alloc, mover, signals, runner);
     mover.leave();
 }
 
@@ -110,14 +110,14 @@ fn work_and_sleep<V: Verdicts, C: Mover<V>, R: Wait, U: Runner<V>>(
     rt: &R,
     alloc: Global,
     mover: &mut C,
-    naps: &Naps,
+    signals: &WakeSignals,
     runner: &U,
 )
     ensures { (own : List MoveEntry) × C.did mover.old mover.new own × WorksUntilNone U.ran own }
 {
     work_off(rt, alloc, mover, runner);
     for _ in rt.forever() {
-        let woken = naps.nap(rt);
+        let woken = signals.wait(rt);
         work_off(rt, alloc, mover, runner);
         if !woken {
             return;

@@ -4,7 +4,7 @@ use Rattle.certificate.specs.Meanings as Means
 use Rattle.instance.specs.Parts.{Parts}
 use Rattle.instance.specs.Program.{goal as meaning, goals, problem}
 use Rattle.simplex_rules.specs.Looks.{answers, AgreesWith, looks_after}
-use Rattle.search_rules.specs.Search.{ComesInSearch, IsSearchAnswer}
+use Rattle.search_rules.specs.Beginnings.{ComesFrom, IsAnswerFrom}
 use Rattle.branch_bound.specs.declared.found.Found.{Found}
 use Rattle.branch_bound.specs.Claims.{is_killed}
 use Rattle.branch_bound.specs.Walks.{best, waiting}
@@ -20,7 +20,7 @@ last_level p b k (inl e) = inl (ap best e)
 last_level p b k (inr l) = inr (drop_all (k + 1) (goals p.goals) (let long = length-map p.goals meaning in omega arith))
 
 pub search_levels-requires-clause-state : goal.search_levels-requires-clause-state
-search_levels-requires-clause-state g c = begun_state c.args.instance.now c.args.limits c.args.state c.requires.begun
+search_levels-requires-clause-state g c = begun_state c.args.instance.now c.args.limits c.args.state c.requires.begun c.args.first c.requires.values
 
 pub returns-in-Ok : goal.returns-in-Ok
 returns-in-Ok g c =
@@ -38,12 +38,12 @@ returns-in-Ok g c =
       subst (λ (b : Bool). g.W.Watch.came a.watch.now c.search_levels.new.watch (answers m.looks b)) (sym m.is ∙ sym goes) m.came,
       λ stop h.
           let stood = subst (λ (b : Bool). AgreesWith stop 0 m.looks b) (goes ∙ m.is) h in
-          let last = m.carries 0 stop (begun_comes p a.limits a.state c.requires.begun (terms a.limits stop)) stood in
+          let last = m.carries (best a.first) 0 stop (begun_comes p a.limits a.state c.requires.begun a.first (terms a.limits stop)) stood in
           let L = last.stands.program in
           let D = last.stands.cut in
           let none : waiting D w w.next ≡ [] = ap (waiting D w) c.in-Ok.ensures.closed in
-          subst (λ (b : Bool). IsSearchAnswer (problem p) (terms a.limits stop) o (clock_at s (looks_after 0 m.looks b))) (sym m.is ∙ sym goes)
-          (answer (problem p) (terms a.limits stop) (moment p L D v w (clock_at s (looks_after 0 m.looks m.killed))) refl refl refl none (last_level p w.best v.goal c.in-Ok.ensures.last) (subst (ComesInSearch (problem p) (terms a.limits stop)) last.stands.is last.comes)),
+          subst (λ (b : Bool). IsAnswerFrom (problem p) (terms a.limits stop) (best a.first) o (clock_at s (looks_after 0 m.looks b))) (sym m.is ∙ sym goes)
+          (answer (problem p) (terms a.limits stop) (best a.first) (moment p L D v w (clock_at s (looks_after 0 m.looks m.killed))) refl refl refl none (last_level p w.best v.goal c.in-Ok.ensures.last) (subst (ComesFrom (problem p) (terms a.limits stop) (best a.first)) last.stands.is last.comes)),
     )
 
 pub returns-in-Err : goal.returns-in-Err
@@ -60,6 +60,6 @@ returns-in-Err g c =
       c.claim_of.ensures,
       subst (λ (b : Bool). g.W.Watch.came a.watch.now c.search_levels.new.watch (answers m.looks b)) (sym goes) m.came,
       λ stop h.
-          subst (λ (b : Bool). IsSearchAnswer (problem p) (terms a.limits stop) o (clock_at u.relaxation (looks_after 0 m.looks b))) (sym goes)
-          (m.carries 0 stop (begun_comes p a.limits a.state c.requires.begun (terms a.limits stop)) (subst (λ (b : Bool). AgreesWith stop 0 m.looks b) goes h)),
+          subst (λ (b : Bool). IsAnswerFrom (problem p) (terms a.limits stop) (best a.first) o (clock_at u.relaxation (looks_after 0 m.looks b))) (sym goes)
+          (m.carries (best a.first) 0 stop (begun_comes p a.limits a.state c.requires.begun a.first (terms a.limits stop)) (subst (λ (b : Bool). AgreesWith stop 0 m.looks b) goes h)),
     )

@@ -7,6 +7,7 @@ use Rattle.simplex_rules.specs.Ends.{Terms, Clock}
 use Rattle.simplex_rules.specs.Looks.{stop_after, looks_after}
 use Rattle.simplex_rules.proofs.Looks.{agrees}
 use Rattle.search_rules.specs.Search.{IsSearchAnswer}
+use Rattle.search_rules.proofs.FirstPoints.{plain_answer}
 use Rattle.no_cycles.proofs.OneCaseSearches.{within_turns}
 use Rattle.branch_bound.specs.Claims.{is_killed}
 use Rattle.branch_bound.proofs.PointSteps.{later_none}
@@ -14,7 +15,15 @@ use Rattle.branch_bound.proofs.ClaimsAtEnd.{no_turn_limit}
 use Rattle.branch_bound.proofs.searching.search.Goals as goal
 
 pub returns-clause-answer : goal.returns-clause-answer
-returns-clause-answer g c = c.search_on.ensures
+returns-clause-answer g c =
+    let p = c.args.instance.now in
+    let (k, o, tells, came, answer) = c.search_on.ensures in (
+      k,
+      o,
+      tells,
+      came,
+      λ stop h. plain_answer (problem p) (record { nodes = c.args.nodes; turns = c.args.turns; rounds = c.args.rounds; stop = stop }) o (record { turns = c.search_on.result.turns; looks = looks_after 0 k (is_killed o) }) (answer stop h),
+    )
 
 pub returns-clause-enough : goal.returns-clause-enough
 returns-clause-enough g c = λ one plain ranges feasible enough n e.
@@ -27,5 +36,5 @@ returns-clause-enough g c = λ one plain ranges feasible enough n e.
     no_turn_limit o n
     (within_turns (program p) t plain ranges (program-instance p) feasible
     (subst (λ (k : ℕ). 4 ^ k ≤ c.args.turns) (let v = length-map p.vars variable in let r = length-map p.rows row in omega arith) enough)
-    o d (subst (λ (P : Problem). IsSearchAnswer P t o d) alone_is (answer stop (agrees k (is_killed o)))))
+    o d (subst (λ (P : Problem). IsSearchAnswer P t o d) alone_is (plain_answer (problem p) t o d (answer stop (agrees k (is_killed o))))))
     (sym tells.cause ∙ e)

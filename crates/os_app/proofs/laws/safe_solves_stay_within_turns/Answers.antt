@@ -5,7 +5,7 @@ pub returns : goal.returns
 returns g c = λ status run stores stores_after osil_name options_name osil p seconds runs solve holds text single plain ranges feasible few.
     run_within (record {
       numbers = c.programs_have_numbers.ensures;
-      within = c.safe_limits_are_enough.ensures;
+      within = c.safe_limits_are_enough_from_points.ensures;
       once = c.documents_mean_one_instance.ensures.text;
       back = c.comes_back.ensures;
       written = c.read_options_come_back.ensures;

@@ -1,5 +1,5 @@
 use Rattle.std.proofs.Common.{[], refl, subst}
-use Rattle.os_server.specs.declared.fault.NoOrder.{NoOrder}
+use Rattle.os_server.specs.declared.fault.OrderFault.{OrderFault}
 use Rattle.os_server.specs.Orders.{AsksNothing}
 use Rattle.os_server.proofs.Replies.{replied, refused}
 use Rattle.os_server.proofs.reply.reply_to.Goals as goal
@@ -19,4 +19,4 @@ returns-in-Ok-said_fault g c = λ bytes taken. (
 
 pub returns-in-Err-Envelope : goal.returns-in-Err-Envelope
 returns-in-Err-Envelope g c = λ bytes taken.
-    ([], g.met.C.Mover.stays c.args.mover.now, (subst (λ (n : NoOrder). AsksNothing bytes n) c.in-Err-Envelope.field-0-is (c.in-Err-Envelope.ensures.err bytes taken), refl, refl))
+    ([], g.met.C.Mover.stays c.args.mover.now, (subst (λ (n : OrderFault). AsksNothing bytes n) c.in-Err-Envelope.field-0-is (c.in-Err-Envelope.ensures.err bytes taken), refl, refl))

@@ -1,14 +1,17 @@
-use Rattle.solve_run.proofs.Runs.{ran, shown_by, claim_shown, few_by}
+use Rattle.std.proofs.Common.{inr, refl}
+use Rattle.solve_run.proofs.Runs.{quiet_memory}
 use Rattle.solve_run.proofs.running.run_instance.Goals as goal
 
-pub found_document-requires-clause-shown : goal.found_document-requires-clause-shown
-found_document-requires-clause-shown g c =
-    claim_shown _ _ _ _ _ c.find_until-claim.ensures (shown_by _ _ _ _ _ c.find_until-claim.ensures c.answers_are_shown.ensures c.problems_have_numbers.ensures.numbers)
+pub returns-in_default : goal.returns-in_default
+returns-in_default g c = λ osil osol options_text instance_text due none_handed.
+    quiet_memory (g.W.Watch.came c.args.watch.now c.args.watch.now) osil osol c.args.options.job c.memory_document.result
+    (g.met.W.Watch.stays c.args.watch.now) (inr (c.args.options, options_text, refl)) c.memory_document.ensures
 
-pub found_document-requires-clause-few : goal.found_document-requires-clause-few
-found_document-requires-clause-few g c = few_by _ _ _ _ _ c.find_until-claim.ensures c.requires.rounds
+pub returns-in_default-whole_note : goal.returns-in_default-whole_note
+returns-in_default-whole_note g c = λ osil osol options_text instance_text due none_handed.
+    quiet_memory (g.W.Watch.came c.args.watch.now c.args.watch.now) osil osol c.args.options.job c.memory_document-in_default-whole_note.result
+    (g.met.W.Watch.stays c.args.watch.now) (inr (c.args.options, options_text, refl)) c.memory_document-in_default-whole_note.ensures
 
 pub returns : goal.returns
 returns g c = λ osil osol options_text instance_text due none_handed.
-    ran _ _ _ _ _ c.find_until-claim.ensures osil osol c.args.names.now c.args.note c.found_document.result c.requires.valid (c.options_have_names.ensures osol c.args.options options_text) options_text instance_text due none_handed
-    (shown_by _ _ _ _ _ c.find_until-claim.ensures c.answers_are_shown.ensures c.problems_have_numbers.ensures.numbers) c.found_document.ensures
+    c.run_from.ensures osil osol options_text instance_text due (record { handed = c.args.handed; none_handed = none_handed; is = c.in-Ok-whole_note.ensures })

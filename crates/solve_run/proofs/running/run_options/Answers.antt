@@ -10,7 +10,7 @@ returns-in-Err-Memory g c = λ text.
     quiet_memory (g.W.Watch.came c.args.watch.now c.args.watch.now) c.args.osil.now c.args.osol.now c.args.options.job c.memory_document.result
     (g.met.W.Watch.stays c.args.watch.now) (inr (c.args.options, text, refl)) c.memory_document.ensures
 
-pub returns-in-Err : goal.returns-in-Err
-returns-in-Err g c = λ text.
+pub returns : goal.returns
+returns g c = λ text.
     quiet_instance (g.W.Watch.came c.args.watch.now c.args.watch.now) c.args.osil.now c.args.osol.now c.args.options c.in-Err.fault c.refusal_text-message.result c.refusal.result
     (g.met.W.Watch.stays c.args.watch.now) text c.in-Err.ensures.err c.refusal_text-message.ensures c.refusal.ensures

@@ -9,7 +9,8 @@ use Rattle.instance.specs.Program.{goal as goal_of, goals, problem}
 use Rattle.instance.specs.declared.parts.Goal.{Goal as Own}
 use Rattle.certificate.specs.Meanings as Means
 use Rattle.certificate.specs.declared.causes.Cause.TheVariants.{Memory}
-use Rattle.search_rules.specs.Search.{SearchMoment, To, Out, reached, goes_on, searched, early, IsNextInSearch}
+use Rattle.search_rules.specs.Search.{SearchMoment, To, Out, reached, early, IsNextInSearch}
+use Rattle.search_rules.specs.Beginnings.{goes_on, searched}
 use Rattle.simplex_rules.specs.Ends.{Clock}
 use Rattle.simplex.specs.declared.answer.Turns.{Turns}
 use Rattle.simplex_rules.specs.Looks.{looks_after}
@@ -50,7 +51,7 @@ returns-in-Ok-ask_next-clause-moments g c = record {
   killed = false;
   is = refl;
   came = g.met.W.Watch.stays c.args.watch.now;
-  carries = λ looks stop stands tells.
+  carries = λ start looks stop stands tells.
       let p = c.args.instance.now in
       let r = c.args.self.now.relaxation in
       let v = c.args.self.now.level in
@@ -89,14 +90,14 @@ returns-in-Err-ask_next-clause-moments g c = record {
   killed = false;
   is = c.give_up.ensures.killed;
   came = g.met.W.Watch.stays c.args.watch.now;
-  carries = λ looks stop stands tells.
+  carries = λ start looks stop stands tells.
       let p = c.args.instance.now in
       let r = c.args.self.now.relaxation in
       let s = c.ask_next.new.relaxation in
       let u = c.ask_next.new.level in
       let e = c.ask_next.ensures in
       let clock : clock_at s (looks + 0) ≡ clock_at r looks = ap₂ (λ (n k : ℕ). record { turns = n; looks = k }) (ap (λ (k : Turns). k.done) e.turns) (omega arith) in
-      gives_up (problem p) (terms c.args.limits stop) stands.at (outcome_of (Means.certificates u.certs) c.give_up.result) (clock_at s (looks + 0)) stands.comes
+      gives_up (problem p) (terms c.args.limits stop) start stands.at (outcome_of (Means.certificates u.certs) c.give_up.result) (clock_at s (looks + 0)) stands.comes
       (c.give_up.ensures.told (Means.certificates u.certs) ∙ ap (λ (b : Option Best.Found). early (best b) Memory) e.best ∙ sym (ap (λ (m : SearchMoment). early m.best Memory) stands.stands.is))
       (clock ∙ sym (ap (λ (m : SearchMoment). m.clock) stands.stands.is));
 }
@@ -110,7 +111,7 @@ returns-in-Err-clause-moments g c =
       killed = q.1;
       is = q.2;
       came = q.3;
-      carries = λ looks stop stands tells.
+      carries = λ start looks stop stands tells.
           let p = c.args.instance.now in
           let r = c.args.self.now.relaxation in
           let v = c.args.self.now.level in

@@ -8,7 +8,7 @@ use Rattle.job_journal.specs.CompactFaults.{IsOfWrite}
 use Rattle.job_journal.proofs.Calms.{calm_start, runs_on}
 use Rattle.job_journal.proofs.SoleMeanings.{weaker}
 use Rattle.job_journal.proofs.Compactions.{written_is, unwritten_old, unwritten_undamaged, unwritten_copies}
-use Rattle.job_journal.proofs.compacting.write_again.Goals as goal
+use Rattle.job_journal.proofs.compacting.write_compacted.Goals as goal
 
 pub copy-requires : goal.copy-requires
 copy-requires g c = record { drafted = λ t. ([], c.in-Ok-begun.ensures.drafted (sym c.in-Ok-begun.ensures.told ∙ t)) }

@@ -1,0 +1,4 @@
+use Rattle.branch_bound.proofs.searching.search_from.Given as goal
+
+abbrev pub ghosts-search_on : goal.ghosts-search_on
+ghosts-search_on g a = record { name = a.blank.name; parts = a.blank.parts }
