@@ -75,7 +75,7 @@ class Result:
 
     @cached_property
     def certificate(self) -> dict[str, tuple[str, ...]]:
-        """The items of each part of the certificate by its name: `point`, `value`, `ray`, `rounds`, `tree`, `cause`."""
+        """The items of each part of the certificate by its name: `point`, `value`, `ray`, `rounds`, `tree`, `cause`, `bound`."""
         root = parsed(self.document, self.document.encode()) if self.document else ElementTree.Element("osrl")
         parts = below(root, "optimization", "solution", "otherSolutionResults", "otherSolutionResult")
         return {
