@@ -267,7 +267,7 @@ class Foreign(unittest.TestCase):
         told = {"id": "org.gubnatris.nl", "name": "nl", "version": "1", "mznlib": "-Glinear", "executable": str(DRIVER), "supportsFzn": False, "supportsNL": True}
         with tempfile.TemporaryDirectory() as folder:
             Path(folder, "nl.msc").write_text(json.dumps(told), encoding="utf-8")
-            for name in ("knapsack", "blending", "tardiness"):
+            for name in ("bag", "blending", "tardiness"):
                 answers = []
                 for solver in ("org.gubnatris.nl", "gecode"):
                     words = ["minizinc", "--solver", solver, models / f"{name}.mzn"]

@@ -76,7 +76,7 @@ class Models(unittest.TestCase):
                 self.assertEqual(found, wanted, err)
 
     def test_statistics(self):
-        made = subprocess.run(["minizinc", "--solver", "gubnatris", "-s", HERE / "models/knapsack.mzn"], capture_output=True, text=True, check=False, env=ENVIRONMENT)
+        made = subprocess.run(["minizinc", "--solver", "gubnatris", "-s", HERE / "models/bag.mzn"], capture_output=True, text=True, check=False, env=ENVIRONMENT)
         for line in ("objective=37.0", "objectiveBound=37.0", "nSolutions=1"):
             self.assertIn(f"%%%mzn-stat: {line}\n", made.stdout)
 
