@@ -3,7 +3,7 @@
 use Rattle.std.specs.Prelude.{◌≡◌, ◌≢◌, ℕ, List, [], ◌∷◌, ◌++◌, Bool, Option}
 use Rattle.std.proofs.Common.{refl, sym, ◌∙◌, ap, subst, append_assoc, append-nil}
 use Rattle.std.proofs.lemmas.List.{map-append}
-use Rattle.job_table.specs.History.{MoveEntry as Said}
+use Rattle.job_table.specs.History.{MoveEntry}
 use Rattle.desk.specs.declared.view.SeatEntry.{SeatEntry}
 use Rattle.desk.specs.declared.view.View.{View}
 use Rattle.desk.specs.History.{IsLegal, StartsWith, entry_of_seat, by, entries_by}
@@ -11,20 +11,20 @@ use Rattle.desk.specs.Rule.{HasMet}
 use Rattle.desk.specs.SeatMoves.{Stays}
 
 -- moves of one seat after others of it, as they are listed
-by_then : (m n : ℕ) (a b : List Said) → n ≡ m → by m a ++ by n b ≡ by m (a ++ b)
+by_then : (m n : ℕ) (a b : List MoveEntry) → n ≡ m → by m a ++ by n b ≡ by m (a ++ b)
 by_then m n a b same = ap (λ (k : ℕ). by m a ++ by k b) same ∙ sym (map-append (λ s. entry_of_seat m s.table_move s.reply) a b)
 
-abbrev IsFull : List Said → Type 0
+abbrev IsFull : List MoveEntry → Type 0
 IsFull [] = ⊥
 IsFull (x ∷ xs) = Unit {0}
 
 -- where moves were made, the first ones or the last ones were
-legal_then : (before after : Type 0) (a b : List Said) → (a ≢ [] → before) → (before → after) → (b ≢ [] → after) → a ++ b ≢ [] → after
+legal_then : (before after : Type 0) (a b : List MoveEntry) → (a ≢ [] → before) → (before → after) → (b ≢ [] → after) → a ++ b ≢ [] → after
 legal_then before after a [] first still last some = still (first (λ none. some (append-nil a ∙ none)))
 legal_then before after a (y ∷ ys) first still last some = last (λ none. subst IsFull none tt)
 
 module _ (is_legal : List SeatEntry → Type 0) where
-  pub record AskedBy (v w : View) (said : List Said) : Type 0 where
+  pub record AskedBy (v w : View) (said : List MoveEntry) : Type 0 where
     pub mine : w.mine ≡ v.mine ++ by v.number said
     pub seen : StartsWith w.seen v.seen
     pub stand : entries_by w.number w.seen ≡ entries_by v.number v.seen ++ by v.number said
@@ -46,7 +46,7 @@ module _ (is_legal : List SeatEntry → Type 0) where
   }
 
   -- moves after moves are both
-  pub made_then : (v w x : View) (a b : List Said) → AskedBy v w a → AskedBy w x b → AskedBy v x (a ++ b)
+  pub made_then : (v w x : View) (a b : List MoveEntry) → AskedBy v w a → AskedBy w x b → AskedBy v x (a ++ b)
   made_then v w x a b p q =
       let both : (m m' m'' : List SeatEntry) → m' ≡ m ++ by v.number a → m'' ≡ m' ++ by w.number b → m'' ≡ m ++ by v.number (a ++ b) = λ m m' m'' first last.
       last ∙ ap (λ l. l ++ by w.number b) first ∙ append_assoc m (by v.number a) (by w.number b)
@@ -65,17 +65,17 @@ module _ (is_legal : List SeatEntry → Type 0) where
       }
 
 -- the same where which histories are legal goes by what was told, and the same was told
-pub then_by : {T : Type 0} (legal : T → List SeatEntry → Type 0) (told other : T) (v w x : View) (a b : List Said) → other ≡ told → AskedBy (legal told) v w a → AskedBy (legal other) w x b
+pub then_by : {T : Type 0} (legal : T → List SeatEntry → Type 0) (told other : T) (v w x : View) (a b : List MoveEntry) → other ≡ told → AskedBy (legal told) v w a → AskedBy (legal other) w x b
     → AskedBy (legal told) v x (a ++ b)
 then_by legal told other v w x a b same p q = made_then (legal told) v w x a b p (subst (λ t. AskedBy (legal t) w x b) same q)
 
 -- the same where a history is legal from some empty table on
 module _ (right : List ℕ → List ℕ → Bool → Option (List ℕ) → Type 0) where
-  abbrev pub Asked : View → View → List Said → Type 0
+  abbrev pub Asked : View → View → List MoveEntry → Type 0
   Asked v w said = AskedBy (IsLegal right) v w said
 
   pub asked_none : (v : View) → Asked v v []
   asked_none v = made_none (IsLegal right) v
 
-  pub asked_then : (v w x : View) (a b : List Said) → Asked v w a → Asked w x b → Asked v x (a ++ b)
+  pub asked_then : (v w x : View) (a b : List MoveEntry) → Asked v w a → Asked w x b → Asked v x (a ++ b)
   asked_then v w x a b p q = made_then (IsLegal right) v w x a b p q

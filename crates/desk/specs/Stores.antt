@@ -8,7 +8,7 @@ use Rattle.job_table.specs.declared.entries.Reply.TheVariants.{NotStored}
 use Rattle.job_table.specs.Jobs.{Register}
 use Rattle.job_table.specs.Steps.{row_of_move}
 use Rattle.job_table.specs.Plans.{planned}
-use Rattle.job_table.specs.History.{MoveEntry as Said, entry_of_move, LeadsStepwise, LeadsOn}
+use Rattle.job_table.specs.History.{MoveEntry, entry_of_move, LeadsStepwise, LeadsOn}
 use Rattle.desk.specs.declared.view.SeatEntry.{SeatEntry}
 use Rattle.desk.specs.Kinds.{Moves}
 use Rattle.desk.specs.History.{Makes, CanMake, moves_in}
@@ -19,7 +19,7 @@ was_made (NotStored fault) = false
 was_made _ = true
 
 -- the moves that were made, with their replies
-abbrev pub made_moves : List SeatEntry → List Said
+abbrev pub made_moves : List SeatEntry → List MoveEntry
 made_moves [] = []
 made_moves (e ∷ es) = if was_made e.reply then entry_of_move e.table_move e.reply ∷ made_moves es else made_moves es
 

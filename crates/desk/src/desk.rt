@@ -12,7 +12,7 @@ ghost use Rattle.desk.specs.SeatMoves.{desk_id, told_of, IsSeatOf, AddsEntry, Wa
 ghost use Rattle.atomic_table.specs.Table.{step};
 ghost use mathlib.Core.Option.{none};
 
-use crate::held::Slotted;
+use crate::held::SlotContents;
 use crate::line::{Line, Waiter};
 use crate::plays::{Begins, Draw, Enters, Look, OneMore, PassOn, Settle, Skip};
 use crate::shape::{DeskOf, Locked, SeatOf};
@@ -35,7 +35,7 @@ const SERVING: usize = 1;
 /// The slot.
 const SLOT: usize = 0;
 
-impl<J: Verdicts, T: Slotted<J>> DeskOf<J, T> {
+impl<J: Verdicts, T: SlotContents<J>> DeskOf<J, T> {
     /// A desk with this in its slot, and its first seat; or, without memory, what was to lie there.
     pub(crate) fn open(alloc: Global, held: T) -> Result<(DeskOf<J, T>, SeatOf<T>), T>
         requires { T.opening held ≡ held }

@@ -12,7 +12,7 @@ use crate::means::{Means, ServeFault};
 use crate::places::{Started, put_in, take_out};
 use crate::promise::{Finished, ToServe};
 use crossbeam_channel::{Receiver, Sender};
-use desk::{DeskOf, LentSeatOf, SeatOf, Slotted};
+use desk::{DeskOf, LentSeatOf, SeatOf, SlotContents};
 use job_table::Verdicts;
 use link_service::Service;
 use open_links::OpenLink;
@@ -34,7 +34,7 @@ pub(crate) type Places<J, T, L, S, B> = Vec<Option<StartedLink<J, T, L, S, B>>>;
 ///
 /// A number that says which place is free, or becomes so, is a hint: whoever takes a place joins the thread that is still in it.
 #[derive(Drop)]
-pub(crate) struct Running<J: Verdicts, T: Slotted<J>, L: Link, S: Service<J>, B: Bell> {
+pub(crate) struct Running<J: Verdicts, T: SlotContents<J>, L: Link, S: Service<J>, B: Bell> {
     pub(crate) places: Places<J, T, L, S, B>,
     /// The numbers of the places that are free.
     pub(crate) free: Vec<usize>,
@@ -65,7 +65,7 @@ impl<T, N> Before<T, N> {
 
 /// Serves a link by moves of this seat, and closes it when the conversation is over, so that its peer reads the end. Its last act is to
 /// say that this place becomes free.
-fn serve_by<J: Verdicts, T: Slotted<J>, L: Close, R: Wait, S: Service<J>, B: Bell>(
+fn serve_by<J: Verdicts, T: SlotContents<J>, L: Close, R: Wait, S: Service<J>, B: Bell>(
     rt: &R,
     alloc: Global,
     desk: &DeskOf<J, T>,
@@ -103,7 +103,7 @@ fn serve_link<
     's,
     E,
     J: Verdicts + Send + Sync,
-    T: Slotted<J> + Send + Sync,
+    T: SlotContents<J> + Send + Sync,
     L: Close + Send + Drop + 's,
     R: Threads + Wait + Sync,
     S: Service<J> + Sync,
@@ -157,7 +157,7 @@ pub(crate) struct LinkHost<
     's,
     E,
     J: Verdicts,
-    T: Slotted<J>,
+    T: SlotContents<J>,
     N,
     L: Link,
     R,
@@ -176,7 +176,7 @@ impl<
     's,
     E,
     J: Verdicts + Send + Sync,
-    T: Slotted<J> + Send + Sync,
+    T: SlotContents<J> + Send + Sync,
     N: Listener,
     R: Threads + Wait + Sync,
     S: Service<J> + Sync,

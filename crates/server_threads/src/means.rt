@@ -7,7 +7,7 @@ ghost use Rattle.server_threads.specs.OpenLinks.{MayServe};
 use crate::links::{Places, Running};
 use crate::staff::Shifts;
 use crossbeam_channel::{Sender, bounded};
-use desk::{DeskOf, Slotted};
+use desk::{DeskOf, SlotContents};
 use job_table::Verdicts;
 use link_service::Service;
 use os_io::{Link, Memory};
@@ -41,7 +41,7 @@ pub struct ServeLimits {
 
 /// What all threads use.
 #[derive(Drop)]
-pub(crate) struct Means<'s, J: Verdicts, T: Slotted<J>, R, S> {
+pub(crate) struct Means<'s, J: Verdicts, T: SlotContents<J>, R, S> {
     pub(crate) rt: &'s R,
     pub(crate) alloc: Global,
     pub(crate) desk: &'s DeskOf<J, T>,
@@ -54,7 +54,7 @@ pub(crate) struct Means<'s, J: Verdicts, T: Slotted<J>, R, S> {
     pub(crate) limits: ServeLimits,
 }
 
-impl<'s, J: Verdicts, T: Slotted<J>, R, S> Means<'s, J, T, R, S> {
+impl<'s, J: Verdicts, T: SlotContents<J>, R, S> Means<'s, J, T, R, S> {
     /// The same once more.
     pub(crate) fn again(&self) -> Means<'s, J, T, R, S>
         ensures { result ≡ self.now }
@@ -84,14 +84,14 @@ impl<'s, J: Verdicts, T: Slotted<J>, R, S> Means<'s, J, T, R, S> {
 
 /// Room for the links that are served at once, and for the workers, with what wakes these.
 #[derive(Drop)]
-pub(crate) struct Room<J: Verdicts, T: Slotted<J>, L: Link, S: Service<J>> {
+pub(crate) struct Room<J: Verdicts, T: SlotContents<J>, L: Link, S: Service<J>> {
     pub(crate) running: Running<J, T, L, S, Wake>,
     pub(crate) shifts: Shifts<J, T, S>,
     pub(crate) wake: Wake,
 }
 
 /// So many places, all of them free, with their numbers.
-fn free_places<J: Verdicts, T: Slotted<J>, L: Link + Drop, S: Service<J>>(
+fn free_places<J: Verdicts, T: SlotContents<J>, L: Link + Drop, S: Service<J>>(
     alloc: Global,
     servers: usize,
 ) -> Result<(Places<J, T, L, S, Wake>, Vec<usize>), Memory>
@@ -106,7 +106,7 @@ fn free_places<J: Verdicts, T: Slotted<J>, L: Link + Drop, S: Service<J>>(
     Ok((places, free))
 }
 
-impl<J: Verdicts, T: Slotted<J>, L: Link + Drop, S: Service<J>> Room<J, T, L, S> {
+impl<J: Verdicts, T: SlotContents<J>, L: Link + Drop, S: Service<J>> Room<J, T, L, S> {
     /// Takes as much room as is needed. What workers sleep on comes with it, and where threads of links say that they are over.
     pub(crate) fn new(
         alloc: Global,

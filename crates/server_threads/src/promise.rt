@@ -2,7 +2,7 @@
 
 ghost use Rattle.std.specs.Prelude.{◌≡◌};
 
-use desk::{SeatOf, Slotted};
+use desk::{SeatOf, SlotContents};
 use job_table::Verdicts;
 use link_service::Service;
 use os_io::Link;
@@ -22,7 +22,7 @@ pub(crate) struct Finished<S, L> {
 
 /// The promise to serve this link by moves of this seat.
 #[derive(Drop)]
-pub(crate) struct ToServe<J: Verdicts, T: Slotted<J>, L, S, B> {
+pub(crate) struct ToServe<J: Verdicts, T: SlotContents<J>, L, S, B> {
     pub(crate) seat: Snapshot<SeatOf<T>>,
     pub(crate) link: Snapshot<L>,
     pub(crate) service: PhantomData<S>,
@@ -30,7 +30,7 @@ pub(crate) struct ToServe<J: Verdicts, T: Slotted<J>, L, S, B> {
     pub(crate) verdicts: PhantomData<J>,
 }
 
-impl<J: Verdicts, T: Slotted<J>, L, S, B> ToServe<J, T, L, S, B> {
+impl<J: Verdicts, T: SlotContents<J>, L, S, B> ToServe<J, T, L, S, B> {
     /// The promise of this seat and this link.
     pub(crate) fn of(seat: &SeatOf<T>, link: &L) -> ToServe<J, T, L, S, B>
         ensures seat { result.seat.value ≡ seat.now }
@@ -46,8 +46,9 @@ impl<J: Verdicts, T: Slotted<J>, L, S, B> ToServe<J, T, L, S, B> {
     }
 }
 
-impl<J: Verdicts, T: Slotted<J>, L: Link, S: Service<J>, B: Bell> Promise<Finished<SeatOf<T>, L>>
-    for ToServe<J, T, L, S, B> {
+impl<J: Verdicts, T: SlotContents<J>, L: Link, S: Service<J>, B: Bell> Promise<
+    Finished<SeatOf<T>, L>,
+> for ToServe<J, T, L, S, B> {
     ghost use Rattle.server_threads.specs.Talks.{Acts, AnyHistory};
 
     ghost kept_by = { λ p r. Acts AnyHistory (λ said. S.talked B.rang (L.tells p.link.value) said (L.tells r.link) r.short) p.seat.value r.seat };
@@ -55,13 +56,13 @@ impl<J: Verdicts, T: Slotted<J>, L: Link, S: Service<J>, B: Bell> Promise<Finish
 
 /// The promise to work on this seat.
 #[derive(Drop)]
-pub(crate) struct ToWork<J: Verdicts, T: Slotted<J>, S> {
+pub(crate) struct ToWork<J: Verdicts, T: SlotContents<J>, S> {
     pub(crate) seat: Snapshot<SeatOf<T>>,
     pub(crate) service: PhantomData<S>,
     pub(crate) verdicts: PhantomData<J>,
 }
 
-impl<J: Verdicts, T: Slotted<J>, S: Service<J>> Promise<SeatOf<T>> for ToWork<J, T, S> {
+impl<J: Verdicts, T: SlotContents<J>, S: Service<J>> Promise<SeatOf<T>> for ToWork<J, T, S> {
     ghost use Rattle.server_threads.specs.Talks.{Acts, AnyHistory, IsShift};
 
     ghost kept_by = { λ p r. Acts AnyHistory (IsShift S.ran) p.seat.value r };

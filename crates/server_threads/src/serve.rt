@@ -9,7 +9,7 @@ ghost use Rattle.server_threads.specs.OpenLinks.{HasServedLinks, MayServe};
 use crate::links::{LinkHost, ending};
 use crate::means::{Means, Room, ServeFault, ServeLimits};
 use crate::staff::{join_workers, start_workers};
-use desk::{DeskOf, SeatOf, Slotted};
+use desk::{DeskOf, SeatOf, SlotContents};
 use job_table::Verdicts;
 use link_service::Service;
 use os_io::{Link, Listener};
@@ -25,7 +25,7 @@ fn serve_beside<
     's,
     E,
     J: Verdicts + Send + Sync,
-    T: Slotted<J> + Send + Sync,
+    T: SlotContents<J> + Send + Sync,
     N: Listener,
     R: Threads + Wait + Sync,
     S: Service<J> + Sync,
@@ -80,7 +80,7 @@ where
 pub fn serve_loop<
     's,
     J: Verdicts + Send + Sync,
-    T: Slotted<J> + Send + Sync,
+    T: SlotContents<J> + Send + Sync,
     N: Listener,
     R: Threads + Wait + Sync,
     S: Service<J> + Sync,

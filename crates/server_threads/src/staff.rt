@@ -12,7 +12,7 @@ ghost use Rattle.server_threads.specs.OpenLinks.{Hired, Staffed, HaveLeft, worke
 use crate::means::Means;
 use crate::places::Started;
 use crate::promise::ToWork;
-use desk::{DeskOf, SeatOf, Slotted};
+use desk::{DeskOf, SeatOf, SlotContents};
 use job_table::Verdicts;
 use link_service::Service;
 use std::alloc::Global;
@@ -29,7 +29,7 @@ use workers::{OpenGate, WakeSignals, work_loop};
 pub(crate) type Shifts<J, T, S> = VecDeque<Started<SeatOf<T>, ToWork<J, T, S>>>;
 
 /// Works on this seat until the channel is closed and nothing waits. The worker that is missing does nothing.
-fn work_by<J: Verdicts, T: Slotted<J>, R: Wait, S: Service<J>>(
+fn work_by<J: Verdicts, T: SlotContents<J>, R: Wait, S: Service<J>>(
     rt: &R,
     alloc: Global,
     desk: &DeskOf<J, T>,
@@ -54,7 +54,7 @@ fn hire<
     's,
     E,
     J: Verdicts + Send + Sync,
-    T: Slotted<J> + Send + Sync,
+    T: SlotContents<J> + Send + Sync,
     R: Threads + Wait + Sync,
     S: Service<J> + Sync,
 >(
@@ -104,7 +104,7 @@ pub(crate) fn start_workers<
     's,
     E,
     J: Verdicts + Send + Sync,
-    T: Slotted<J> + Send + Sync,
+    T: SlotContents<J> + Send + Sync,
     R: Threads + Wait + Sync,
     S: Service<J> + Sync,
 >(
@@ -131,7 +131,7 @@ pub(crate) fn start_workers<
 /// Joins the worker that came first, and takes its seat in.
 fn join_first_worker<
     J: Verdicts + Send + Sync,
-    T: Slotted<J> + Send + Sync,
+    T: SlotContents<J> + Send + Sync,
     R: Threads,
     S: Service<J>,
 >(
@@ -158,7 +158,7 @@ fn join_first_worker<
 /// Joins all workers, the one that came first before the others.
 pub(crate) fn join_workers<
     J: Verdicts + Send + Sync,
-    T: Slotted<J> + Send + Sync,
+    T: SlotContents<J> + Send + Sync,
     R: Threads,
     S: Service<J>,
 >(

@@ -7,7 +7,7 @@ ghost use Rattle.desk.specs.SeatHistory.{AskedBy};
 ghost use Rattle.desk.specs.SeatMoves.{desk_id, told_of, IsSeatOf};
 ghost use Rattle.job_solver.specs.Runs.{MakesDocument, WakesNobody};
 
-use desk::{DeskOf, LentSeatOf, SeatOf, Slotted};
+use desk::{DeskOf, LentSeatOf, SeatOf, SlotContents};
 use job_solver::{SolvedJobs, Solver};
 use os_io::{Sink, Source};
 use os_server::{Served, serve_ends};
@@ -16,7 +16,7 @@ use std::sync::Wait;
 use std::time::Clock;
 
 /// Serves the conversation by moves of this seat, whatever lies in its desk's slot.
-pub(crate) fn serve_by_seat<I: Source, O: Sink, T: Slotted<SolvedJobs>, R: Wait + Clock>(
+pub(crate) fn serve_by_seat<I: Source, O: Sink, T: SlotContents<SolvedJobs>, R: Wait + Clock>(
     rt: &R,
     alloc: Global,
     desk: &DeskOf<SolvedJobs, T>,

@@ -7,7 +7,7 @@ ghost use Rattle.desk.specs.SeatHistory.{AskedBy};
 ghost use Rattle.workers.specs.Shifts.{WorksThrough};
 
 use crate::work::work_off;
-use desk::{DeskOf, LentSeatOf, SeatOf, Slotted};
+use desk::{DeskOf, LentSeatOf, SeatOf, SlotContents};
 use job_runs::Runner;
 use job_table::{Mover, Verdicts};
 use std::alloc::Global;
@@ -15,7 +15,7 @@ use std::sync::Wait;
 
 /// Works one shift without sleeping, by moves of this seat: it enlists, claims and runs until a claim gives none, and leaves. Where
 /// nobody else makes moves any more, no job waits behind it. One whose finish isn't stored stays running.
-pub fn work_closing_shift<J: Verdicts, T: Slotted<J>, R: Wait, U: Runner<J>>(
+pub fn work_closing_shift<J: Verdicts, T: SlotContents<J>, R: Wait, U: Runner<J>>(
     rt: &R,
     alloc: Global,
     desk: &DeskOf<J, T>,

@@ -11,7 +11,7 @@ ghost use Rattle.workers.specs.Gates.{look_numbers};
 
 use crate::gate::{Gate, Gated};
 use crate::wake::WakeSignals;
-use desk::{DeskOf, LentSeatOf, SeatOf, Slotted};
+use desk::{DeskOf, LentSeatOf, SeatOf, SlotContents};
 use job_runs::Runner;
 use job_table::{Mover, Verdicts};
 use std::alloc::Global;
@@ -19,7 +19,7 @@ use std::marker::PhantomData;
 use std::sync::Wait;
 
 /// Claims one job that waits, runs it and finishes it, by moves of this seat. False exactly where the claim gave none.
-pub fn work_one_by_seat<J: Verdicts, T: Slotted<J>, R: Wait, U: Runner<J>, G: Gate>(
+pub fn work_one_by_seat<J: Verdicts, T: SlotContents<J>, R: Wait, U: Runner<J>, G: Gate>(
     rt: &R,
     alloc: Global,
     desk: &DeskOf<J, T>,
@@ -56,7 +56,7 @@ pub fn work_one_by_seat<J: Verdicts, T: Slotted<J>, R: Wait, U: Runner<J>, G: Ga
 
 /// Works as one of the desk's workers: it enlists, works until nothing waits, sleeps until a token comes, and leaves when the
 /// channel is closed and nothing waits.
-pub fn work_loop<J: Verdicts, T: Slotted<J>, R: Wait, U: Runner<J>, G: Gate>(
+pub fn work_loop<J: Verdicts, T: SlotContents<J>, R: Wait, U: Runner<J>, G: Gate>(
     rt: &R,
     alloc: Global,
     desk: &DeskOf<J, T>,

@@ -11,4 +11,4 @@ returns-clause-serves g c =
     let s = served.ensures.serves in
     let back : c.seat-1.given.0 ≡ served.new.mover.seat.now = c.seat-1.given.1 (sym s.moves.0) in
     serves_so MakesDocument WakesNobody _ _ _ _ _ s
-    (subst (λ seat. AskedBy (g.T.Slotted.legal (told_of c.args.desk.now)) c.args.seat.now.me.0 seat.me.0 s.part.entries) (sym back) s.moves.2)
+    (subst (λ seat. AskedBy (g.T.SlotContents.legal (told_of c.args.desk.now)) c.args.seat.now.me.0 seat.me.0 s.part.entries) (sym back) s.moves.2)

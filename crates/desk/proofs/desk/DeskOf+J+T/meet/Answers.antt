@@ -13,10 +13,10 @@ join_seat-requires g c =
 
 pub returns-clause-met : goal.returns-clause-met
 returns-clause-met g c =
-    meets_of g.T.Slotted.becomes c.args.me.now.me.0 c.args.other.me.0 _ _ (Some (g.T.Slotted.opening (told_of c.args.self.now))) 1 0 (ap (λ m. m.0) c.join_seat.ensures.2) c.requires.first
+    meets_of g.T.SlotContents.becomes c.args.me.now.me.0 c.args.other.me.0 _ _ (Some (g.T.SlotContents.opening (told_of c.args.self.now))) 1 0 (ap (λ m. m.0) c.join_seat.ensures.2) c.requires.first
     c.settle.ensures.told
 
 pub returns-clause-legal : goal.returns-clause-legal
 returns-clause-legal g c =
-    g.met.T.Slotted.is_legal (told_of c.args.self.now) c.settle.new.me.me.0.seen
-    (subst (λ (seen : List SeatEntry). CanMake g.T.Slotted.becomes (g.T.Slotted.opening (told_of c.args.self.now)) seen) (sym (ap (λ m. m.0.seen) c.settle.ensures.told.0)) c.settle.ensures.told.2)
+    g.met.T.SlotContents.is_legal (told_of c.args.self.now) c.settle.new.me.me.0.seen
+    (subst (λ (seen : List SeatEntry). CanMake g.T.SlotContents.becomes (g.T.SlotContents.opening (told_of c.args.self.now)) seen) (sym (ap (λ m. m.0.seen) c.settle.ensures.told.0)) c.settle.ensures.told.2)

@@ -4,4 +4,4 @@ use Rattle.desk.proofs.desk.DeskOf+J+T.meet.Given as goal
 
 -- what lay in this desk's slot at first
 abbrev pub ghosts-settle : goal.ghosts-settle
-ghosts-settle g a = record { start = Some (g.T.Slotted.opening (told_of a.self.now)) }
+ghosts-settle g a = record { start = Some (g.T.SlotContents.opening (told_of a.self.now)) }

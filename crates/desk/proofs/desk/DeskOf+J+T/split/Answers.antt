@@ -10,5 +10,5 @@ split_seat-other-requires g c = (search rules, search rules, splits _ _ _ c.requ
 
 pub returns-clause-legal : goal.returns-clause-legal
 returns-clause-legal g c =
-    g.met.T.Slotted.is_legal (told_of c.args.self.now) c.settle.new.me.me.0.seen
-    (subst (λ (seen : List SeatEntry). CanMake g.T.Slotted.becomes (g.T.Slotted.opening (told_of c.args.self.now)) seen) (sym (ap (λ m. m.0.seen) c.settle.ensures.told.0)) c.settle.ensures.told.2)
+    g.met.T.SlotContents.is_legal (told_of c.args.self.now) c.settle.new.me.me.0.seen
+    (subst (λ (seen : List SeatEntry). CanMake g.T.SlotContents.becomes (g.T.SlotContents.opening (told_of c.args.self.now)) seen) (sym (ap (λ m. m.0.seen) c.settle.ensures.told.0)) c.settle.ensures.told.2)

@@ -8,11 +8,11 @@ use Rattle.desk.proofs.lent_seat.LentSeatOfMover.make.Goals as goal
 pub returns-clause-did : goal.returns-clause-did
 returns-clause-did g c =
     let e = c.make.ensures in
-    let becomes = g.T.Slotted.becomes in
+    let becomes = g.T.SlotContents.becomes in
     let told = told_of c.args.self.now.desk.now in
-    let start = g.T.Slotted.opening told in (
+    let start = g.T.SlotContents.opening told in (
       refl,
       refl,
-      asked_if (CanMake becomes start) (g.T.Slotted.legal told) (g.met.T.Slotted.is_legal told) g.T.Slotted.table (Makes becomes start) (λ log held leads. (held, leads)) _ (said_in g.M.Move.said c.make.result)
+      asked_if (CanMake becomes start) (g.T.SlotContents.legal told) (g.met.T.SlotContents.is_legal told) g.T.SlotContents.table (Makes becomes start) (λ log held leads. (held, leads)) _ (said_in g.M.Move.said c.make.result)
           c.args.self.now.seat.now.me c.make.new.me.me c.args.self.now.ready.ready e.seat.ready e.ok e.sure e.err,
     )

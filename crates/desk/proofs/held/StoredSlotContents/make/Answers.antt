@@ -1,6 +1,6 @@
 use Rattle.job_table.specs.Plans.{planned}
 use Rattle.desk.proofs.StoreHistories.{moves_of, stays_of, lacks_of, may_refuse, has_effect}
-use Rattle.desk.proofs.held.StoredSlotted.make.Goals as goal
+use Rattle.desk.proofs.held.StoredSlotContents.make.Goals as goal
 
 pub returns-clause-ok : goal.returns-clause-ok
 returns-clause-ok g c =
