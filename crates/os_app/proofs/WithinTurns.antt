@@ -37,8 +37,8 @@ use Rattle.osrl_writing.specs.declared.report.Report.{Report}
 use Rattle.osrl_writing.specs.Writing.{told_text}
 use Rattle.certificate.specs.GivenUp.{given_up}
 use Rattle.solve_run.specs.Judging.{checked, wide_check}
-use Rattle.solve_run.specs.RowForms.{claim_of_rows, IsFormed}
-use Rattle.solve_run.specs.Closings.{claim_report, IsToldOf, IsFitted}
+use Rattle.solve_run.specs.RowForms.{claim_of_rows}
+use Rattle.solve_run.specs.Closings.{claim_report, IsToldOf, IsFitted, IsFormed}
 use Rattle.solve_run.specs.JobAnswers.{AnswersJob, IsBestOfSearch, TakesHanded, Solved, no_options, no_instance, handed, solved, gave_up}
 use Rattle.solve_run.proofs.Texts.{noted_claim}
 use Rattle.handed_results.specs.declared.handed.Handed.{Handed}
@@ -153,12 +153,12 @@ rows_are n (Unbounded x vs cs r) = refl
 rows_are n (BestSoFar x vs k b) = refl
 rows_are n (Unsure k b) = refl
 
-formed_is : (p : Parts) (form : ℕ) (c formed : Claim) → IsFormed p form c formed → claims_turn_limit c ≡ false → claims_turn_limit formed ≡ false
-formed_is p form c formed (inl (one, fine, is)) within = ap claims_turn_limit is ∙ rows_are (length p.vars) c ∙ within
-formed_is p form c formed (inr (other_form, is)) within = ap claims_turn_limit is ∙ within
+formed_is : (p : Parts) (job : Option (List ℕ)) (form : ℕ) (c formed : Claim) → IsFormed p job form c formed → claims_turn_limit c ≡ false → claims_turn_limit formed ≡ false
+formed_is p job form c formed (inl (one, fine, is)) within = ap claims_turn_limit is ∙ rows_are (length p.vars) c ∙ within
+formed_is p job form c formed (inr (other_form, is)) within = ap claims_turn_limit is ∙ within
 
 closed_is : (p : Parts) (job : Option (List ℕ)) (form turns : ℕ) (found told : Claim) → IsToldOf p job form turns found told → claims_turn_limit found ≡ false → claims_turn_limit told ≡ false
-closed_is p job form turns found told closed within = fitted_is job closed.formed told closed.fitted (formed_is p form _ closed.formed closed.forms (checked_is found turns closed.width within))
+closed_is p job form turns found told closed within = fitted_is job closed.formed told closed.fitted (formed_is p job form _ closed.formed closed.forms (checked_is found turns closed.width within))
 
 gave_up_is : (osil osol : List ℕ) (c : Claim) → (c ≡ Unsure Memory None) ⊎ IsBestOfSearch osil osol c → claims_turn_limit c ≡ false
 gave_up_is osil osol c (inl is) = ap claims_turn_limit is

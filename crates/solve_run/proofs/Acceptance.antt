@@ -30,9 +30,9 @@ use Rattle.document_checker.specs.declared.documents.Kind.{Kind}
 use Rattle.document_checker.specs.Documents.{kind, IsAcceptedText}
 use Rattle.certificate.specs.GivenUp.{given_up}
 use Rattle.solve_run.specs.Judging.{IsShownClaim, HasFewRounds, IsFinal, IsJudged, wide_check, checked}
-use Rattle.solve_run.specs.RowForms.{claim_of_rows, IsFormed}
+use Rattle.solve_run.specs.RowForms.{claim_of_rows}
 use Rattle.solve_run.proofs.RowForms.{rows_given, rows_final}
-use Rattle.solve_run.specs.Closings.{error_report, claim_report, with_message, noted, IsShort, IsFitted, IsToldOf}
+use Rattle.solve_run.specs.Closings.{error_report, claim_report, with_message, noted, IsShort, IsFitted, IsFormed, IsToldOf}
 use Rattle.solve_run.specs.JobAnswers.{TakesHanded, Solved, IsNoteOfJob, IsJobOf, IsBestOfSearch, AnswersJob, no_options, no_instance, handed, solved, gave_up}
 use Rattle.solve_run.specs.Untils.{job_terms, renamed}
 use Rattle.solve_run.proofs.Lengths.{IsShortName, unsure_short, error_short}
@@ -93,14 +93,14 @@ module _ (p : Parts) (job : Option (List ℕ)) (valid : IsValid p) (name : IsSho
   rows_good c told s final fine (inl (short, same)) = subst (IsGood p job) (sym same) (record { shown = λ other. absurd (other (rows_final (length p.vars) c final)); accepted = λ f. fine; short = short })
   rows_good c told s final fine (inr (long, same)) = subst (IsGood p job) (sym (same ∙ rows_given (length p.vars) c causes.Length)) (given_good c causes.Length s)
 
-  formed_good : (form : ℕ) (c formed told : Claim) → IsShownClaim p c → (IsFinal c → Accepts (problem p) (Means.claim c)) → IsFormed p form c formed → IsFitted job formed told → IsGood p job told
+  formed_good : (form : ℕ) (c formed told : Claim) → IsShownClaim p c → (IsFinal c → Accepts (problem p) (Means.claim c)) → IsFormed p job form c formed → IsFitted job formed told → IsGood p job told
   formed_good form c formed told s final (inl (one, fine, same)) fitted = rows_good c told s fine.0 fine.1 (subst (λ (d : Claim). IsFitted job d told) same fitted)
   formed_good form c formed told s final (inr (other_form, same)) fitted = fitted_good c told s final (subst (λ (d : Claim). IsFitted job d told) same fitted)
 
   pub closed_good : (form turns : ℕ) (found told : Claim) → IsShownClaim p found → IsToldOf p job form turns found told → IsGood p job told
   closed_good form turns found told s c = by c.width c.judged c.forms
     where
-      by : (width : Option ℕ) → IsJudged p found width → IsFormed p form (checked found turns width) c.formed → IsGood p job told
+      by : (width : Option ℕ) → IsJudged p found width → IsFormed p job form (checked found turns width) c.formed → IsGood p job told
       by None judged forms = formed_good form found c.formed told s judged forms c.fitted
       by (Some n) judged forms =
           let cause = wide_check n turns in

@@ -13,9 +13,8 @@ use Rattle.osrl_grammar.specs.Back.{CauseComesBack, ClaimComesBack}
 use Rattle.solve_run.specs.declared.document.Document.{Document}
 use Rattle.certificate.specs.GivenUp.{given_up}
 use Rattle.solve_run.specs.Judging.{IsShownClaim, AreFewRounds, HasFewRounds, wide_check, IsJudged, checked}
-use Rattle.solve_run.specs.Closings.{IsFitted}
+use Rattle.solve_run.specs.Closings.{IsFitted, IsFormed}
 use Rattle.solve_run.specs.Runs.{HasCauses, IsFittedDocument, IsClaimTold}
-use Rattle.solve_run.specs.RowForms.{IsFormed}
 use Rattle.solve_run.proofs.PartialClaims.{given_shown}
 use Rattle.solve_run.proofs.RoundTrips.{shown_back}
 use Rattle.solve_run.proofs.RowForms.{formed_back}
@@ -54,11 +53,11 @@ checked_few c turns (Some n) few = given_few c (wide_check n turns)
 -- a claim that is shown, of few rounds, checked, formed and fitted is told
 pub told : (p : Parts) (ns : NameLists) (note job : Option (List ℕ)) (form turns : ℕ) (found : Claim) (width : Option ℕ) (formed : Claim) (doc : Document)
     → IsValid p → IsShownClaim p found → HasFewRounds found → HasCauses found → turns < 2 ^ 64 → IfSome width (λ n. n < 2 ^ 32)
-    → IsJudged p found width → IsFormed p form (checked found turns width) formed → IsFittedDocument ns note job formed doc → IsClaimTold p ns note job form turns found doc
+    → IsJudged p found width → IsFormed p job form (checked found turns width) formed → IsFittedDocument ns note job formed doc → IsClaimTold p ns note job form turns found doc
 told p ns note job form turns found width formed doc valid shown fewer causes few node judged forms (inl (c, fitted, is)) = inl (record {
   told = c;
   closed = record { width = width; judged = judged; formed = formed; forms = forms; fitted = fitted };
-  numbers = fitted_back job formed c fitted (formed_back p form (checked found turns width) formed forms (checked_back found turns width few node (shown_back p found valid shown fewer causes)));
+  numbers = fitted_back job formed c fitted (formed_back p job form (checked found turns width) formed forms (checked_back found turns width few node (shown_back p found valid shown fewer causes)));
   is = is;
 })
 told p ns note job form turns found width formed doc valid shown fewer causes few node judged forms (inr memory) = inr memory

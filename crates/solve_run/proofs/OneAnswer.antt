@@ -23,9 +23,8 @@ use Rattle.osil_grammar.specs.Reading.{IsInstanceText}
 use Rattle.osil_grammar.specs.Reading as instances
 use Rattle.osrl_writing.specs.declared.report.Report.{Report}
 use Rattle.solve_run.specs.Judging.{IsWideAt, IsJudged, checked}
-use Rattle.solve_run.specs.RowForms.{IsFormed}
 use Rattle.solve_run.proofs.RowForms.{formed_once}
-use Rattle.solve_run.specs.Closings.{error_report, claim_report, noted, IsShort, IsFitted, IsToldOf}
+use Rattle.solve_run.specs.Closings.{error_report, claim_report, noted, IsShort, IsFitted, IsFormed, IsToldOf}
 use Rattle.solve_run.specs.Handing.{HandsInClaim, HandsInNone}
 use Rattle.solve_run.specs.JobAnswers.{RefusesOptions, RefusesInstance, AreJobTexts, TakesHanded, Solved, GaveUp, MayStop, AnswersJob, no_options, no_instance, handed, solved, gave_up}
 use Rattle.solve_run.specs.Untils.{job_terms, renamed}
@@ -103,7 +102,7 @@ module _ (laws : SearchesAreOne) where
   closed_once : (p : Parts) (job : Option (List ℕ)) (form turns : ℕ) (c s t : Claim) → IsToldOf p job form turns c s → IsToldOf p job form turns c t → s ≡ t
   closed_once p job form turns c s t a b =
       let width = judged_once p c a.width b.width a.judged b.judged in
-      let formed = formed_once p form (checked c turns b.width) a.formed b.formed (subst (λ (w : Option ℕ). IsFormed p form (checked c turns w) a.formed) width a.forms) b.forms in
+      let formed = formed_once p job form (checked c turns b.width) a.formed b.formed (subst (λ (w : Option ℕ). IsFormed p job form (checked c turns w) a.formed) width a.forms) b.forms in
       fitted_once job b.formed s t (subst (λ (d : Claim). IsFitted job d s) formed a.fitted) b.fitted
 
   -- a search of an instance that ended, and what is told of it
@@ -155,7 +154,7 @@ module _ (laws : SearchesAreOne) where
 
     -- a search that ends with a claim that is refused for no width, and isn't too long in its form, is told
     complete : (osil osol : List ℕ) (o : Options) (p : Parts) (start : Option Found) (oc : Outcome) (found formed : Claim) (c : Clock) (r : Report) → IsOptionsText osol o → IsInstanceText osil p → IsFirstOf (problem p) o start → SearchFrom (problem p) (job_terms o None) start oc c → ClaimTells found oc
-        → ((q : Refused) (n : ℕ) → IsRefusedFor (problem p) (Means.claim found) q → IsWideAt q n → ⊥) → IsFormed p o.form found formed → IsShort o.job formed → (looks : ℕ) → Solved osil osol None None looks r → (note : Option (List ℕ)) × IsNoteFrom osol o p start note × (r ≡ noted note (claim_report o.job formed))
+        → ((q : Refused) (n : ℕ) → IsRefusedFor (problem p) (Means.claim found) q → IsWideAt q n → ⊥) → IsFormed p o.job o.form found formed → IsShort o.job formed → (looks : ℕ) → Solved osil osol None None looks r → (note : Option (List ℕ)) × IsNoteFrom osol o p start note × (r ≡ noted note (claim_report o.job formed))
     complete osil osol o p start oc found formed c r options_text instance_text first ends tells fits forms short looks s =
         let here = ended osil osol None None looks r s in
         let moved_here = subst (λ (x : Options). Ended osol x p None None looks r) (options.once osol s.given.options o s.given.options_text options_text)
@@ -166,12 +165,12 @@ module _ (laws : SearchesAreOne) where
         let closed : IsToldOf p o.job o.form moved_here.turns found moved_here.told = subst (λ (x : Claim). IsToldOf p o.job o.form moved_here.turns x moved_here.told) same moved_here.closed in
         (moved_here.note, subst (λ (x : Option Found). IsNoteFrom osol o p x moved_here.note) begun moved_here.noting, moved_here.is ∙ ap (λ (c : Claim). noted moved_here.note (claim_report o.job c)) (by moved_here.turns moved_here.told closed.width closed.formed closed.judged closed.forms closed.fitted))
       where
-        by : (turns : ℕ) (told : Claim) (width : Option ℕ) (shaped : Claim) → IsJudged p found width → IsFormed p o.form (checked found turns width) shaped → IsFitted o.job shaped told → told ≡ formed
-        by turns told None shaped judged form (inl (few, same)) = same ∙ formed_once p o.form found shaped formed form forms
-        by turns told None shaped judged form (inr (long, same)) = absurd (long (subst (IsShort o.job) (sym (formed_once p o.form found shaped formed form forms)) short))
+        by : (turns : ℕ) (told : Claim) (width : Option ℕ) (shaped : Claim) → IsJudged p found width → IsFormed p o.job o.form (checked found turns width) shaped → IsFitted o.job shaped told → told ≡ formed
+        by turns told None shaped judged form (inl (few, same)) = same ∙ formed_once p o.job o.form found shaped formed form forms
+        by turns told None shaped judged form (inr (long, same)) = absurd (long (subst (IsShort o.job) (sym (formed_once p o.job o.form found shaped formed form forms)) short))
         by turns told (Some n) shaped (final, q, refused, wide) form fitted = absurd (fits q n refused wide)
 
-    pub told_at_end : (osil osol : List ℕ) (o : Options) (p : Parts) (start : Option Found) (oc : Outcome) (found formed : Claim) (c : Clock) (r : Report) → IsOptionsText osol o → IsInstanceText osil p → IsFirstOf (problem p) o start → SearchFrom (problem p) (job_terms o None) start oc c → ClaimTells found oc → ((q : Refused) (n : ℕ) → IsRefusedFor (problem p) (Means.claim found) q → IsWideAt q n → ⊥) → IsFormed p o.form found formed → IsShort o.job formed → AnswersJob osil osol false r
+    pub told_at_end : (osil osol : List ℕ) (o : Options) (p : Parts) (start : Option Found) (oc : Outcome) (found formed : Claim) (c : Clock) (r : Report) → IsOptionsText osol o → IsInstanceText osil p → IsFirstOf (problem p) o start → SearchFrom (problem p) (job_terms o None) start oc c → ClaimTells found oc → ((q : Refused) (n : ℕ) → IsRefusedFor (problem p) (Means.claim found) q → IsWideAt q n → ⊥) → IsFormed p o.job o.form found formed → IsShort o.job formed → AnswersJob osil osol false r
         → ((note : Option (List ℕ)) × IsNoteFrom osol o p start note × (r ≡ noted note (claim_report o.job formed))) ⊎ TakesHanded osil osol r ⊎ GaveUp osil osol r ⊎ ((s : Frac) × (looks : ℕ) × (o.seconds ≡ Some s) × Solved osil osol (Some looks) (Some s) looks r)
     told_at_end osil osol o p start oc found formed c r options_text instance_text first ends tells fits forms short (no_options a) = absurd (no_options_given options instances_one osol o r a options_text)
     told_at_end osil osol o p start oc found formed c r options_text instance_text first ends tells fits forms short (no_instance a) = absurd (no_instance_given options instances_one osil osol p r a instance_text)

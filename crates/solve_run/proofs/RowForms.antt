@@ -1,10 +1,12 @@
 -- Claims with multipliers of rows alone: their numbers are those of their types, their splits fit, and each has one form.
-use Rattle.std.proofs.Common.{◌≡◌, ◌∙◌, ℕ, ◌^◌, ◌<◌, inl, inr, Bool, true, false, cond, Some, List, [], ◌∷◌, length, slice_index_or, arith, refl, ap, sym, subst}
+use Rattle.std.proofs.Common.{◌≡◌, ◌∙◌, ℕ, ◌^◌, ◌<◌, inl, inr, Bool, true, false, cond, Option, None, Some, List, [], ◌∷◌, length, slice_index_or, arith, refl, ap, sym, subst}
 use Rattle.std.specs.Prelude.{map}
 use Rattle.std.specs.List.{All, flat_map}
 use Rattle.std.proofs.lemmas.List.{length-map}
 use Rattle.std.proofs.lemmas.List.Elements.{All-nil, All-cons, All-head, All-tail, All-append, All-map}
+use Rattle.evidence.specs.Claim.{Accepts}
 use Rattle.instance.specs.Parts.{Parts, IsValid}
+use Rattle.instance.specs.Program.{problem}
 use Rattle.certificate.specs.GivenUp.{given_up}
 use Rattle.certificate.specs.Meanings as Means
 use Rattle.certificate.specs.Nodes.{nodes_of, IsInRange}
@@ -19,7 +21,8 @@ use Rattle.certificate.specs.declared.claims.Claim.{Claim}
 use Rattle.certificate.specs.declared.claims.Claim.TheVariants.{Optimal, Infeasible, Unbounded, BestSoFar, Unsure}
 use Rattle.osrl_grammar.specs.Back.{HaveColumns, NodeComesBack, RoundComesBack, LevelComesBack, TreesComeBack, HasTrees, MayHaveTrees, ClaimComesBack}
 use Rattle.solve_run.specs.Judging.{IsShownClaim, HasFewRounds, IsFinal}
-use Rattle.solve_run.specs.RowForms.{is_of_row, rows_of, node_of_rows, round_of_rows, cert_of_rows, claim_of_rows, IsFormed}
+use Rattle.solve_run.specs.RowForms.{is_of_row, rows_of, node_of_rows, round_of_rows, cert_of_rows, claim_of_rows}
+use Rattle.solve_run.specs.Closings.{IsShort, IsFormed, IsShortOrNone}
 use Rattle.solve_run.proofs.Numbers.{in_range}
 use Rattle.solve_run.proofs.ClaimNodes.{IsCertWithin, shown_within, shown_range}
 
@@ -39,11 +42,25 @@ rows_final n (BestSoFar x vs c b) f = f
 rows_final n (Unsure c b) f = f
 
 -- a claim has one form
-pub formed_once : (p : Parts) (form : ℕ) (c a b : Claim) → IsFormed p form c a → IsFormed p form c b → a ≡ b
-formed_once p form c a b (inl (one, fine, same)) (inl (one_too, fine_too, same_too)) = same ∙ sym same_too
-formed_once p form c a b (inl (one, fine, same)) (inr (other_form, same_too)) = absurd (other_form one fine)
-formed_once p form c a b (inr (other_form, same)) (inl (one, fine, same_too)) = absurd (other_form one fine)
-formed_once p form c a b (inr (other_form, same)) (inr (other_too, same_too)) = same ∙ sym same_too
+pub formed_once : (p : Parts) (job : Option (List ℕ)) (form : ℕ) (c a b : Claim) → IsFormed p job form c a → IsFormed p job form c b → a ≡ b
+formed_once p job form c a b (inl (one, fine, same)) (inl (one_too, fine_too, same_too)) = same ∙ sym same_too
+formed_once p job form c a b (inl (one, fine, same)) (inr (other_form, same_too)) = absurd (other_form one fine)
+formed_once p job form c a b (inr (other_form, same)) (inl (one, fine, same_too)) = absurd (other_form one fine)
+formed_once p job form c a b (inr (other_form, same)) (inr (other_too, same_too)) = same ∙ sym same_too
+
+-- with rows alone, where it is accepted so and short enough
+pub formed_short : (p : Parts) (job : Option (List ℕ)) (form n : ℕ) (c rows formed : Claim) (kept : Option Claim) → form ≡ 1 → IsFinal c → n ≡ length p.vars → rows ≡ claim_of_rows n c → Accepts (problem p) (Means.claim rows) → IsShortOrNone job rows kept → kept ≡ Some formed → IsFormed p job form c formed
+formed_short p job form n c rows formed kept one final count are accepted short is =
+    let own : rows ≡ claim_of_rows (length p.vars) c = are ∙ ap (λ (m : ℕ). claim_of_rows m c) count in
+    let (few, same) = subst (IsShortOrNone job rows) is short in
+    inl (one, (final, subst (λ (d : Claim). Accepts (problem p) (Means.claim d)) own accepted, subst (IsShort job) own few), same ∙ own)
+
+-- and whole, where it is too long so
+pub formed_whole : (p : Parts) (job : Option (List ℕ)) (form n : ℕ) (c rows : Claim) (kept : Option Claim) → n ≡ length p.vars → rows ≡ claim_of_rows n c → IsShortOrNone job rows kept → kept ≡ None → IsFormed p job form c c
+formed_whole p job form n c rows kept count are short is =
+    let own : rows ≡ claim_of_rows (length p.vars) c = are ∙ ap (λ (m : ℕ). claim_of_rows m c) count in
+    let long = subst (IsShortOrNone job rows) is short in
+    inr (λ one fine. long (subst (IsShort job) (sym own) fine.2), refl)
 
 module _ (n : ℕ) where
   -- ---- numbers of their types
@@ -134,6 +151,6 @@ module _ (n : ℕ) where
   rows_range p (Unsure c b) valid s few = shown_range p (Unsure c b) valid s few
 
 -- the form that is asked for comes back where the claim does
-pub formed_back : (p : Parts) (form : ℕ) (c formed : Claim) → IsFormed p form c formed → ClaimComesBack (Some c) → ClaimComesBack (Some formed)
-formed_back p form c formed (inl (one, fine, same)) back = subst (λ (d : Claim). ClaimComesBack (Some d)) (sym same) (claim_back (length p.vars) c back)
-formed_back p form c formed (inr (other_form, same)) back = subst (λ (d : Claim). ClaimComesBack (Some d)) (sym same) back
+pub formed_back : (p : Parts) (job : Option (List ℕ)) (form : ℕ) (c formed : Claim) → IsFormed p job form c formed → ClaimComesBack (Some c) → ClaimComesBack (Some formed)
+formed_back p job form c formed (inl (one, fine, same)) back = subst (λ (d : Claim). ClaimComesBack (Some d)) (sym same) (claim_back (length p.vars) c back)
+formed_back p job form c formed (inr (other_form, same)) back = subst (λ (d : Claim). ClaimComesBack (Some d)) (sym same) back

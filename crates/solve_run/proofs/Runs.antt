@@ -39,8 +39,7 @@ use Rattle.osrl_writing.specs.declared.told_names.NameLists.{NameLists}
 use Rattle.osrl_writing.specs.declared.report.Report.{Report}
 use Rattle.solve_run.specs.declared.document.Document.{Document}
 use Rattle.solve_run.specs.Judging.{IsShownClaim, AreFewRounds, HasFewRounds, IsFinal, IsJudged, checked}
-use Rattle.solve_run.specs.RowForms.{IsFormed}
-use Rattle.solve_run.specs.Closings.{claim_report, error_report, noted, IsShort, IsFitted, IsToldOf}
+use Rattle.solve_run.specs.Closings.{claim_report, error_report, noted, IsShort, IsFitted, IsFormed, IsToldOf}
 use Rattle.solve_run.specs.Handing.{HandsInClaim}
 use Rattle.solve_run.specs.Untils.{job_terms, stop_by, looks_by, is_stopped_by, MayTime, left, renamed, FindsUntil}
 use Rattle.solve_run.specs.JobAnswers.{AreJobTexts, IsJobOf, MayStop, MayEnd, AnswersJob, Right}
@@ -70,7 +69,7 @@ claim_short p job (Has.Unsure c (Some b)) valid name s other = absurd (none_boun
 kept : (p : Parts) (job : Option (List ℕ)) (form turns : ℕ) (found told : Claim) → (IsFinal found → ⊥) → IsShort job found → IsToldOf p job form turns found told → told ≡ found
 kept p job form turns found told other short c = by c.width c.judged c.forms c.fitted
   where
-    by : (width : Option ℕ) → IsJudged p found width → IsFormed p form (checked found turns width) c.formed → IsFitted job c.formed told → told ≡ found
+    by : (width : Option ℕ) → IsJudged p found width → IsFormed p job form (checked found turns width) c.formed → IsFitted job c.formed told → told ≡ found
     by None judged (inl (one, fine, is)) fitted = absurd (other fine.0)
     by None judged (inr (other_form, is)) (inl (s, same)) = same ∙ is
     by None judged (inr (other_form, is)) (inr (long, same)) = absurd (long (subst (IsShort job) (sym is) short))

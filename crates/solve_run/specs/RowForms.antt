@@ -1,9 +1,5 @@
 -- Claims with multipliers of rows alone: those of variables are left out of each leaf and each round of their certificates.
-use Rattle.std.specs.Prelude.{◌≡◌, ◌⊎◌, ℕ, Bool, leb, map, filter, List, length}
-use Rattle.evidence.specs.Claim.{Accepts}
-use Rattle.instance.specs.Parts.{Parts}
-use Rattle.instance.specs.Program.{problem}
-use Rattle.certificate.specs.Meanings as Means
+use Rattle.std.specs.Prelude.{ℕ, Bool, leb, map, filter, List}
 use Rattle.certificate.specs.declared.lists.Mult.{Mult}
 use Rattle.certificate.specs.declared.nodes.Node.{Node}
 use Rattle.certificate.specs.declared.nodes.Node.TheVariants.{Split, Zero, Clash, Farkas, Bound, Grid, FarkasRows, BoundRows, GridRows}
@@ -12,7 +8,6 @@ use Rattle.certificate.specs.declared.nodes.Round.TheVariants.{Whole, OfRows}
 use Rattle.certificate.specs.declared.nodes.Cert.{Cert}
 use Rattle.certificate.specs.declared.claims.Claim.{Claim}
 use Rattle.certificate.specs.declared.claims.Claim.TheVariants.{Optimal, Infeasible, Unbounded, BestSoFar, Unsure}
-use Rattle.solve_run.specs.Judging.{IsFinal}
 
 -- its column isn't one of n variables
 abbrev pub is_of_row : ℕ → Mult → Bool
@@ -46,11 +41,3 @@ claim_of_rows n (Infeasible c) = Infeasible (cert_of_rows n c)
 claim_of_rows n (Unbounded x vs cs r) = Unbounded x vs (map (cert_of_rows n) cs) r
 claim_of_rows n (BestSoFar x vs c b) = BestSoFar x vs c b
 claim_of_rows n (Unsure c b) = Unsure c b
-
--- the claim is final, and accepted with multipliers of rows alone
-abbrev pub IsAcceptedOfRows : Parts → Claim → Type 0
-IsAcceptedOfRows p c = IsFinal c × Accepts (problem p) (Means.claim (claim_of_rows (length p.vars) c))
-
--- the claim in the form that is asked for: with rows alone, by 1, where it is accepted so; else as it is
-abbrev pub IsFormed : Parts → (form : ℕ) → (c formed : Claim) → Type 0
-IsFormed p form c formed = ((form ≡ 1) × IsAcceptedOfRows p c × (formed ≡ claim_of_rows (length p.vars) c)) ⊎ ((form ≡ 1 → IsAcceptedOfRows p c → ⊥) × (formed ≡ c))

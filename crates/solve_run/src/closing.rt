@@ -8,7 +8,7 @@ ghost use Rattle.certificate.specs.Nodes.{nodes_of, IsInRange};
 ghost use Rattle.instance.specs.Parts.{IsValid};
 ghost use Rattle.cert_checker.specs.Cuts.{HasRoom};
 ghost use Rattle.solve_run.specs.Judging as specs;
-ghost use Rattle.solve_run.specs.RowForms.{IsAcceptedOfRows, IsFormed, claim_of_rows};
+ghost use Rattle.solve_run.specs.Closings.{IsFormed, IsShortOrNone, claim_report};
 
 use crate::row_forms::claim_of_rows;
 use cert_checker::{
@@ -16,7 +16,8 @@ use cert_checker::{
 };
 use certificate::{Cause, Claim, Place, Step};
 use instance::{Instance, problems_have_numbers};
-use os_io::Memory;
+use os_io::{MOST_BYTES, Memory, Text};
+use osrl_writing::{JobStatus, Report, encode};
 use std::alloc::Global;
 
 /// The node at which a sum doesn't fit.
@@ -107,21 +108,66 @@ fn is_accepted(instance: &Instance, rows: &Claim, scratch: &mut Scratch) -> bool
     check(instance, rows, scratch).is_ok()
 }
 
+/// A finished job's report with a claim.
+pub fn claim_report(job: Option<Text>, claim: Claim) -> Report
+    ensures { result ≡ claim_report job claim }
+{
+    Report {
+        error: false,
+        job,
+        message: None,
+        status: JobStatus::Finished,
+        claim: Some(claim),
+    }
+}
+
+/// A job's name once more.
+fn copied(alloc: Global, job: &Option<Text>) -> Result<Option<Text>, Memory>
+    ensures { IfOk result (λ copy. copy ≡ job.now) }
+{
+    match job {
+        Some(name) => Ok(Some(Text::from_slice(alloc, name.as_slice())?)),
+        None => Ok(None),
+    }
+}
+
+/// The claim, where its document under this job's name isn't longer than one may be.
+fn short_or_none(alloc: Global, job: &Option<Text>, claim: Claim) -> Result<Option<Claim>, Memory>
+    ensures { IfOk result (IsShortOrNone job.now claim) }
+{
+    let name = copied(alloc, job)?;
+    let mut report = claim_report(name, claim);
+    let text = encode(alloc, &report)?;
+    if text.len() as u64 > MOST_BYTES {
+        return Ok(None);
+    }
+    Ok(report.claim.take())
+}
+
 /// A claim that a search has shown, in the form that is asked for: with multipliers of rows alone, by 1, where the checker accepts
-/// it so, and else as it is.
-pub fn formed(alloc: Global, instance: &Instance, claim: Claim, form: u32) -> Result<Claim, Memory>
+/// it so and its document under this job's name isn't longer than one may be, and else as it is.
+pub fn formed(
+    alloc: Global,
+    instance: &Instance,
+    job: &Option<Text>,
+    claim: Claim,
+    form: u32,
+) -> Result<Claim, Memory>
     requires valid { IsValid instance.now }
     requires shown { specs.IsShownClaim instance.now claim }
     requires few { specs.HasFewRounds claim }
-    ensures { IfOk result (IsFormed instance.now form claim) }
+    ensures { IfOk result (IsFormed instance.now job.now form claim) }
 {
     if form != 1 || !is_final(&claim) {
         return Ok(claim);
     }
     let rows = claim_of_rows(alloc, instance.vars().len() as u32, &claim)?;
     let mut scratch = Scratch::for_claim(alloc, instance, &rows)?;
-    if is_accepted(instance, &rows, &mut scratch) {
-        return Ok(rows);
+    if !is_accepted(instance, &rows, &mut scratch) {
+        return Ok(claim);
     }
-    Ok(claim)
+    match short_or_none(alloc, job, rows)? {
+        Some(rows) => Ok(rows),
+        None => Ok(claim),
+    }
 }

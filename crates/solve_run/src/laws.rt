@@ -20,8 +20,7 @@ ghost use Rattle.cert_checker.specs.declared.refused.Refused.{Refused};
 ghost use Rattle.cert_checker.specs.Refusals.{IsRefusedFor};
 ghost use Rattle.document_checker.specs.Documents.{kind, IsAcceptedText};
 ghost use Rattle.solve_run.specs.Judging.{IsFinal, IsWideAt};
-ghost use Rattle.solve_run.specs.RowForms.{IsFormed};
-ghost use Rattle.solve_run.specs.Closings.{IsShort, claim_report, noted};
+ghost use Rattle.solve_run.specs.Closings.{IsFormed, IsShort, claim_report, noted};
 ghost use Rattle.rational.specs.Ratio.{Ratio};
 ghost use Rattle.search_rules.specs.Beginnings.{IsFirstBest, SearchFrom};
 ghost use Rattle.solve_run.specs.Firsts.{IsFirstOf, IsNoteFrom};
@@ -127,7 +126,7 @@ pub fn found_claims_are_refused_for_width_alone()
 /// or such a result is taken, or memory is wanting, or a time that its options say was over at a look. Such is each claim that a point is optimal, that none is feasible or that points
 /// have no best value, and that the checker accepts.
 pub fn ended_searches_are_told()
-    ensures { (osil osol : List ℕ) (o : kinds.Options) (p : Parts) (start : Option Found) (oc : Outcome) (found formed : Claim) (c : Clock) (r : Report) → IsOptionsText osol o → IsInstanceText osil p → IsFirstOf (problem p) o start → SearchFrom (problem p) (job_terms o None) start oc c → ClaimTells found oc → ((q : Refused) (n : ℕ) → IsRefusedFor (problem p) (Means.claim found) q → IsWideAt q n → ⊥) → IsFormed p o.form found formed → IsShort o.job formed → AnswersJob osil osol false r → ((note : Option (List ℕ)) × IsNoteFrom osol o p start note × (r ≡ noted note (claim_report o.job formed))) ⊎ TakesHanded osil osol r ⊎ GaveUp osil osol r ⊎ ((s : Frac) × (looks : ℕ) × (o.seconds ≡ Some s) × Solved osil osol (Some looks) (Some s) looks r) }
+    ensures { (osil osol : List ℕ) (o : kinds.Options) (p : Parts) (start : Option Found) (oc : Outcome) (found formed : Claim) (c : Clock) (r : Report) → IsOptionsText osol o → IsInstanceText osil p → IsFirstOf (problem p) o start → SearchFrom (problem p) (job_terms o None) start oc c → ClaimTells found oc → ((q : Refused) (n : ℕ) → IsRefusedFor (problem p) (Means.claim found) q → IsWideAt q n → ⊥) → IsFormed p o.job o.form found formed → IsShort o.job formed → AnswersJob osil osol false r → ((note : Option (List ℕ)) × IsNoteFrom osol o p start note × (r ≡ noted note (claim_report o.job formed))) ⊎ TakesHanded osil osol r ⊎ GaveUp osil osol r ⊎ ((s : Frac) × (looks : ℕ) × (o.seconds ≡ Some s) × Solved osil osol (Some looks) (Some s) looks r) }
 {
     options_are_one();
     instances_are_one();

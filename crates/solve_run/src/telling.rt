@@ -11,26 +11,13 @@ ghost use Rattle.solve_run.specs.Judging.{IsShownClaim, HasFewRounds};
 ghost use Rattle.solve_run.specs.Closings as specs;
 ghost use Rattle.solve_run.specs.Runs.{IsClaimTold, IsTextOf, IsNamedTextOf, IsNotedTextOf, IsFittedDocument, IsMemoryDocument, IsErrorDocument, HasCauses};
 
-use crate::closing::{checked, formed, judge};
+use crate::closing::{checked, claim_report, formed, judge};
 use crate::document::Document;
 use certificate::{Cause, Claim};
 use instance::Instance;
 use os_io::{MOST_BYTES, Memory, Text};
 use osrl_writing::{JobStatus, NameLists, Report, encode, encode_named};
 use std::alloc::Global;
-
-/// A finished job's report with a claim.
-fn claim_report(job: Option<Text>, claim: Claim) -> Report
-    ensures { result ≡ specs.claim_report job claim }
-{
-    Report {
-        error: false,
-        job,
-        message: None,
-        status: JobStatus::Finished,
-        claim: Some(claim),
-    }
-}
 
 /// A finished job's report of an error.
 fn error_report(job: Option<Text>, message: Text) -> Report
@@ -210,7 +197,7 @@ pub fn found_document(
     let Ok(width) = judge(alloc, instance, &found) else {
         return memory_document(alloc, job);
     };
-    match formed(alloc, instance, checked(found, turns, width), form) {
+    match formed(alloc, instance, &job, checked(found, turns, width), form) {
         Ok(claim) => fitted(alloc, names, note, job, claim),
         Err(_) => memory_document(alloc, job),
     }

@@ -2,7 +2,7 @@ use Rattle.std.proofs.Common.{inr, arith, sym, subst}
 use Rattle.std.proofs.lemmas.Result.{IfOk-weaker}
 use Rattle.certificate.specs.declared.claims.Claim.{Claim}
 use Rattle.solve_run.specs.Judging.{IsShownClaim, HasFewRounds}
-use Rattle.solve_run.specs.RowForms.{IsFormed}
+use Rattle.solve_run.specs.Closings.{IsFormed}
 use Rattle.solve_run.proofs.Closings.{checked_shown, checked_few, told}
 use Rattle.solve_run.proofs.telling.found_document.Goals as goal
 
@@ -16,7 +16,7 @@ pub returns-in-Ok-formed : goal.returns-in-Ok-formed
 returns-in-Ok-formed c =
     IfOk-weaker c.fitted.result _ _ (λ doc fitted. told c.args.instance.now c.args.names.now c.args.note c.args.job c.args.form c.args.turns c.args.found c.in-Ok.width c.in-Ok-formed.claim doc
     c.requires.valid c.requires.shown c.requires.few c.read_causes.ensures (omega (arith, c.ranges.turns.fits)) c.in-Ok.ensures.few c.in-Ok.ensures.judged
-    (subst (λ (x : Claim). IsFormed c.args.instance.now c.args.form x c.in-Ok-formed.claim) c.checked.ensures c.in-Ok-formed.ensures) fitted) c.fitted.ensures
+    (subst (λ (x : Claim). IsFormed c.args.instance.now c.args.job c.args.form x c.in-Ok-formed.claim) c.checked.ensures c.in-Ok-formed.ensures) fitted) c.fitted.ensures
 
 pub returns-in-Err : goal.returns-in-Err
 returns-in-Err c = IfOk-weaker c.memory_document-in-Err.result _ _ (λ doc memory. inr memory) c.memory_document-in-Err.ensures
