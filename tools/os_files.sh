@@ -45,6 +45,7 @@ hint_on_files() {
         check) hint_on "$first" osil 'an instance (OSiL)' && hint_on "$second" osrl 'a result (OSrL)' ;;
         call) [ -z "${osil-}" ] || hint_on "$osil" osil 'an instance (OSiL)' ;;
     esac
+    [ -z "${result-}" ] || hint_on "$result" osrl 'a result (OSrL)'
     [ -z "${options-}${osol-}" ] || hint_on "${options-}${osol-}" osol 'options (OSoL)'
 }
 

@@ -110,12 +110,12 @@ expect 'completion of a file' "$(completed ./os check crates.t)" 'crates.txt'
 expect 'completion of help' "$(completed ./os help g)" 'generate'
 if command -v zsh >/dev/null; then
     told=$(zsh -fc 'words=(os solve --s) CURRENT=3 PREFIX=--s; compadd() { echo "$@" }; _files() { echo files }; . "$1"' zsh "$room/complete.zsh" 2>&1)
-    expect 'what zsh completes' "$told" '-- --options --seconds --safe --free --max --glpk --osrl'
+    expect 'what zsh completes' "$told" '-- --options --result --seconds --safe --free --max --glpk --osrl'
 fi
 
 # ---- before the program is built
 
-all='./os solve OSIL [--options OSOL] [--seconds N] [--safe]'
+all='./os solve OSIL [--options OSOL] [--result OSRL] [--seconds N] [--safe]'
 says_no_command "$all"
 says_help "$all" help
 says_help "$all" --help
@@ -238,7 +238,7 @@ OUT='text and input' tries '-- session' '' session
 RT_STATUS=2 RT_TRIED='run=ended status=2 proved=no' tries '-- generate there' "os: these words are not those of generate: ./os generate N (./os help generate says more)" generate there
 ./os try solve nofile.osil >out 2>err
 expect 'status of a try without its file' $? 3
-expect 'line of a try without its file' "$(cat out err)" "os: can't read nofile.osil: there is no such file; name another file: ./os solve OSIL [--options OSOL] [--seconds N] [--safe]"
+expect 'line of a try without its file' "$(cat out err)" "os: can't read nofile.osil: there is no such file; name another file: ./os solve OSIL [--options OSOL] [--result OSRL] [--seconds N] [--safe]"
 cant_try 'os: name a command to be tried: ./os try COMMAND .. (./os help try says which)'
 cant_try 'os: name a command to be tried: ./os try COMMAND .. (./os help try says which)' try
 cant_try 'os: name a command to be tried: ./os try COMMAND .. (./os help try says which)' fly
@@ -349,10 +349,10 @@ says 0 '' solve there
 says 0 '' solve there --safe
 says 0 '' solve there --seconds 60 --safe
 says 1 '' solve there
-says 2 'os: these words are not those of solve: ./os solve OSIL [--options OSOL] [--seconds N] [--safe] (./os help solve says more)' solve there there
-says 2 'os: these words are not those of solve: ./os solve OSIL [--options OSOL] [--seconds N] [--safe] (./os help solve says more)' solve there --safe=1
+says 2 'os: these words are not those of solve: ./os solve OSIL [--options OSOL] [--result OSRL] [--seconds N] [--safe] (./os help solve says more)' solve there there
+says 2 'os: these words are not those of solve: ./os solve OSIL [--options OSOL] [--result OSRL] [--seconds N] [--safe] (./os help solve says more)' solve there --safe=1
 says 2 'os: these words are not those of generate: ./os generate N (./os help generate says more)' generate 1001
-solve='name another file: ./os solve OSIL [--options OSOL] [--seconds N] [--safe]'
+solve='name another file: ./os solve OSIL [--options OSOL] [--result OSRL] [--seconds N] [--safe]'
 says 3 "os: can't read nofile.osil: there is no such file; $solve" solve nofile.osil
 says 3 "os: can't read nofile.osil: there is no such file; $solve" solve --safe nofile.osil
 says 3 "os: can't read no.osol: there is no such file; $solve" solve there --safe --options no.osol

@@ -26,7 +26,7 @@ check_words() {
     fi
     own=$(own_words "$asked")
     case $asked in
-        solve | check) set -- ${first:+"$first"} ${second:+"$second"} ${options+"$options"} ;;
+        solve | check) set -- ${first:+"$first"} ${second:+"$second"} ${options+"$options"} ${result+"$result"} ;;
         call) set -- ${osil+"$osil"} ${osol+"$osol"} ${ospl+"$ospl"} ;;
         *) return 0 ;;
     esac

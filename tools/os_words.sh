@@ -110,7 +110,7 @@ answer_no_command() {
 # has no text.
 take_apart() {
     first='' second='' third=''
-    unset options osil osol ospl journal
+    unset options result osil osol ospl journal
     while [ $# -gt 0 ] && [ "$1" != -- ]; do
         case $1 in
             --safe | --osrl | --free | --max | --glpk) ;;
@@ -140,6 +140,7 @@ keep_word() {
 keep_option() {
     case $1 in
         --options) options=$2 ;;
+        --result) result=$2 ;;
         --osil) osil=$2 ;;
         --osol) osol=$2 ;;
         --ospl) ospl=$2 ;;
@@ -195,7 +196,7 @@ explain_read() {
             ;;
         compact) tell_unread "$first" || say "$first couldn't be opened or read; see that you may write it, and that no other program has it open" ;;
         check | solve)
-            tell_unread "$first" ${second:+"$second"} ${options+"$options"} || say "a file couldn't be read to its end; try again"
+            tell_unread "$first" ${second:+"$second"} ${options+"$options"} ${result+"$result"} || say "a file couldn't be read to its end; try again"
             ;;
         call)
             tell_unread ${osil+"$osil"} ${osol+"$osol"} ${ospl+"$ospl"} \

@@ -48,11 +48,11 @@ module _ (said : Said) (it : Command) where
       by None read is = absurd (none-some seconds is)
       by (Some n) read is = subst (λ (s : Option ℕ). IfSome s (λ m. m ≤ most_seconds)) (same_Some (Some n) seconds is) (number_within 0 most_seconds word n read).1
 
-  solve_within : (osil options : Option Text) (seconds : Option (Option ℕ)) (safe : Bool) → seconds_of (said (codes "seconds")) ≡ seconds
-      → option_and_then (λ (a : Text). option_map (λ (s : Option ℕ). Solve a options s safe) seconds) osil ≡ Some it → AreNumbersWithin it
-  solve_within None options seconds safe read is = absurd (none-some it is)
-  solve_within (Some osil) options None safe read is = absurd (none-some it is)
-  solve_within (Some osil) options (Some seconds) safe read is = subst AreNumbersWithin (same_Some (Solve osil options seconds safe) it is) (seconds_within (said (codes "seconds")) seconds read)
+  solve_within : (osil options handed : Option Text) (seconds : Option (Option ℕ)) (safe : Bool) → seconds_of (said (codes "seconds")) ≡ seconds
+      → option_and_then (λ (a : Text). option_map (λ (s : Option ℕ). Solve a options handed s safe) seconds) osil ≡ Some it → AreNumbersWithin it
+  solve_within None options handed seconds safe read is = absurd (none-some it is)
+  solve_within (Some osil) options handed None safe read is = absurd (none-some it is)
+  solve_within (Some osil) options handed (Some seconds) safe read is = subst AreNumbersWithin (same_Some (Solve osil options handed seconds safe) it is) (seconds_within (said (codes "seconds")) seconds read)
 
   -- a number that a word is, if one is there
   read_within : (least most : ℕ) (word : Option Text) (n : ℕ) → option_and_then (number_between least most) word ≡ Some n → (least ≤ n) × (n ≤ most)
@@ -98,7 +98,7 @@ module _ (said : Said) (it : Command) where
       → AreNumbersWithin it
   by_name true check solve generate call compact serve is = subst AreNumbersWithin (same_Some (session_of said) it is) tt
   by_name false true solve generate call compact serve is = check_within (said (codes "osil")) (said (codes "osrl")) is
-  by_name false false true generate call compact serve is = solve_within (said (codes "osil")) (said (codes "options")) (seconds_of (said (codes "seconds"))) (is_some (said (codes "safe"))) refl is
+  by_name false false true generate call compact serve is = solve_within (said (codes "osil")) (said (codes "options")) (said (codes "result")) (seconds_of (said (codes "seconds"))) (is_some (said (codes "safe"))) refl is
   by_name false false false true call compact serve is = generate_within (option_and_then (number_between 1 1000) (said (codes "variables"))) refl is
   by_name false false false false true compact serve is = call_within (option_and_then kind_named (said (codes "name"))) (said (codes "host")) (port_of said) refl is
   by_name false false false false false true serve is = compact_within (said (codes "old")) (said (codes "new")) is

@@ -81,7 +81,7 @@ pub(crate) fn program<'a>(alloc: Global) -> Result<Command<'a>, Memory>
         alloc,
         "solve",
         &["osil"],
-        &["options", "seconds"],
+        &["options", "result", "seconds"],
         &["safe"],
     )?;
     let program = with_command(program, alloc, "generate", &["variables"], &[], &[])?;

@@ -59,11 +59,13 @@ pub enum Asked<'w> {
         osil: &'w str,
         osrl: &'w str,
     },
-    /// To solve the instance in a file, with the options in another one, if it is named; within so many seconds, up to 2^63 - 1, in
+    /// To solve the instance in a file, with the options in another one, if it is named, and the result in a third one that is handed in, if
+    /// there is one; within so many seconds, up to 2^63 - 1, in
     /// place of their time, if that is asked for; with the safe limit of turns in place of theirs, if that is asked for and there is one.
     Solve {
         osil: &'w str,
         options: Option<&'w str>,
+        handed: Option<&'w str>,
         seconds: Option<u64>,
         safe: bool,
     },
@@ -160,11 +162,13 @@ fn solve_of<'w>(matches: &ArgMatches<'w>) -> Option<Asked<'w>>
 {
     let osil = matches.get_str("osil")?;
     let options = matches.get_str("options");
+    let handed = matches.get_str("result");
     let safe = matches.get_str("safe").is_some();
     let seconds = seconds_of(matches.get_str("seconds"))?;
     Some(Asked::Solve {
         osil,
         options,
+        handed,
         seconds,
         safe,
     })

@@ -9,9 +9,10 @@ use Rattle.osrl_writing.specs.declared.report.Report.{Report}
 use Rattle.osrl_writing.specs.Labels.{no_names}
 use Rattle.instance_names.specs.Reading.{GivesNames}
 use Rattle.solve_run.specs.declared.document.Document.{Document}
-use Rattle.solve_run.specs.JobAnswers.{AreJobTexts, IsBestOfSearch, IsNoteOfJob, AnswersJob, AskForNames, TellsReport, no_options, no_instance, handed, solved, gave_up}
+use Rattle.solve_run.specs.JobAnswers.{AreJobTexts, IsBestOfSearch, IsNoteOfJob, AnswersBeside, AskForNames, TellsReport, no_options, no_instance, handed, solved, gave_up}
 use Rattle.command_answers.specs.FileNames.{ReadsNamed}
 use Rattle.command_answers.proofs.Outputs.{held_by}
+use Rattle.os_app.specs.Besides.{TakesResult}
 use Rattle.os_app.specs.Safe.{IsSafeText, HasNoSafeText, TakesOptions}
 use Rattle.os_app.specs.Safe as safe
 use Rattle.os_app.specs.Solves.{IsDocumentAbout, IsRightWithin}
@@ -28,9 +29,9 @@ module _ (a osil osol : List ℕ) (shows : Shows a osil) where
   abbrev given_file : AreJobTexts a osol → AreJobTexts osil osol
   given_file g = record { options = g.options; options_text = g.options_text; parts = g.parts; valid = g.valid; instance_text = shows.instance g.parts g.instance_text }
 
-  answers_file : (asked : Bool) (r : Report) → AnswersJob a osol asked r → AnswersJob osil osol asked r
-  answers_file asked r (no_options h) = no_options h
-  answers_file asked r (no_instance h) = no_instance (record {
+  answers_file : (beside : Option (List ℕ)) (asked : Bool) (r : Report) → AnswersBeside beside a osol asked r → AnswersBeside beside osil osol asked r
+  answers_file beside asked r (no_options h) = no_options h
+  answers_file beside asked r (no_instance h) = no_instance (record {
     options = h.options;
     options_text = h.options_text;
     fault = h.fault;
@@ -39,8 +40,8 @@ module _ (a osil osol : List ℕ) (shows : Shows a osil) where
     says = h.says;
     is = h.is;
   })
-  answers_file asked r (handed h) = handed (record { given = given_file h.given; claim = h.claim; handed = h.handed; told = h.told; fitted = h.fitted; is = h.is })
-  answers_file asked r (solved stop looks timed may s) = solved stop looks timed may (record {
+  answers_file beside asked r (handed h) = handed (record { given = given_file h.given; claim = h.claim; handed = h.handed; told = h.told; fitted = h.fitted; is = h.is })
+  answers_file beside asked r (solved stop looks timed may s) = solved stop looks timed may (record {
     given = given_file s.given;
     turns = s.turns;
     start = s.start;
@@ -56,13 +57,13 @@ module _ (a osil osol : List ℕ) (shows : Shows a osil) where
     noting = s.noting;
     is = s.is;
   })
-  answers_file asked r (gave_up g) = gave_up (record { job = g.job; whose = g.whose; claim = g.claim; claims = by g.claims; note = g.note; noting = noted g.noting; is = g.is })
+  answers_file beside asked r (gave_up g) = gave_up (record { job = g.job; whose = g.whose; claim = g.claim; claims = by g.claims; note = g.note; noting = noted g.noting; is = g.is })
     where
       by : (g.claim ≡ Unsure Memory None) ⊎ IsBestOfSearch a osol g.claim → (g.claim ≡ Unsure Memory None) ⊎ IsBestOfSearch osil osol g.claim
       by (inl unsure) = inl unsure
       by (inr b) = inr (record { given = given_file b.given; start = b.start; first = b.first; moment = b.moment; comes = b.comes; tells = b.tells })
 
-      noted : IsNoteOfJob a osol g.note → IsNoteOfJob osil osol g.note
+      noted : IsNoteOfJob beside a osol g.note → IsNoteOfJob beside osil osol g.note
       noted (inl none) = inl none
       noted (inr n) = inr (record { given = given_file n.given; start = n.start; first = n.first; noting = n.noting })
 
@@ -89,38 +90,52 @@ takes_file a osil osol shows true taken (inl s) = inl (safe_file a osil osol sho
 takes_file a osil osol shows true taken (inr (none, is)) = inr (no_safe_file a osil osol shows none, is)
 
 -- the document that answers what was read is one about the files
-pub document_about : (instance : Held) (options : Option Held) (seconds : Option ℕ) (safe : Bool) (a osol : List ℕ) (status : ℕ) (doc : Document) → ReadsFirst 4194305 instance a → ReadsNamed options osol → status ≡ solve_status doc.is_error
-    → IsRightWithin seconds safe a osol doc → IsDocumentAbout instance options seconds safe status doc.text
-document_about instance options seconds safe a osol status doc first second is (timed, in_time, (taken, takes, (r, answers, written))) =
+pub document_about : (instance : Held) (options results : Option Held) (seconds : Option ℕ) (safe : Bool) (a osol : List ℕ) (beside : Option (List ℕ)) (status : ℕ) (doc : Document) → ReadsFirst 4194305 instance a → ReadsNamed options osol → TakesResult results osol beside → status ≡ solve_status doc.is_error
+    → IsRightWithin beside seconds safe a osol doc → IsDocumentAbout instance options results seconds safe status doc.text
+document_about instance options results seconds safe a osol beside status doc first second third is (timed, in_time, (taken, takes, (r, answers, written))) =
     let file = file_of instance a first in
     record {
       osil = file.0;
       osol = osol;
       instance_file = file.1;
       options_file = second;
+      beside = beside;
+      result_file = third;
       report = r;
       timed = timed;
       in_time = in_time;
       taken = taken;
       takes = takes_file a file.0 timed file.2 safe taken takes;
-      answers = answers_file a file.0 taken file.2 false r answers;
+      answers = answers_file a file.0 taken file.2 beside false r answers;
       written = tells_file a file.0 taken file.2 r doc.text written.text;
       status_is = is ∙ ap solve_status written.error;
     }
 
 -- the same texts by other names
-pub right_of_texts : (seconds : Option ℕ) (safe : Bool) (a b x y : List ℕ) (doc : Document) → x ≡ a → y ≡ b → IsRightWithin seconds safe x y doc → IsRightWithin seconds safe a b doc
-right_of_texts seconds safe a b x y doc first second right =
-    subst (λ (t : List ℕ). IsRightWithin seconds safe t b doc) first (subst (λ (t : List ℕ). IsRightWithin seconds safe x t doc) second right)
+pub right_of_texts : (beside : Option (List ℕ)) (seconds : Option ℕ) (safe : Bool) (a b x y : List ℕ) (doc : Document) → x ≡ a → y ≡ b → IsRightWithin beside seconds safe x y doc → IsRightWithin beside seconds safe a b doc
+right_of_texts beside seconds safe a b x y doc first second right =
+    subst (λ (t : List ℕ). IsRightWithin beside seconds safe t b doc) first (subst (λ (t : List ℕ). IsRightWithin beside seconds safe x t doc) second right)
 
 -- what names that may be given hold
-pub about_named : (held : List ℕ → Held) (instance : Held) (name : Option (Bor (List ℕ))) (seconds : Option ℕ) (safe : Bool) (status : ℕ) (text : List ℕ) → IsDocumentAbout instance (option_map (λ n. held n.now) name) seconds safe status text
-    → IsDocumentAbout instance (option_map held (option_map (λ n. n.now) name)) seconds safe status text
-about_named held instance name seconds safe status text about = subst (λ (o : Option Held). IsDocumentAbout instance o seconds safe status text) (held_by held name) about
+pub about_named : (held : List ℕ → Held) (instance : Held) (name other : Option (Bor (List ℕ))) (seconds : Option ℕ) (safe : Bool) (status : ℕ) (text : List ℕ)
+    → IsDocumentAbout instance (option_map (λ n. held n.now) name) (option_map (λ n. held n.now) other) seconds safe status text
+    → IsDocumentAbout instance (option_map held (option_map (λ n. n.now) name)) (option_map held (option_map (λ n. n.now) other)) seconds safe status text
+about_named held instance name other seconds safe status text about =
+    subst (λ (o : Option Held). IsDocumentAbout instance (option_map held (option_map (λ n. n.now) name)) o seconds safe status text) (held_by held other)
+    (subst (λ (o : Option Held). IsDocumentAbout instance o (option_map (λ n. held n.now) other) seconds safe status text) (held_by held name) about)
+
+-- the same files hold the same
+pub result_still : (before after : List ℕ → Held) (name : Option (Bor (List ℕ))) (osol : List ℕ) (beside : Option (List ℕ)) → after ≡ before → TakesResult (option_map (λ n. after n.now) name) osol beside
+    → TakesResult (option_map (λ n. before n.now) name) osol beside
+result_still before after name osol beside same is = subst (λ (held : List ℕ → Held). TakesResult (option_map (λ n. held n.now) name) osol beside) same is
+
+-- of the same text
+pub result_of_text : (results : Option Held) (read osol : List ℕ) (beside : Option (List ℕ)) → read ≡ osol → TakesResult results read beside → TakesResult results osol beside
+result_of_text results read osol beside same is = subst (λ (t : List ℕ). TakesResult results t beside) same is
 
 -- ---- a run
 
-pub solve_runs : {Untouched Stored : Type 0} (same : Untouched) (status : ℕ) (run : ProgramRun) (osil_name : List ℕ) (options_name : Option (List ℕ)) (seconds : Option ℕ) (safe : Bool) → IsSolve run.words osil_name options_name seconds safe
-    → EndsText status run (Solve osil_name options_name seconds safe) → IsUntaken run → EndsSo Untouched Stored status run
-solve_runs same status run osil_name options_name seconds safe solve ends untaken =
-    text_runs same status run (Solve osil_name options_name seconds safe) solve ends untaken (no_check status run (Solve osil_name options_name seconds safe) solve tt)
+pub solve_runs : {Untouched Stored : Type 0} (same : Untouched) (status : ℕ) (run : ProgramRun) (osil_name : List ℕ) (options_name result_name : Option (List ℕ)) (seconds : Option ℕ) (safe : Bool) → IsSolve run.words osil_name options_name result_name seconds safe
+    → EndsText status run (Solve osil_name options_name result_name seconds safe) → IsUntaken run → EndsSo Untouched Stored status run
+solve_runs same status run osil_name options_name result_name seconds safe solve ends untaken =
+    text_runs same status run (Solve osil_name options_name result_name seconds safe) solve ends untaken (no_check status run (Solve osil_name options_name result_name seconds safe) solve tt)

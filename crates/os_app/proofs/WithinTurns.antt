@@ -39,7 +39,7 @@ use Rattle.certificate.specs.GivenUp.{given_up}
 use Rattle.solve_run.specs.Judging.{checked, wide_check}
 use Rattle.solve_run.specs.RowForms.{claim_of_rows}
 use Rattle.solve_run.specs.Closings.{claim_report, IsToldOf, IsFitted, IsFormed}
-use Rattle.solve_run.specs.JobAnswers.{AnswersJob, IsBestOfSearch, TakesHanded, Solved, no_options, no_instance, handed, solved, gave_up}
+use Rattle.solve_run.specs.JobAnswers.{AnswersJob, AnswersBeside, IsBestOfSearch, TakesHanded, Solved, no_options, no_instance, handed, solved, gave_up}
 use Rattle.solve_run.proofs.Texts.{noted_claim}
 use Rattle.handed_results.specs.declared.handed.Handed.{Handed}
 use Rattle.handed_results.specs.declared.handed.Handed.TheVariants.{Nothing, Once}
@@ -55,6 +55,7 @@ use Rattle.os_app.specs.Safe as safe
 use Rattle.os_io.specs.Files.{Held, Holds, MayHold}
 use Rattle.command_answers.specs.Outputs.{IsTold}
 use Rattle.command_line.specs.Words.{Command, Compact, Session, Solve, Call, asks, IsSolve, IsNoCommand}
+use Rattle.os_app.specs.Besides.{HandInNothing, one_handed}
 use Rattle.os_app.specs.Solves.{IsDocumentAbout}
 use Rattle.os_app.specs.Runs.{ProgramRun, StoresRun, RunEnds, IsDue, IsUsageDue, IsAnswerDue, IsUnsent, WritesWithinTurns, asks_to_serve, served, answered, called, hosted, misused, file_fault, unsent, unheard}
 use Rattle.disks.specs.declared.disk.Disk.{Ghosts}
@@ -249,24 +250,25 @@ module _ (laws : Laws) (osil osol taken : List ℕ) (p : Parts) (text : IsInstan
 
 -- ---- a run
 
-module _ (laws : Laws) (status : ℕ) (run : ProgramRun) (osil_name : List ℕ) (options_name : Option (List ℕ)) (osil : List ℕ) (p : Parts) (seconds : Option ℕ) (solve : IsSolve run.words osil_name options_name seconds true) (holds : run.held osil_name ≡ Holds osil) (text : IsInstanceText osil p) (single : length p.goals ≡ 1) (plain : IsPlain (program p)) (ranges : HaveOneRange (program p)) (feasible : BeginsFeasible (program p)) (few : length p.vars + length p.rows ≤ 13) where
-  due_within : (it : Command) (due : ℕ) (line : List ℕ) → it ≡ Solve osil_name options_name seconds true → IsDue run.held it due line → IsTold due line status run.output run.output_after → WritesWithinTurns status run
+module _ (laws : Laws) (status : ℕ) (run : ProgramRun) (osil_name : List ℕ) (options_name : Option (List ℕ)) (osil : List ℕ) (p : Parts) (seconds : Option ℕ) (solve : IsSolve run.words osil_name options_name None seconds true) (nothing : HandInNothing (option_map run.held options_name)) (holds : run.held osil_name ≡ Holds osil) (text : IsInstanceText osil p) (single : length p.goals ≡ 1) (plain : IsPlain (program p)) (ranges : HaveOneRange (program p)) (feasible : BeginsFeasible (program p)) (few : length p.vars + length p.rows ≤ 13) where
+  due_within : (it : Command) (due : ℕ) (line : List ℕ) → it ≡ Solve osil_name options_name None seconds true → IsDue run.held it due line → IsTold due line status run.output run.output_after → WritesWithinTurns status run
   due_within it due line is asked told =
-      let about : IsDocumentAbout (run.held osil_name) (option_map run.held options_name) seconds true due line = subst (λ (x : Command). IsDue run.held x due line) is asked in
+      let about : IsDocumentAbout (run.held osil_name) (option_map run.held options_name) None seconds true due line = subst (λ (x : Command). IsDue run.held x due line) is asked in
       let file : about.osil ≡ osil = subst (λ (h : Held). MayHold h about.osil) holds about.instance_file in
       let its : IsTold due (told_text about.written.names about.report) status run.output run.output_after = subst (λ (t : List ℕ). IsTold due t status run.output run.output_after) about.written.is told in
+      let bare : about.beside ≡ None = about.result_file.2 ∙ ap one_handed (nothing about.osol about.result_file.0 about.options_file about.result_file.1) in
       inr (record {
         report = about.report;
         names = about.written.names;
         told = subst (λ (d : ℕ). IsTold d (told_text about.written.names about.report) status run.output run.output_after) about.status_is its;
-        within = answers_within laws about.osil about.timed about.taken p (subst (λ (t : List ℕ). IsInstanceText t p) (sym file) text) single plain ranges feasible few about.report about.takes about.answers;
+        within = answers_within laws about.osil about.timed about.taken p (subst (λ (t : List ℕ). IsInstanceText t p) (sym file) text) single plain ranges feasible few about.report about.takes (subst (λ (b : Option (List ℕ)). AnswersBeside b about.osil about.taken false about.report) bare about.answers);
       })
 
-  one : (it : Command) → asks run.words ≡ Some it → it ≡ Solve osil_name options_name seconds true
-  one it asked = one_command _ it (Solve osil_name options_name seconds true) asked solve
+  one : (it : Command) → asks run.words ≡ Some it → it ≡ Solve osil_name options_name None seconds true
+  one it asked = one_command _ it (Solve osil_name options_name None seconds true) asked solve
 
   a_command : IsNoCommand run.words → ⊥
-  a_command other = none-some (Solve osil_name options_name seconds true) (sym other ∙ solve)
+  a_command other = none-some (Solve osil_name options_name None seconds true) (sym other ∙ solve)
 
   unsent_within : (u : IsUnsent run) → status ≡ 4 → IsUsageDue run u.text ⊎ IsAnswerDue run u.text → WritesWithinTurns status run
   unsent_within u is (inl d) = absurd (a_command d.other)

@@ -26,7 +26,7 @@ one_command asked a b first second = same_Some a b (sym first ∙ second)
 abbrev pub IsOther : Command → Type 0
 IsOther (Check osil osrl) = ⊥
 IsOther (Session journal) = Unit {0}
-IsOther (Solve osil options seconds safe) = Unit {0}
+IsOther (Solve osil options handed seconds safe) = Unit {0}
 IsOther (Generate variables) = Unit {0}
 IsOther (Call kind host port osil osol ospl) = Unit {0}
 IsOther (Compact old new) = Unit {0}

@@ -1,6 +1,7 @@
 pub mod AtOnce
 pub mod Checks
 pub mod CompactRuns
+pub mod Besides
 pub mod Safe
 pub mod Timed
 pub mod Solves

@@ -156,6 +156,7 @@ pub fn run_at_once<'w, T: Clock, F: Files, K: Stores, O: Sink, N: Listener>(
                 Asked::Solve {
                     osil,
                     options,
+                    handed,
                     seconds,
                     safe,
                 },
@@ -163,7 +164,7 @@ pub fn run_at_once<'w, T: Clock, F: Files, K: Stores, O: Sink, N: Listener>(
         ) => {
             Ok(tell(
                 output,
-                solve_files(clock, alloc, files, osil, options, seconds, safe),
+                solve_files(clock, alloc, files, osil, options, handed, seconds, safe),
             ))
         }
         Ok(Some(Asked::Generate { variables })) => {

@@ -74,6 +74,6 @@ pub(crate) fn generate<T: Clock>(clock: &T, alloc: Global, n: u32) -> Result<Sta
     let Ok(osil) = encode(alloc, &instance) else {
         return Err(AllocError);
     };
-    let document = solve(clock, alloc, osil.as_slice(), b"")?;
+    let document = solve(clock, alloc, osil.as_slice(), b"", &None)?;
     summary_about(alloc, n, osil.as_slice(), document.text.as_slice())
 }

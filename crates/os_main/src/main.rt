@@ -2,7 +2,7 @@
 //!
 //! `session` serves the requests that come on the standard input, and writes the answers to the standard output. `check OSIL
 //! OSRL` reads an instance and a result from two files and says whether what is claimed is shown, `solve OSIL [--options
-//! OSOL] [--seconds N] [--safe]` writes the result document of an instance, and `generate N` says how a generated one was solved. `serve`
+//! OSOL] [--result OSRL] [--seconds N] [--safe]` writes the result document of an instance, and `generate N` says how a generated one was solved. `serve`
 //! serves connections over TCP, and `call` makes a call of such a server; `--journal FILE` keeps jobs in a file, and
 //! `compact OLD NEW` writes such a file again without what jobs had that are gone. The program is [`os_app::run`] over the real words,
 //! files, input, output and links, and ends with its status; what waits for nobody is done by [`os_app::run_at_once`] before.

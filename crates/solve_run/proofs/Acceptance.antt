@@ -33,7 +33,7 @@ use Rattle.solve_run.specs.Judging.{IsShownClaim, HasFewRounds, IsFinal, IsJudge
 use Rattle.solve_run.specs.RowForms.{claim_of_rows}
 use Rattle.solve_run.proofs.RowForms.{rows_given, rows_final}
 use Rattle.solve_run.specs.Closings.{error_report, claim_report, with_message, noted, IsShort, IsFitted, IsFormed, IsToldOf}
-use Rattle.solve_run.specs.JobAnswers.{TakesHanded, Solved, IsNoteOfJob, IsJobOf, IsBestOfSearch, AnswersJob, no_options, no_instance, handed, solved, gave_up}
+use Rattle.solve_run.specs.JobAnswers.{TakesBeside, SolvedBeside, IsNoteOfJob, IsJobOf, IsBestOfSearch, AnswersBeside, no_options, no_instance, handed, solved, gave_up}
 use Rattle.solve_run.specs.Untils.{job_terms, renamed}
 use Rattle.solve_run.proofs.Lengths.{IsShortName, unsure_short, error_short}
 use Rattle.solve_run.proofs.Texts.{noted_claim}
@@ -119,7 +119,7 @@ module _ (names : (bytes : List ℕ) (o : Options) → IsOptionsText bytes o →
     (numbers : (p : Parts) → IsProblem (problem p))
     (shows : (P : Problem) (t : Terms) (gs : Option (List (Option Ratio))) (start : Option Found) (o : Outcome) (c : Clock) → IsProblem P → IsFirstBest P gs start → IsAnswerFrom P t start o c → IsShown P o)
     (comes_back : (r : Report) → ComesBack r → IsReportText (report_text r) r)
-    (read_back : (bytes : List ℕ) (r : Report) (c : Claim) → IsReportText bytes r → r.claim ≡ Some c → ClaimComesBack (Some c)) where
+    (read_back : (bytes : List ℕ) (r : Report) (c : Claim) → IsReportText bytes r → r.claim ≡ Some c → ClaimComesBack (Some c)) (beside : Option (List ℕ)) where
   -- a report of a good claim is read from its own text, and accepted
   record IsGoodReport (osil : List ℕ) (r : Report) : Type 0 where
     pub job : Option (List ℕ)
@@ -134,7 +134,7 @@ module _ (names : (bytes : List ℕ) (o : Options) → IsOptionsText bytes o →
     pub note_bare : IsBareOrNone note
     pub is : r ≡ noted note (claim_report job claim)
 
-  solved_good : (osil osol : List ℕ) (stop : Option ℕ) (timed : Option Frac) (looks : ℕ) (r : Report) → Solved osil osol stop timed looks r → IsGoodReport osil r
+  solved_good : (osil osol : List ℕ) (stop : Option ℕ) (timed : Option Frac) (looks : ℕ) (r : Report) → SolvedBeside beside osil osol stop timed looks r → IsGoodReport osil r
   solved_good osil osol stop timed looks r s =
       let g = s.given in
       let shown = shows (problem g.parts) (job_terms g.options stop) _ s.start s.outcome _ (numbers g.parts) s.first (searched s.ends) in
@@ -149,12 +149,12 @@ module _ (names : (bytes : List ℕ) (o : Options) → IsOptionsText bytes o →
         accepted = λ k says. accepts_of g.parts s.told k good.shown good.accepted says;
         short = good.short;
         note = s.note;
-        note_bare = whole_bare osol g.options g.parts s.start s.note s.noting;
+        note_bare = whole_bare beside osol g.options g.parts s.start s.note s.noting;
         is = s.is;
       }
 
   -- a claim that is taken, or what is told of it
-  handed_good : (osil osol : List ℕ) (r : Report) → TakesHanded osil osol r → IsGoodReport osil r
+  handed_good : (osil osol : List ℕ) (r : Report) → TakesBeside beside osil osol r → IsGoodReport osil r
   handed_good osil osol r h =
       let g = h.given in
       let shown = h.handed.taken.shown in
@@ -174,15 +174,15 @@ module _ (names : (bytes : List ℕ) (o : Options) → IsOptionsText bytes o →
         is = h.is;
       }
 
-  job_note_bare : (osil osol : List ℕ) (note : Option (List ℕ)) → IsNoteOfJob osil osol note → IsBareOrNone note
+  job_note_bare : (osil osol : List ℕ) (note : Option (List ℕ)) → IsNoteOfJob beside osil osol note → IsBareOrNone note
   job_note_bare osil osol note (inl none) = subst IsBareOrNone (sym none) tt
-  job_note_bare osil osol note (inr h) = whole_bare osol h.given.options h.given.parts h.start note h.noting
+  job_note_bare osil osol note (inr h) = whole_bare beside osol h.given.options h.given.parts h.start note h.noting
 
   job_bare : (osol : List ℕ) (job : Option (List ℕ)) → IsJobOf osol job → IsBareOrNone job × IsShortName job
   job_bare osol job (inl none) = (subst IsBareOrNone (sym none) tt, subst IsShortName (sym none) tt)
   job_bare osol job (inr (o, text, same)) = (subst IsBareOrNone (sym same) (bare_name o.job (names osol o text)), subst IsShortName (sym same) (short_name o.job (names osol o text)))
 
-  best_good : (osil osol : List ℕ) (job note : Option (List ℕ)) (c : Claim) (r : Report) → IsJobOf osol job → IsNoteOfJob osil osol note → IsBestOfSearch osil osol c → r ≡ noted note (claim_report job c) → IsGoodReport osil r
+  best_good : (osil osol : List ℕ) (job note : Option (List ℕ)) (c : Claim) (r : Report) → IsJobOf osol job → IsNoteOfJob beside osil osol note → IsBestOfSearch osil osol c → r ≡ noted note (claim_report job c) → IsGoodReport osil r
   best_good osil osol job note c r whose noting b is =
       let g = b.given in
       let named = job_bare osol job whose in
@@ -241,7 +241,7 @@ module _ (names : (bytes : List ℕ) (o : Options) → IsOptionsText bytes o →
       }
 
   -- a report that claims something is good
-  answer_good : (osil osol : List ℕ) (asked : Bool) (r : Report) (c : Claim) (k : Kind) → AnswersJob osil osol asked r → r.claim ≡ Some c → kind c ≡ Some k → IsGoodReport osil r
+  answer_good : (osil osol : List ℕ) (asked : Bool) (r : Report) (c : Claim) (k : Kind) → AnswersBeside beside osil osol asked r → r.claim ≡ Some c → kind c ≡ Some k → IsGoodReport osil r
   answer_good osil osol asked r c k (no_options a) stands says = absurd (claims_nothing r c (ap (λ (s : Report). s.claim) a.is) stands)
   answer_good osil osol asked r c k (no_instance a) stands says = absurd (claims_nothing r c (ap (λ (s : Report). s.claim) a.is) stands)
   answer_good osil osol asked r c k (handed h) stands says = handed_good osil osol r h
@@ -266,7 +266,7 @@ module _ (names : (bytes : List ℕ) (o : Options) → IsOptionsText bytes o →
   unsure_read job note c r told bare short back is =
       subst (λ (s : Report). IsReportText (report_text s) s) (sym is) (noted_read note job (Has.Unsure c None) told bare (unsure_short job short c) (back, tt))
 
-  pub answer_read : (osil osol : List ℕ) (asked : Bool) (r : Report) → AnswersJob osil osol asked r → IsReportText (report_text r) r
+  pub answer_read : (osil osol : List ℕ) (asked : Bool) (r : Report) → AnswersBeside beside osil osol asked r → IsReportText (report_text r) r
   answer_read osil osol asked r (no_options a) = error_read None a.message r tt tt (options_message a.fault a.message a.says) a.is
   answer_read osil osol asked r (no_instance a) =
       let name = names osol a.options a.options_text in
@@ -282,8 +282,8 @@ module _ (names : (bytes : List ℕ) (o : Options) → IsOptionsText bytes o →
       by (inr best) = good_read osil r (best_good osil osol a.job a.note a.claim r a.whose a.noting best a.is)
 
   -- from each text that is read as it
-  pub text_accepted : (osil osol : List ℕ) (asked : Bool) (r : Report) (text : List ℕ) (c : Claim) (k : Kind) → AnswersJob osil osol asked r → IsReportText text r → r.claim ≡ Some c → kind c ≡ Some k → IsAcceptedText osil text k
+  pub text_accepted : (osil osol : List ℕ) (asked : Bool) (r : Report) (text : List ℕ) (c : Claim) (k : Kind) → AnswersBeside beside osil osol asked r → IsReportText text r → r.claim ≡ Some c → kind c ≡ Some k → IsAcceptedText osil text k
   text_accepted osil osol asked r text c k a said stands says = good_accepted osil r text c k said stands says (answer_good osil osol asked r c k a stands says)
 
-  pub answer_accepted : (osil osol : List ℕ) (asked : Bool) (r : Report) (c : Claim) (k : Kind) → AnswersJob osil osol asked r → r.claim ≡ Some c → kind c ≡ Some k → IsAcceptedText osil (report_text r) k
+  pub answer_accepted : (osil osol : List ℕ) (asked : Bool) (r : Report) (c : Claim) (k : Kind) → AnswersBeside beside osil osol asked r → r.claim ≡ Some c → kind c ≡ Some k → IsAcceptedText osil (report_text r) k
   answer_accepted osil osol asked r c k a stands says = text_accepted osil osol asked r (report_text r) c k a (answer_read osil osol asked r a) stands says

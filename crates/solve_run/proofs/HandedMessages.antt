@@ -155,6 +155,6 @@ told_bare : (note : Option (List ℕ)) → MayTell note → IsBareOrNone note
 told_bare None h = tt
 told_bare (Some text) (starts, (n, piece)) = bare_of n text starts piece
 
-pub whole_bare : (osol : List ℕ) (o : Options) (p : Parts) (start : Option Found) (note : Option (List ℕ)) → IsNoteFrom osol o p start note → IsBareOrNone note
-whole_bare osol o p start note h =
+pub whole_bare : (beside : Option (List ℕ)) (osol : List ℕ) (o : Options) (p : Parts) (start : Option Found) (note : Option (List ℕ)) → IsNoteFrom beside osol o p start note → IsBareOrNone note
+whole_bare beside osol o p start note h =
     told_bare note (subst MayTell (sym h.is) (both_told h.handed (first_note o.first start) (note_told p h.none_handed.handed h.handed h.none_handed.notes) (first_told o.first start)))

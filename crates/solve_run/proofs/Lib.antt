@@ -11,6 +11,7 @@ pub mod DocumentNames
 pub mod RefusedNames
 pub mod FaultMessages
 pub mod HandedMessages
+pub mod BesideTexts
 pub mod RoundLimits
 pub mod RoundTrips
 pub mod RowForms

@@ -26,7 +26,7 @@ use Rattle.solve_run.specs.Judging.{IsWideAt, IsJudged, checked}
 use Rattle.solve_run.proofs.RowForms.{formed_once}
 use Rattle.solve_run.specs.Closings.{error_report, claim_report, noted, IsShort, IsFitted, IsFormed, IsToldOf}
 use Rattle.solve_run.specs.Handing.{HandsInClaim, HandsInNone}
-use Rattle.solve_run.specs.JobAnswers.{RefusesOptions, RefusesInstance, AreJobTexts, TakesHanded, Solved, GaveUp, MayStop, AnswersJob, no_options, no_instance, handed, solved, gave_up}
+use Rattle.solve_run.specs.JobAnswers.{RefusesOptions, RefusesInstance, AreJobTexts, TakesBeside, SolvedBeside, GaveUpBeside, MayStop, AnswersBeside, no_options, no_instance, handed, solved, gave_up}
 use Rattle.solve_run.specs.Untils.{job_terms, renamed}
 use Rattle.document_checker.specs.Grounds.{InstancesAreOne}
 use Rattle.solve_run.specs.Grounds.{OptionsAreOne, SearchesAreOne, HandedAreOne}
@@ -42,7 +42,7 @@ untold_instance f text says = λ is. subst (λ (g : OsilFault). instances.IsFaul
 
 -- ---- refusals
 
-module _ (options : OptionsAreOne) (instances_one : InstancesAreOne) where
+module _ (options : OptionsAreOne) (instances_one : InstancesAreOne) (beside : Option (List ℕ)) where
   no_options_given : (osol : List ℕ) (o : Options) (r : Report) → RefusesOptions osol r → IsOptionsText osol o → ⊥
   no_options_given osol o r a text = untold_options a.fault a.message a.says (options.apart osol o a.fault text a.fails)
 
@@ -52,22 +52,22 @@ module _ (options : OptionsAreOne) (instances_one : InstancesAreOne) where
   pub options_instance : (osil osol : List ℕ) (r s : Report) → RefusesOptions osol r → RefusesInstance osil osol s → ⊥
   options_instance osil osol r s a b = no_options_given osol b.options r a b.options_text
 
-  pub options_search : (osil osol : List ℕ) (stop : Option ℕ) (timed : Option Frac) (looks : ℕ) (r s : Report) → RefusesOptions osol r → Solved osil osol stop timed looks s → ⊥
+  pub options_search : (osil osol : List ℕ) (stop : Option ℕ) (timed : Option Frac) (looks : ℕ) (r s : Report) → RefusesOptions osol r → SolvedBeside beside osil osol stop timed looks s → ⊥
   options_search osil osol stop timed looks r s a b = no_options_given osol b.given.options r a b.given.options_text
 
-  pub instance_search : (osil osol : List ℕ) (stop : Option ℕ) (timed : Option Frac) (looks : ℕ) (r s : Report) → RefusesInstance osil osol r → Solved osil osol stop timed looks s → ⊥
+  pub instance_search : (osil osol : List ℕ) (stop : Option ℕ) (timed : Option Frac) (looks : ℕ) (r s : Report) → RefusesInstance osil osol r → SolvedBeside beside osil osol stop timed looks s → ⊥
   instance_search osil osol stop timed looks r s a b = no_instance_given osil osol b.given.parts r a b.given.instance_text
 
-  pub options_handed : (osil osol : List ℕ) (r s : Report) → RefusesOptions osol r → TakesHanded osil osol s → ⊥
+  pub options_handed : (osil osol : List ℕ) (r s : Report) → RefusesOptions osol r → TakesBeside beside osil osol s → ⊥
   options_handed osil osol r s a b = no_options_given osol b.given.options r a b.given.options_text
 
-  pub instance_handed : (osil osol : List ℕ) (r s : Report) → RefusesInstance osil osol r → TakesHanded osil osol s → ⊥
+  pub instance_handed : (osil osol : List ℕ) (r s : Report) → RefusesInstance osil osol r → TakesBeside beside osil osol s → ⊥
   instance_handed osil osol r s a b = no_instance_given osil osol b.given.parts r a b.given.instance_text
 
-  pub handed_search : HandedAreOne → (osil osol : List ℕ) (stop : Option ℕ) (timed : Option Frac) (looks : ℕ) (r s : Report) → TakesHanded osil osol r → Solved osil osol stop timed looks s → ⊥
+  pub handed_search : HandedAreOne → (osil osol : List ℕ) (stop : Option ℕ) (timed : Option Frac) (looks : ℕ) (r s : Report) → TakesBeside beside osil osol r → SolvedBeside beside osil osol stop timed looks s → ⊥
   handed_search laws osil osol stop timed looks r s a b =
       let parts = instances_one.once osil b.given.parts a.given.parts b.given.instance_text a.given.instance_text in
-      claim_or_note laws osil a.given.parts a.given.instance_text osol a.given.options a.given.options_text a.claim b.noting.handed a.handed (subst (λ (p : Parts). HandsInNone osol p b.noting.handed) parts b.noting.none_handed)
+      claim_or_note laws osil a.given.parts a.given.instance_text beside osol a.given.options a.given.options_text a.claim b.noting.handed a.handed (subst (λ (p : Parts). HandsInNone beside osol p b.noting.handed) parts b.noting.none_handed)
 
   pub options_once : (osol : List ℕ) (r s : Report) → RefusesOptions osol r → RefusesOptions osol s → r ≡ s
   options_once osol r s a b =
@@ -83,7 +83,7 @@ module _ (options : OptionsAreOne) (instances_one : InstancesAreOne) where
 
 -- ---- what is told of a search
 
-module _ (laws : SearchesAreOne) where
+module _ (laws : SearchesAreOne) (beside : Option (List ℕ)) where
   judged_once : (p : Parts) (c : Claim) (a b : Option ℕ) → IsJudged p c a → IsJudged p c b → a ≡ b
   judged_once p c None None j k = refl
   judged_once p c None (Some m) j (final, r, refused, wide) = absurd (laws.apart (problem p) (Means.claim c) r (laws.numbers p) refused (j final))
@@ -117,13 +117,13 @@ module _ (laws : SearchesAreOne) where
     told : Claim
     closed : IsToldOf p o.job o.form turns found told
     note : Option (List ℕ)
-    noting : IsNoteFrom osol o p start note
+    noting : IsNoteFrom beside osol o p start note
     is : r ≡ noted note (claim_report o.job told)
 
-  ended : (osil osol : List ℕ) (stop : Option ℕ) (timed : Option Frac) (looks : ℕ) (r : Report) (s : Solved osil osol stop timed looks r) → Ended osol s.given.options s.given.parts stop timed looks r
+  ended : (osil osol : List ℕ) (stop : Option ℕ) (timed : Option Frac) (looks : ℕ) (r : Report) (s : SolvedBeside beside osil osol stop timed looks r) → Ended osol s.given.options s.given.parts stop timed looks r
   ended osil osol stop timed looks r s = record { turns = s.turns; start = s.start; first = s.first; outcome = s.outcome; ends = s.ends; found = s.found; tells = s.tells; told = s.told; closed = s.closed; note = s.note; noting = s.noting; is = s.is }
 
-  ended_once : (osol : List ℕ) (o : Options) (p : Parts) (stop : Option ℕ) (timed : Option Frac) (looks more : ℕ) (r s : Report) → ((n m : Option (List ℕ)) → HandsInNone osol p n → HandsInNone osol p m → n ≡ m) → Ended osol o p stop timed looks r → Ended osol o p stop timed more s → (r ≡ s) × (looks ≡ more)
+  ended_once : (osol : List ℕ) (o : Options) (p : Parts) (stop : Option ℕ) (timed : Option Frac) (looks more : ℕ) (r s : Report) → ((n m : Option (List ℕ)) → HandsInNone beside osol p n → HandsInNone beside osol p m → n ≡ m) → Ended osol o p stop timed looks r → Ended osol o p stop timed more s → (r ≡ s) × (looks ≡ more)
   ended_once osol o p stop timed looks more r s once a b =
       let both = laws.once (problem p) (job_terms o stop) _ a.start b.start a.outcome b.outcome _ _ (laws.numbers p) a.first b.first a.ends b.ends in
       let start = laws.first (problem p) _ a.start b.start (laws.numbers p) a.first b.first in
@@ -140,21 +140,21 @@ module _ (laws : SearchesAreOne) where
         subst (λ (o : Options). Ended osol o h.parts stop timed looks r) (options.once osol g.options h.options g.options_text h.options_text)
         (subst (λ (p : Parts). Ended osol g.options p stop timed looks r) (instances_one.once osil g.parts h.parts g.instance_text h.instance_text) e)
 
-    pub search_once : (osil osol : List ℕ) (stop : Option ℕ) (timed : Option Frac) (looks more : ℕ) (r s : Report) → Solved osil osol stop timed looks r → Solved osil osol stop timed more s → (r ≡ s) × (looks ≡ more)
+    pub search_once : (osil osol : List ℕ) (stop : Option ℕ) (timed : Option Frac) (looks more : ℕ) (r s : Report) → SolvedBeside beside osil osol stop timed looks r → SolvedBeside beside osil osol stop timed more s → (r ≡ s) × (looks ≡ more)
     search_once osil osol stop timed looks more r s a b =
-        ended_once osol b.given.options b.given.parts stop timed looks more r s (note_once handed_one osil b.given.parts b.given.instance_text osol b.given.options b.given.options_text) (moved osil osol a.given b.given stop timed looks r (ended osil osol stop timed looks r a)) (ended osil osol stop timed more s b)
+        ended_once osol b.given.options b.given.parts stop timed looks more r s (note_once handed_one osil b.given.parts b.given.instance_text beside osol b.given.options b.given.options_text) (moved osil osol a.given b.given stop timed looks r (ended osil osol stop timed looks r a)) (ended osil osol stop timed more s b)
 
-    pub handed_once : (osil osol : List ℕ) (r s : Report) → TakesHanded osil osol r → TakesHanded osil osol s → r ≡ s
+    pub handed_once : (osil osol : List ℕ) (r s : Report) → TakesBeside beside osil osol r → TakesBeside beside osil osol s → r ≡ s
     handed_once osil osol r s a b =
         let job = ap (λ (o : Options). o.job) (options.once osol a.given.options b.given.options a.given.options_text b.given.options_text) in
         let parts = instances_one.once osil a.given.parts b.given.parts a.given.instance_text b.given.instance_text in
-        let claim = claim_handed_once handed_one osil b.given.parts b.given.instance_text osol b.given.options b.given.options_text a.claim b.claim (subst (λ (p : Parts). HandsInClaim osol p a.claim) parts a.handed) b.handed in
+        let claim = claim_handed_once handed_one osil b.given.parts b.given.instance_text beside osol b.given.options b.given.options_text a.claim b.claim (subst (λ (p : Parts). HandsInClaim beside osol p a.claim) parts a.handed) b.handed in
         let fitted : IsFitted b.given.options.job b.claim a.told = subst (λ (c : Claim). IsFitted b.given.options.job c a.told) claim (subst (λ (j : Option (List ℕ)). IsFitted j a.claim a.told) job a.fitted) in
         a.is ∙ ap₂ claim_report job (fitted_once b.given.options.job b.claim a.told b.told fitted b.fitted) ∙ sym b.is
 
     -- a search that ends with a claim that is refused for no width, and isn't too long in its form, is told
     complete : (osil osol : List ℕ) (o : Options) (p : Parts) (start : Option Found) (oc : Outcome) (found formed : Claim) (c : Clock) (r : Report) → IsOptionsText osol o → IsInstanceText osil p → IsFirstOf (problem p) o start → SearchFrom (problem p) (job_terms o None) start oc c → ClaimTells found oc
-        → ((q : Refused) (n : ℕ) → IsRefusedFor (problem p) (Means.claim found) q → IsWideAt q n → ⊥) → IsFormed p o.job o.form found formed → IsShort o.job formed → (looks : ℕ) → Solved osil osol None None looks r → (note : Option (List ℕ)) × IsNoteFrom osol o p start note × (r ≡ noted note (claim_report o.job formed))
+        → ((q : Refused) (n : ℕ) → IsRefusedFor (problem p) (Means.claim found) q → IsWideAt q n → ⊥) → IsFormed p o.job o.form found formed → IsShort o.job formed → (looks : ℕ) → SolvedBeside beside osil osol None None looks r → (note : Option (List ℕ)) × IsNoteFrom beside osol o p start note × (r ≡ noted note (claim_report o.job formed))
     complete osil osol o p start oc found formed c r options_text instance_text first ends tells fits forms short looks s =
         let here = ended osil osol None None looks r s in
         let moved_here = subst (λ (x : Options). Ended osol x p None None looks r) (options.once osol s.given.options o s.given.options_text options_text)
@@ -163,24 +163,24 @@ module _ (laws : SearchesAreOne) where
         let begun = laws.first (problem p) _ moved_here.start start (laws.numbers p) moved_here.first first in
         let same = claim_once laws.fractions moved_here.found found oc (subst (ClaimTells moved_here.found) both.0 moved_here.tells) tells in
         let closed : IsToldOf p o.job o.form moved_here.turns found moved_here.told = subst (λ (x : Claim). IsToldOf p o.job o.form moved_here.turns x moved_here.told) same moved_here.closed in
-        (moved_here.note, subst (λ (x : Option Found). IsNoteFrom osol o p x moved_here.note) begun moved_here.noting, moved_here.is ∙ ap (λ (c : Claim). noted moved_here.note (claim_report o.job c)) (by moved_here.turns moved_here.told closed.width closed.formed closed.judged closed.forms closed.fitted))
+        (moved_here.note, subst (λ (x : Option Found). IsNoteFrom beside osol o p x moved_here.note) begun moved_here.noting, moved_here.is ∙ ap (λ (c : Claim). noted moved_here.note (claim_report o.job c)) (by moved_here.turns moved_here.told closed.width closed.formed closed.judged closed.forms closed.fitted))
       where
         by : (turns : ℕ) (told : Claim) (width : Option ℕ) (shaped : Claim) → IsJudged p found width → IsFormed p o.job o.form (checked found turns width) shaped → IsFitted o.job shaped told → told ≡ formed
         by turns told None shaped judged form (inl (few, same)) = same ∙ formed_once p o.job o.form found shaped formed form forms
         by turns told None shaped judged form (inr (long, same)) = absurd (long (subst (IsShort o.job) (sym (formed_once p o.job o.form found shaped formed form forms)) short))
         by turns told (Some n) shaped (final, q, refused, wide) form fitted = absurd (fits q n refused wide)
 
-    pub told_at_end : (osil osol : List ℕ) (o : Options) (p : Parts) (start : Option Found) (oc : Outcome) (found formed : Claim) (c : Clock) (r : Report) → IsOptionsText osol o → IsInstanceText osil p → IsFirstOf (problem p) o start → SearchFrom (problem p) (job_terms o None) start oc c → ClaimTells found oc → ((q : Refused) (n : ℕ) → IsRefusedFor (problem p) (Means.claim found) q → IsWideAt q n → ⊥) → IsFormed p o.job o.form found formed → IsShort o.job formed → AnswersJob osil osol false r
-        → ((note : Option (List ℕ)) × IsNoteFrom osol o p start note × (r ≡ noted note (claim_report o.job formed))) ⊎ TakesHanded osil osol r ⊎ GaveUp osil osol r ⊎ ((s : Frac) × (looks : ℕ) × (o.seconds ≡ Some s) × Solved osil osol (Some looks) (Some s) looks r)
-    told_at_end osil osol o p start oc found formed c r options_text instance_text first ends tells fits forms short (no_options a) = absurd (no_options_given options instances_one osol o r a options_text)
-    told_at_end osil osol o p start oc found formed c r options_text instance_text first ends tells fits forms short (no_instance a) = absurd (no_instance_given options instances_one osil osol p r a instance_text)
+    pub told_at_end : (osil osol : List ℕ) (o : Options) (p : Parts) (start : Option Found) (oc : Outcome) (found formed : Claim) (c : Clock) (r : Report) → IsOptionsText osol o → IsInstanceText osil p → IsFirstOf (problem p) o start → SearchFrom (problem p) (job_terms o None) start oc c → ClaimTells found oc → ((q : Refused) (n : ℕ) → IsRefusedFor (problem p) (Means.claim found) q → IsWideAt q n → ⊥) → IsFormed p o.job o.form found formed → IsShort o.job formed → AnswersBeside beside osil osol false r
+        → ((note : Option (List ℕ)) × IsNoteFrom beside osol o p start note × (r ≡ noted note (claim_report o.job formed))) ⊎ TakesBeside beside osil osol r ⊎ GaveUpBeside beside osil osol r ⊎ ((s : Frac) × (looks : ℕ) × (o.seconds ≡ Some s) × SolvedBeside beside osil osol (Some looks) (Some s) looks r)
+    told_at_end osil osol o p start oc found formed c r options_text instance_text first ends tells fits forms short (no_options a) = absurd (no_options_given options instances_one beside osol o r a options_text)
+    told_at_end osil osol o p start oc found formed c r options_text instance_text first ends tells fits forms short (no_instance a) = absurd (no_instance_given options instances_one beside osil osol p r a instance_text)
     told_at_end osil osol o p start oc found formed c r options_text instance_text first ends tells fits forms short (handed h) = inr (inl h)
-    told_at_end osil osol o p start oc found formed c r options_text instance_text first ends tells fits forms short (solved stop looks None may s) = inl (complete osil osol o p start oc found formed c r options_text instance_text first ends tells fits forms short looks (subst (λ (x : Option ℕ). Solved osil osol x None looks r) (none may) s))
+    told_at_end osil osol o p start oc found formed c r options_text instance_text first ends tells fits forms short (solved stop looks None may s) = inl (complete osil osol o p start oc found formed c r options_text instance_text first ends tells fits forms short looks (subst (λ (x : Option ℕ). SolvedBeside beside osil osol x None looks r) (none may) s))
       where
         none : MayStop false stop looks → stop ≡ None
         none (inl is) = is
         none (inr (asked, is)) = absurd (cc)
     told_at_end osil osol o p start oc found formed c r options_text instance_text first ends tells fits forms short (solved stop looks (Some x) (says, at) s) =
         let its = options.once osol says.0 o says.1 options_text in
-        inr (inr (inr (x, looks, sym (ap (λ (q : Options). q.seconds) its) ∙ says.2, subst (λ (k : Option ℕ). Solved osil osol k (Some x) looks r) at s)))
+        inr (inr (inr (x, looks, sym (ap (λ (q : Options). q.seconds) its) ∙ says.2, subst (λ (k : Option ℕ). SolvedBeside beside osil osol k (Some x) looks r) at s)))
     told_at_end osil osol o p start oc found formed c r options_text instance_text first ends tells fits forms short (gave_up a) = inr (inr (inl a))

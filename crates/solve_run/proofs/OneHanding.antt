@@ -1,5 +1,5 @@
 -- What becomes of a result that the options hand in is one thing.
-use Rattle.std.proofs.Common.{◌≡◌, ◌∙◌, ℕ, inl, inr, Option, Some, Err, List, ap, sym, subst}
+use Rattle.std.proofs.Common.{◌≡◌, ◌∙◌, ℕ, inl, inr, Option, Some, Err, List, ap, sym, subst, None}
 use Rattle.instance.specs.Parts.{Parts}
 use Rattle.certificate.specs.declared.claims.Claim.{Claim}
 use Rattle.osol_grammar.specs.declared.options.Options.{Options}
@@ -12,7 +12,7 @@ use Rattle.document_checker.specs.Texts.{IsCheckFaultText}
 use Rattle.handed_results.specs.declared.handed.Handed.{Handed}
 use Rattle.handed_results.specs.declared.handed.Handed.TheVariants.{Nothing, Once, Twice}
 use Rattle.solve_run.specs.Grounds.{HandedAreOne}
-use Rattle.solve_run.specs.Handing.{about_handed, IsTaken, IsNoteOf, HandsInClaim, HandsInNone}
+use Rattle.solve_run.specs.Handing.{about_handed, IsHandedIn, IsTaken, IsNoteOf, HandsInClaim, HandsInNone}
 
 -- both documents say what is said of the instance
 accepted_with : (osil text : List ℕ) (p : Parts) (c : Claim) → IsInstanceText osil p → (s : IsShownIn p text c) → IsAcceptedText osil text s.what
@@ -51,12 +51,19 @@ module _ (laws : HandedAreOne) (osil : List ℕ) (p : Parts) (instance : IsInsta
           let none = laws.apart osil t.text t.shown.what r.fault (accepted_with osil t.text p c instance t.shown) (refused_with osil t.text p r.fault instance r.unshown) in
           subst (λ (f : CheckFault). IsCheckFaultText f words) none r.says
 
-  module _ (osol : List ℕ) (o : Options) (options : IsOptionsText osol o) where
-    pub claim_handed_once : (c d : Claim) → HandsInClaim osol p c → HandsInClaim osol p d → c ≡ d
-    claim_handed_once c d a b = taken_once b.handed c d (subst (λ (h : Handed). IsTaken p h c) (laws.once osol o a.handed b.handed options a.hands b.hands) a.taken) b.taken
+  module _ (beside : Option (List ℕ)) (osol : List ℕ) (o : Options) (options : IsOptionsText osol o) where
+    one_thing : (h k : Handed) → IsHandedIn beside osol h → IsHandedIn beside osol k → h ≡ k
+    one_thing = by beside
+      where
+        by : (b : Option (List ℕ)) (h k : Handed) → IsHandedIn b osol h → IsHandedIn b osol k → h ≡ k
+        by None h k p q = laws.once osol o h k options p q
+        by (Some text) h k p q = p ∙ sym q
 
-    pub note_once : (n m : Option (List ℕ)) → HandsInNone osol p n → HandsInNone osol p m → n ≡ m
-    note_once n m a b = notes_once b.handed n m (subst (λ (h : Handed). IsNoteOf p h n) (laws.once osol o a.handed b.handed options a.hands b.hands) a.notes) b.notes
+    pub claim_handed_once : (c d : Claim) → HandsInClaim beside osol p c → HandsInClaim beside osol p d → c ≡ d
+    claim_handed_once c d a b = taken_once b.handed c d (subst (λ (h : Handed). IsTaken p h c) (one_thing a.handed b.handed a.hands b.hands) a.taken) b.taken
 
-    pub claim_or_note : (c : Claim) (n : Option (List ℕ)) → HandsInClaim osol p c → HandsInNone osol p n → ⊥
-    claim_or_note c n a b = not_both b.handed c n (subst (λ (h : Handed). IsTaken p h c) (laws.once osol o a.handed b.handed options a.hands b.hands) a.taken) b.notes
+    pub note_once : (n m : Option (List ℕ)) → HandsInNone beside osol p n → HandsInNone beside osol p m → n ≡ m
+    note_once n m a b = notes_once b.handed n m (subst (λ (h : Handed). IsNoteOf p h n) (one_thing a.handed b.handed a.hands b.hands) a.notes) b.notes
+
+    pub claim_or_note : (c : Claim) (n : Option (List ℕ)) → HandsInClaim beside osol p c → HandsInNone beside osol p n → ⊥
+    claim_or_note c n a b = not_both b.handed c n (subst (λ (h : Handed). IsTaken p h c) (one_thing a.handed b.handed a.hands b.hands) a.taken) b.notes

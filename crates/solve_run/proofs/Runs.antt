@@ -42,9 +42,9 @@ use Rattle.solve_run.specs.Judging.{IsShownClaim, AreFewRounds, HasFewRounds, Is
 use Rattle.solve_run.specs.Closings.{claim_report, error_report, noted, IsShort, IsFitted, IsFormed, IsToldOf}
 use Rattle.solve_run.specs.Handing.{HandsInClaim}
 use Rattle.solve_run.specs.Untils.{job_terms, stop_by, looks_by, is_stopped_by, MayTime, left, renamed, FindsUntil}
-use Rattle.solve_run.specs.JobAnswers.{AreJobTexts, IsJobOf, MayStop, MayEnd, AnswersJob, Right}
+use Rattle.solve_run.specs.JobAnswers.{AreJobTexts, IsJobOf, MayStop, MayEnd, AnswersBeside, Right}
 use Rattle.solve_run.specs.JobAnswers as right
-use Rattle.solve_run.specs.Runs.{MayTimeOut, Reports, no_options, no_instance, handed, solved, gave_up, TellsOutcome, TellsText, TellsDocument, IsRight, Ran, ClosesClaim, IsClaimTold, IsFittedDocument, IsMemoryDocument, IsErrorDocument, AreDueNames}
+use Rattle.solve_run.specs.Runs.{MayTimeOut, Reports, no_options, no_instance, handed, solved, gave_up, OutcomeBeside, TellsOutcome, TellsText, TellsDocument, RightBeside, IsRight, Ran, ClosesClaim, IsClaimTold, IsFittedDocument, IsMemoryDocument, IsErrorDocument, AreDueNames}
 use Rattle.solve_run.proofs.Lengths.{IsShortName, best_short, unsure_short}
 use Rattle.solve_run.proofs.Names.{short_name}
 use Rattle.solve_run.proofs.ToldNames.{nameless, named_answer}
@@ -90,7 +90,7 @@ memory_killed (Some f) = refl
 abbrev clock_after : (turns looks : ℕ) → Clock
 clock_after turns looks = record { turns = turns; looks = looks }
 
-module _ (osil osol : List ℕ) (o : Options) (p : Parts) (valid : IsValid p) (options_text : IsOptionsText osol o) (name : IsNameOrNone o.job) (instance_text : IsInstanceText osil p) (ns : NameLists) (due : AreDueNames osil o ns) (start : Option Found) (first : IsFirstOf (problem p) o start) (note : Option (List ℕ)) (noting : IsNoteFrom osol o p start note) where
+module _ (beside : Option (List ℕ)) (osil osol : List ℕ) (o : Options) (p : Parts) (valid : IsValid p) (options_text : IsOptionsText osol o) (name : IsNameOrNone o.job) (instance_text : IsInstanceText osil p) (ns : NameLists) (due : AreDueNames osil o ns) (start : Option Found) (first : IsFirstOf (problem p) o start) (note : Option (List ℕ)) (noting : IsNoteFrom beside osol o p start note) where
   abbrev given : AreJobTexts osil osol
   given = record { options = o; options_text = options_text; parts = p; valid = valid; instance_text = instance_text }
 
@@ -101,7 +101,7 @@ module _ (osil osol : List ℕ) (o : Options) (p : Parts) (valid : IsValid p) (o
 
   module _ (found : Claim) (turns n : ℕ) (doc : Document) (killed : Bool) where
     -- memory was wanting in the search: the claim of its moment is told
-    wanted : (timed : Option Frac) (oc : Outcome) (m : SearchMoment) → ClaimTells found (renamed timed oc) → is_killed oc ≡ is_stopped_by killed timed → IsShown (problem p) oc → ComesFrom (problem p) (job_terms o (stop_by n killed timed)) start m → early m.best Memory ≡ oc → ClosesClaim p ns note o.job o.form turns found doc → TellsOutcome osil osol n killed doc
+    wanted : (timed : Option Frac) (oc : Outcome) (m : SearchMoment) → ClaimTells found (renamed timed oc) → is_killed oc ≡ is_stopped_by killed timed → IsShown (problem p) oc → ComesFrom (problem p) (job_terms o (stop_by n killed timed)) start m → early m.best Memory ≡ oc → ClosesClaim p ns note o.job o.form turns found doc → OutcomeBeside beside osil osol n killed doc
     wanted (Some s) oc m tells stopped shown comes is closes = let went : true ≡ false = sym stopped ∙ ap is_killed (sym is) ∙ memory_killed m.best in absurd (cc)
     wanted None oc m tells stopped shown comes is closes =
         let early_told : ClaimTells found (early m.best Memory) = subst (ClaimTells found) (sym is) tells in
@@ -130,7 +130,7 @@ module _ (osil osol : List ℕ) (o : Options) (p : Parts) (valid : IsValid p) (o
         }
 
     module _ (timed : Option Frac) (may : MayTime o killed timed) where
-      ended : (oc : Outcome) → ClaimTells found (renamed timed oc) → SearchFrom (problem p) (job_terms o (stop_by n killed timed)) start oc (clock_after turns (looks_by n killed timed)) → ClosesClaim p ns note o.job o.form turns found doc → TellsOutcome osil osol n killed doc
+      ended : (oc : Outcome) → ClaimTells found (renamed timed oc) → SearchFrom (problem p) (job_terms o (stop_by n killed timed)) start oc (clock_after turns (looks_by n killed timed)) → ClosesClaim p ns note o.job o.form turns found doc → OutcomeBeside beside osil osol n killed doc
       ended oc tells ends closes = record {
         report = noted note (claim_report o.job closes.told);
         reports = solved timed (may_out killed timed may) (record {
@@ -152,7 +152,7 @@ module _ (osil osol : List ℕ) (o : Options) (p : Parts) (valid : IsValid p) (o
         is = named_answer osil osol o options_text p instance_text ns due (noted note (claim_report o.job closes.told)) doc closes.is;
       }
 
-      answered : (oc of : Outcome) (d : Clock) → of ≡ oc → d ≡ clock_after turns (looks_by n killed timed) → ClaimTells found (renamed timed oc) → is_killed oc ≡ is_stopped_by killed timed → IsShown (problem p) oc → IsAnswerFrom (problem p) (job_terms o (stop_by n killed timed)) start of d → ClosesClaim p ns note o.job o.form turns found doc → TellsOutcome osil osol n killed doc
+      answered : (oc of : Outcome) (d : Clock) → of ≡ oc → d ≡ clock_after turns (looks_by n killed timed) → ClaimTells found (renamed timed oc) → is_killed oc ≡ is_stopped_by killed timed → IsShown (problem p) oc → IsAnswerFrom (problem p) (job_terms o (stop_by n killed timed)) start of d → ClosesClaim p ns note o.job o.form turns found doc → OutcomeBeside beside osil osol n killed doc
       answered oc of d e f tells stopped shown (searched s) closes =
           ended oc tells (subst (λ (x : Outcome). SearchFrom (problem p) (job_terms o (stop_by n killed timed)) start x (clock_after turns (looks_by n killed timed))) e
           (subst (λ (x : Clock). SearchFrom (problem p) (job_terms o (stop_by n killed timed)) start of x) f s)) closes
@@ -160,8 +160,8 @@ module _ (osil osol : List ℕ) (o : Options) (p : Parts) (valid : IsValid p) (o
       answered oc of d e f tells stopped shown (given_up_after {m} c r) closes = wanted timed oc m tells stopped shown c e closes
 
 -- nothing is told for want of memory, of this job
-untold : (osil osol : List ℕ) (n : ℕ) (killed : Bool) (job : Option (List ℕ)) (doc : Document) → IsJobOf osol job → IsMemoryDocument job doc → TellsOutcome osil osol n killed doc
-untold osil osol n killed job doc whose is = record {
+untold : (beside : Option (List ℕ)) (osil osol : List ℕ) (n : ℕ) (killed : Bool) (job : Option (List ℕ)) (doc : Document) → IsJobOf osol job → IsMemoryDocument job doc → OutcomeBeside beside osil osol n killed doc
+untold beside osil osol n killed job doc whose is = record {
   report = claim_report job (Has.Unsure Memory None);
   reports = gave_up (record { job = job; whose = whose; claim = Has.Unsure Memory None; claims = inl refl; note = None; noting = inl refl; is = refl });
   is = nameless osil osol (claim_report job (Has.Unsure Memory None)) doc (λ ns. refl) is;
@@ -173,21 +173,21 @@ AreFewOf n oc = All (λ (c : Certificate). length c.rounds ≤ n) (said_certific
 
 -- the run of an instance
 module _ (p : Parts) (o : Options) (start : Option Found) (first : IsFirstOf (problem p) o start) (Came : List Bool → Type 0) (found : Claim) (turns : ℕ) (f : FindsUntil p o start Came found turns) where
-  pub ran : {E : Type 0} (osil osol : List ℕ) (ns : NameLists) (note : Option (List ℕ)) (result : Result Document E)
-      → IsValid p → IsNameOrNone o.job → IsOptionsText osol o → IsInstanceText osil p → AreDueNames osil o ns → IsNoteFrom osol o p start note → IsShown (problem p) f.outcome
-      → IfOk result (IsClaimTold p ns note o.job o.form turns found) → Ran Came osil osol (TellsDocument osil osol result)
-  ran {E} osil osol ns note result valid name options_text instance_text due noting shown told =
+  pub ran : {E : Type 0} (beside : Option (List ℕ)) (osil osol : List ℕ) (ns : NameLists) (note : Option (List ℕ)) (result : Result Document E)
+      → IsValid p → IsNameOrNone o.job → IsOptionsText osol o → IsInstanceText osil p → AreDueNames osil o ns → IsNoteFrom beside osol o p start note → IsShown (problem p) f.outcome
+      → IfOk result (IsClaimTold p ns note o.job o.form turns found) → Ran Came osil osol (TellsDocument beside osil osol result)
+  ran {E} beside osil osol ns note result valid name options_text instance_text due noting shown told =
       record {
         went_on = f.went_on;
         killed = f.killed;
         came = f.came;
-        looks = inr (record { given = given osil osol o p valid options_text name instance_text ns due start first note noting; turns = turns; start = start; first = first; outcome = f.outcome; timed = f.timed; may = f.may; answers = f.answer });
-        tells = IfOk-weaker result (IsClaimTold p ns note o.job o.form turns found) (TellsOutcome osil osol f.went_on f.killed) by told;
+        looks = inr (record { given = given beside osil osol o p valid options_text name instance_text ns due start first note noting; turns = turns; start = start; first = first; outcome = f.outcome; timed = f.timed; may = f.may; answers = f.answer });
+        tells = IfOk-weaker result (IsClaimTold p ns note o.job o.form turns found) (OutcomeBeside beside osil osol f.went_on f.killed) by told;
       }
     where
-      by : (doc : Document) → IsClaimTold p ns note o.job o.form turns found doc → TellsOutcome osil osol f.went_on f.killed doc
-      by doc (inl closes) = answered osil osol o p valid options_text name instance_text ns due start first note noting found turns f.went_on doc f.killed f.timed f.may f.outcome f.outcome (clock_after turns (looks_by f.went_on f.killed f.timed)) refl refl f.tells f.stopped shown f.answer closes
-      by doc (inr memory) = untold osil osol f.went_on f.killed o.job doc (inr (o, options_text, refl)) memory
+      by : (doc : Document) → IsClaimTold p ns note o.job o.form turns found doc → OutcomeBeside beside osil osol f.went_on f.killed doc
+      by doc (inl closes) = answered beside osil osol o p valid options_text name instance_text ns due start first note noting found turns f.went_on doc f.killed f.timed f.may f.outcome f.outcome (clock_after turns (looks_by f.went_on f.killed f.timed)) refl refl f.tells f.stopped shown f.answer closes
+      by doc (inr memory) = untold beside osil osol f.went_on f.killed o.job doc (inr (o, options_text, refl)) memory
 
   -- what was found is shown
   pub shown_by : ((P : Problem) (t : Terms) (gs : Option (List (Option Ratio))) (begun : Option Found) (oc : Outcome) (c : Clock) → IsProblem P → IsFirstBest P gs begun → IsAnswerFrom P t begun oc c → IsShown P oc) → ((q : Parts) → IsProblem (problem q)) → IsShown (problem p) f.outcome
@@ -219,52 +219,52 @@ module _ (p : Parts) (o : Options) (start : Option Found) (first : IsFirstOf (pr
 -- ---- no search
 
 -- without looks
-pub quiet : {E : Type 0} (Came : List Bool → Type 0) (osil osol : List ℕ) (result : Result Document E) → Came [] → IfOk result (TellsOutcome osil osol 0 false) → Ran Came osil osol (TellsDocument osil osol result)
-quiet {E} Came osil osol result came tells = record { went_on = 0; killed = false; came = came; looks = inl (refl, refl); tells = tells }
+pub quiet : {E : Type 0} (Came : List Bool → Type 0) (beside : Option (List ℕ)) (osil osol : List ℕ) (result : Result Document E) → Came [] → IfOk result (OutcomeBeside beside osil osol 0 false) → Ran Came osil osol (TellsDocument beside osil osol result)
+quiet {E} Came beside osil osol result came tells = record { went_on = 0; killed = false; came = came; looks = inl (refl, refl); tells = tells }
 
-pub quiet_memory : {E : Type 0} (Came : List Bool → Type 0) (osil osol : List ℕ) (job : Option (List ℕ)) (result : Result Document E) → Came [] → IsJobOf osol job → IfOk result (IsMemoryDocument job) → Ran Came osil osol (TellsDocument osil osol result)
-quiet_memory {E} Came osil osol job result came whose is =
-    quiet Came osil osol result came (IfOk-weaker result (IsMemoryDocument job) (TellsOutcome osil osol 0 false) (λ doc memory. untold osil osol 0 false job doc whose memory) is)
+pub quiet_memory : {E : Type 0} (Came : List Bool → Type 0) (beside : Option (List ℕ)) (osil osol : List ℕ) (job : Option (List ℕ)) (result : Result Document E) → Came [] → IsJobOf osol job → IfOk result (IsMemoryDocument job) → Ran Came osil osol (TellsDocument beside osil osol result)
+quiet_memory {E} Came beside osil osol job result came whose is =
+    quiet Came beside osil osol result came (IfOk-weaker result (IsMemoryDocument job) (OutcomeBeside beside osil osol 0 false) (λ doc memory. untold beside osil osol 0 false job doc whose memory) is)
 
 message_of : {E : Type 0} (message : Result (List ℕ) E) (P : List ℕ → Type 0) (m : List ℕ) → message ≡ Ok m → IfOk message P → P m
 message_of {E} message P m is h = subst (λ (r : Result (List ℕ) E). IfOk r P) is h
 
-pub quiet_options : {E : Type 0} (Came : List Bool → Type 0) (osil osol : List ℕ) (fault : OsolFault) (message : Result (List ℕ) E) (result : Result Document E) → Came [] → options.DecodeFails osol fault → IfOk message (options_texts.IsFaultText fault) → IfOk result (IsErrorDocument None message) → Ran Came osil osol (TellsDocument osil osol result)
-quiet_options {E} Came osil osol fault message result came fails says is =
-    quiet Came osil osol result came (IfOk-weaker result (IsErrorDocument None message) (TellsOutcome osil osol 0 false) by is)
+pub quiet_options : {E : Type 0} (Came : List Bool → Type 0) (beside : Option (List ℕ)) (osil osol : List ℕ) (fault : OsolFault) (message : Result (List ℕ) E) (result : Result Document E) → Came [] → options.DecodeFails osol fault → IfOk message (options_texts.IsFaultText fault) → IfOk result (IsErrorDocument None message) → Ran Came osil osol (TellsDocument beside osil osol result)
+quiet_options {E} Came beside osil osol fault message result came fails says is =
+    quiet Came beside osil osol result came (IfOk-weaker result (IsErrorDocument None message) (OutcomeBeside beside osil osol 0 false) by is)
   where
-    by : (doc : Document) → IsErrorDocument None message doc → TellsOutcome osil osol 0 false doc
+    by : (doc : Document) → IsErrorDocument None message doc → OutcomeBeside beside osil osol 0 false doc
     by doc (inl (m, same, written)) = record {
       report = error_report None m;
       reports = no_options (record { fault = fault; fails = fails; message = m; says = message_of message (options_texts.IsFaultText fault) m same says; is = refl });
       is = nameless osil osol (error_report None m) doc (λ ns. refl) written;
     }
-    by doc (inr memory) = untold osil osol 0 false None doc (inl refl) memory
+    by doc (inr memory) = untold beside osil osol 0 false None doc (inl refl) memory
 
-pub quiet_instance : {E : Type 0} (Came : List Bool → Type 0) (osil osol : List ℕ) (o : Options) (fault : OsilFault) (message : Result (List ℕ) E) (result : Result Document E) → Came [] → IsOptionsText osol o → instances.DecodeFails osil fault → IfOk message (instances.IsFaultText fault) → IfOk result (IsErrorDocument o.job message) → Ran Came osil osol (TellsDocument osil osol result)
-quiet_instance {E} Came osil osol o fault message result came options_text fails says is =
-    quiet Came osil osol result came (IfOk-weaker result (IsErrorDocument o.job message) (TellsOutcome osil osol 0 false) by is)
+pub quiet_instance : {E : Type 0} (Came : List Bool → Type 0) (beside : Option (List ℕ)) (osil osol : List ℕ) (o : Options) (fault : OsilFault) (message : Result (List ℕ) E) (result : Result Document E) → Came [] → IsOptionsText osol o → instances.DecodeFails osil fault → IfOk message (instances.IsFaultText fault) → IfOk result (IsErrorDocument o.job message) → Ran Came osil osol (TellsDocument beside osil osol result)
+quiet_instance {E} Came beside osil osol o fault message result came options_text fails says is =
+    quiet Came beside osil osol result came (IfOk-weaker result (IsErrorDocument o.job message) (OutcomeBeside beside osil osol 0 false) by is)
   where
-    by : (doc : Document) → IsErrorDocument o.job message doc → TellsOutcome osil osol 0 false doc
+    by : (doc : Document) → IsErrorDocument o.job message doc → OutcomeBeside beside osil osol 0 false doc
     by doc (inl (m, same, written)) = record {
       report = error_report o.job m;
       reports = no_instance (record { options = o; options_text = options_text; fault = fault; fails = fails; message = m; says = message_of message (instances.IsFaultText fault) m same says; is = refl });
       is = nameless osil osol (error_report o.job m) doc (λ ns. refl) written;
     }
-    by doc (inr memory) = untold osil osol 0 false o.job doc (inr (o, options_text, refl)) memory
+    by doc (inr memory) = untold beside osil osol 0 false o.job doc (inr (o, options_text, refl)) memory
 
 -- the claim of a result that is handed in is told
-pub quiet_handed : {E : Type 0} (Came : List Bool → Type 0) (osil osol : List ℕ) (o : Options) (p : Parts) (ns : NameLists) (c : Claim) (result : Result Document E) → Came [] → IsValid p → IsOptionsText osol o → IsInstanceText osil p → AreDueNames osil o ns → HandsInClaim osol p c → IfOk result (IsFittedDocument ns None o.job c) → Ran Came osil osol (TellsDocument osil osol result)
-quiet_handed {E} Came osil osol o p ns c result came valid options_text instance_text due hands is =
-    quiet Came osil osol result came (IfOk-weaker result (IsFittedDocument ns None o.job c) (TellsOutcome osil osol 0 false) by is)
+pub quiet_handed : {E : Type 0} (Came : List Bool → Type 0) (beside : Option (List ℕ)) (osil osol : List ℕ) (o : Options) (p : Parts) (ns : NameLists) (c : Claim) (result : Result Document E) → Came [] → IsValid p → IsOptionsText osol o → IsInstanceText osil p → AreDueNames osil o ns → HandsInClaim beside osol p c → IfOk result (IsFittedDocument ns None o.job c) → Ran Came osil osol (TellsDocument beside osil osol result)
+quiet_handed {E} Came beside osil osol o p ns c result came valid options_text instance_text due hands is =
+    quiet Came beside osil osol result came (IfOk-weaker result (IsFittedDocument ns None o.job c) (OutcomeBeside beside osil osol 0 false) by is)
   where
-    by : (doc : Document) → IsFittedDocument ns None o.job c doc → TellsOutcome osil osol 0 false doc
+    by : (doc : Document) → IsFittedDocument ns None o.job c doc → OutcomeBeside beside osil osol 0 false doc
     by doc (inl (told, fitted, written)) = record {
       report = claim_report o.job told;
       reports = handed (record { given = record { options = o; options_text = options_text; parts = p; valid = valid; instance_text = instance_text }; claim = c; handed = hands; told = told; fitted = fitted; is = refl });
       is = named_answer osil osol o options_text p instance_text ns due (claim_report o.job told) doc written;
     }
-    by doc (inr memory) = untold osil osol 0 false o.job doc (inr (o, options_text, refl)) memory
+    by doc (inr memory) = untold beside osil osol 0 false o.job doc (inr (o, options_text, refl)) memory
 
 -- ---- the verdict
 
@@ -275,11 +275,11 @@ one_stop (suc n) = one_stop n
 abbrev Asked : (killed asked : Bool) → Type 0
 Asked killed asked = killed ≡ true → asked ≡ true
 
-answers_right : (osil osol : List ℕ) (n : ℕ) (killed asked : Bool) (r : Report) → Asked killed asked → Reports osil osol n killed r → AnswersJob osil osol asked r
-answers_right osil osol n killed asked r only (no_options h) = right.no_options h
-answers_right osil osol n killed asked r only (no_instance h) = right.no_instance h
-answers_right osil osol n killed asked r only (handed h) = right.handed h
-answers_right osil osol n killed asked r only (solved timed may h) = right.solved (stop_by n killed timed) (looks_by n killed timed) timed (ends timed may) h
+answers_right : (beside : Option (List ℕ)) (osil osol : List ℕ) (n : ℕ) (killed asked : Bool) (r : Report) → Asked killed asked → Reports beside osil osol n killed r → AnswersBeside beside osil osol asked r
+answers_right beside osil osol n killed asked r only (no_options h) = right.no_options h
+answers_right beside osil osol n killed asked r only (no_instance h) = right.no_instance h
+answers_right beside osil osol n killed asked r only (handed h) = right.handed h
+answers_right beside osil osol n killed asked r only (solved timed may h) = right.solved (stop_by n killed timed) (looks_by n killed timed) timed (ends timed may) h
   where
     stops : (k : Bool) → Asked k asked → MayStop asked (stop_after n k) (looks_after 0 n k)
     stops false only = inl refl
@@ -288,7 +288,7 @@ answers_right osil osol n killed asked r only (solved timed may h) = right.solve
     ends : (timed : Option Frac) → MayTimeOut osol killed timed → MayEnd osol asked (stop_by n killed timed) (looks_by n killed timed) timed
     ends None may = stops killed only
     ends (Some s) (says, went) = (says, refl)
-answers_right osil osol n killed asked r only (gave_up h) = right.gave_up h
+answers_right beside osil osol n killed asked r only (gave_up h) = right.gave_up h
 
 -- only a look that says so asks a job to stop
 only_asked : (Came : List Bool → Type 0) (before after n : ℕ) → ((answers : List Bool) → Came answers → after ≡ before + stops_of answers)
@@ -298,10 +298,10 @@ only_asked Came before after n counts true came false same e = let one = one_sto
 only_asked Came before after n counts false came false same e = absurd (cc)
 
 -- a document is right, the job being asked to stop where a look said so
-pub right_documents : {E : Type 0} (Came : List Bool → Type 0) (osil osol : List ℕ) (result : Result Document E) (before after : ℕ) → ((answers : List Bool) → Came answers → after ≡ before + stops_of answers)
-    → Ran Came osil osol (TellsDocument osil osol result) → (asked : Bool) → (asked ≡ false → after ≡ before) → IfOk result (IsRight osil osol asked)
-right_documents {E} Came osil osol result before after counts ran asked stayed =
-    IfOk-weaker result (TellsOutcome osil osol ran.went_on ran.killed) (IsRight osil osol asked) (λ doc t. (t.report, answers_right osil osol ran.went_on ran.killed asked t.report only t.reports, t.is)) ran.tells
+pub right_documents : {E : Type 0} (Came : List Bool → Type 0) (beside : Option (List ℕ)) (osil osol : List ℕ) (result : Result Document E) (before after : ℕ) → ((answers : List Bool) → Came answers → after ≡ before + stops_of answers)
+    → Ran Came osil osol (TellsDocument beside osil osol result) → (asked : Bool) → (asked ≡ false → after ≡ before) → IfOk result (RightBeside beside osil osol asked)
+right_documents {E} Came beside osil osol result before after counts ran asked stayed =
+    IfOk-weaker result (OutcomeBeside beside osil osol ran.went_on ran.killed) (RightBeside beside osil osol asked) (λ doc t. (t.report, answers_right beside osil osol ran.went_on ran.killed asked t.report only t.reports, t.is)) ran.tells
   where
     only : Asked ran.killed asked
     only = only_asked Came before after ran.went_on counts ran.killed ran.came asked stayed

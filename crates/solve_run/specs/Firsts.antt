@@ -29,7 +29,7 @@ both_notes (Some first) None = Some first
 both_notes (Some first) (Some second) = Some ((first ++ codes "; ") ++ second)
 
 -- the message of a job whose search begins with this point, or with none: what is said of a result that is handed in, and of first values
-pub record IsNoteFrom (osol : List ℕ) (o : Options) (p : Parts) (start : Option Found) (note : Option (List ℕ)) : Type 0 where
+pub record IsNoteFrom (beside : Option (List ℕ)) (osol : List ℕ) (o : Options) (p : Parts) (start : Option Found) (note : Option (List ℕ)) : Type 0 where
   pub handed : Option (List ℕ)
-  pub none_handed : HandsInNone osol p handed
+  pub none_handed : HandsInNone beside osol p handed
   pub is : note ≡ both_notes handed (first_note o.first start)

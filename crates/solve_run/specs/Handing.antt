@@ -31,14 +31,19 @@ IsNoteOf p Nothing note = note ≡ None
 IsNoteOf p (Once text) note = (words : List ℕ) × IsRefusedWith p text words × (note ≡ Some (about_handed words))
 IsNoteOf p Twice note = note ≡ Some (about_handed (reason (codes "Twice")))
 
--- the options hand in a result with this claim, which is shown of the instance
-pub record HandsInClaim (osol : List ℕ) (p : Parts) (c : Claim) : Type 0 where
+-- what is handed in: the text beside the options, where there is one, and else what they hand in
+abbrev pub IsHandedIn : (beside : Option (List ℕ)) → (osol : List ℕ) → Handed → Type 0
+IsHandedIn None osol h = HandsIn osol h
+IsHandedIn (Some text) osol h = h ≡ Once text
+
+-- a result is handed in with this claim, which is shown of the instance
+pub record HandsInClaim (beside : Option (List ℕ)) (osol : List ℕ) (p : Parts) (c : Claim) : Type 0 where
   pub handed : Handed
-  pub hands : HandsIn osol handed
+  pub hands : IsHandedIn beside osol handed
   pub taken : IsTaken p handed c
 
--- they hand in no such result, and this is the message about what they hand in, if they do
-pub record HandsInNone (osol : List ℕ) (p : Parts) (note : Option (List ℕ)) : Type 0 where
+-- no such result is handed in, and this is the message about what is, if something is
+pub record HandsInNone (beside : Option (List ℕ)) (osol : List ℕ) (p : Parts) (note : Option (List ℕ)) : Type 0 where
   pub handed : Handed
-  pub hands : HandsIn osol handed
+  pub hands : IsHandedIn beside osol handed
   pub notes : IsNoteOf p handed note

@@ -55,16 +55,16 @@ pub record AreJobTexts (osil osol : List ℕ) : Type 0 where
   pub instance_text : IsInstanceText osil parts
 
 -- the options hand in a result whose claim is shown of the instance: the report tells it, or what is told of it where that would be too long, and there is no search
-pub record TakesHanded (osil osol : List ℕ) (r : Report) : Type 0 where
+pub record TakesBeside (beside : Option (List ℕ)) (osil osol : List ℕ) (r : Report) : Type 0 where
   pub given : AreJobTexts osil osol
   pub claim : Claim
-  pub handed : HandsInClaim osol given.parts claim
+  pub handed : HandsInClaim beside osol given.parts claim
   pub told : Claim
   pub fitted : IsFitted given.options.job claim told
   pub is : r ≡ claim_report given.options.job told
 
 -- no such result is handed in, the search of the instance within the options' limits, from the first point that they say, ends after so many looks, of which the given one stops it, for a time that is over, or not, and the report tells what it found, with that time as its cause, and with the message about what is handed in and about first values; the claim's numbers are those of their types
-pub record Solved (osil osol : List ℕ) (stop : Option ℕ) (timed : Option Frac) (looks : ℕ) (r : Report) : Type 0 where
+pub record SolvedBeside (beside : Option (List ℕ)) (osil osol : List ℕ) (stop : Option ℕ) (timed : Option Frac) (looks : ℕ) (r : Report) : Type 0 where
   pub given : AreJobTexts osil osol
   pub turns : ℕ
   pub start : Option Found
@@ -77,7 +77,7 @@ pub record Solved (osil osol : List ℕ) (stop : Option ℕ) (timed : Option Fra
   pub closed : IsToldOf given.parts given.options.job given.options.form turns found told
   pub numbers : ClaimComesBack (Some told)
   pub note : Option (List ℕ)
-  pub noting : IsNoteFrom osol given.options given.parts start note
+  pub noting : IsNoteFrom beside osol given.options given.parts start note
   pub is : r ≡ noted note (claim_report given.options.job told)
 
 -- a job's name that is told: none, or that of the options
@@ -94,24 +94,24 @@ pub record IsBestOfSearch (osil osol : List ℕ) (c : Claim) : Type 0 where
   pub tells : ClaimTells c (early moment.best Memory)
 
 -- the message of some job with these texts
-pub record IsNoteOfTexts (osil osol : List ℕ) (note : Option (List ℕ)) : Type 0 where
+pub record IsNoteOfTexts (beside : Option (List ℕ)) (osil osol : List ℕ) (note : Option (List ℕ)) : Type 0 where
   pub given : AreJobTexts osil osol
   pub start : Option Found
   pub first : IsFirstOf (problem given.parts) given.options start
-  pub noting : IsNoteFrom osol given.options given.parts start note
+  pub noting : IsNoteFrom beside osol given.options given.parts start note
 
 -- no message, or that one
-abbrev pub IsNoteOfJob : (osil osol : List ℕ) → Option (List ℕ) → Type 0
-IsNoteOfJob osil osol note = (note ≡ None) ⊎ IsNoteOfTexts osil osol note
+abbrev pub IsNoteOfJob : (beside : Option (List ℕ)) → (osil osol : List ℕ) → Option (List ℕ) → Type 0
+IsNoteOfJob beside osil osol note = (note ≡ None) ⊎ IsNoteOfTexts beside osil osol note
 
 -- memory was wanting: nothing is claimed, or the best point of some moment of the search
-pub record GaveUp (osil osol : List ℕ) (r : Report) : Type 0 where
+pub record GaveUpBeside (beside : Option (List ℕ)) (osil osol : List ℕ) (r : Report) : Type 0 where
   pub job : Option (List ℕ)
   pub whose : IsJobOf osol job
   pub claim : Claim
   pub claims : (claim ≡ Unsure Memory None) ⊎ IsBestOfSearch osil osol claim
   pub note : Option (List ℕ)
-  pub noting : IsNoteOfJob osil osol note
+  pub noting : IsNoteOfJob beside osil osol note
   pub is : r ≡ noted note (claim_report job claim)
 
 -- no look stops the search, or, only where the job was asked to stop, its last one
@@ -127,13 +127,26 @@ abbrev pub MayEnd : (osol : List ℕ) → (asked : Bool) → (stop : Option ℕ)
 MayEnd osol asked stop looks None = MayStop asked stop looks
 MayEnd osol asked stop looks (Some s) = SaysSeconds osol s × (stop ≡ Some looks)
 
--- the report answers a job with these texts
-pub data AnswersJob (osil osol : List ℕ) (asked : Bool) (r : Report) : Type 0 where
-  no_options : RefusesOptions osol r → AnswersJob osil osol asked r
-  no_instance : RefusesInstance osil osol r → AnswersJob osil osol asked r
-  handed : TakesHanded osil osol r → AnswersJob osil osol asked r
-  solved : (stop : Option ℕ) (looks : ℕ) (timed : Option Frac) → MayEnd osol asked stop looks timed → Solved osil osol stop timed looks r → AnswersJob osil osol asked r
-  gave_up : GaveUp osil osol r → AnswersJob osil osol asked r
+-- the report answers a job with these texts, and with this text beside the options, if any, which is handed in as a result
+pub data AnswersBeside (beside : Option (List ℕ)) (osil osol : List ℕ) (asked : Bool) (r : Report) : Type 0 where
+  no_options : RefusesOptions osol r → AnswersBeside beside osil osol asked r
+  no_instance : RefusesInstance osil osol r → AnswersBeside beside osil osol asked r
+  handed : TakesBeside beside osil osol r → AnswersBeside beside osil osol asked r
+  solved : (stop : Option ℕ) (looks : ℕ) (timed : Option Frac) → MayEnd osol asked stop looks timed → SolvedBeside beside osil osol stop timed looks r → AnswersBeside beside osil osol asked r
+  gave_up : GaveUpBeside beside osil osol r → AnswersBeside beside osil osol asked r
+
+-- of a job of the table nothing stands beside the options
+abbrev pub TakesHanded : (osil osol : List ℕ) → Report → Type 0
+TakesHanded = TakesBeside None
+
+abbrev pub Solved : (osil osol : List ℕ) → (stop : Option ℕ) → (timed : Option Frac) → (looks : ℕ) → Report → Type 0
+Solved = SolvedBeside None
+
+abbrev pub GaveUp : (osil osol : List ℕ) → Report → Type 0
+GaveUp = GaveUpBeside None
+
+abbrev pub AnswersJob : (osil osol : List ℕ) → (asked : Bool) → Report → Type 0
+AnswersJob = AnswersBeside None
 
 -- the options ask for names
 abbrev pub AskForNames : List ℕ → Type 0

@@ -1,5 +1,6 @@
 -- What the run of a job answers after its looks, of which the last may have stopped it.
-use Rattle.std.specs.Prelude.{◌≡◌, ◌⊎◌, ℕ, Bool, false, Option, None, Some, Result, Ok, IfOk, List}
+use Rattle.std.specs.Prelude.{◌≡◌, ◌⊎◌, ℕ, Bool, false, Option, None, Some, option_map, Result, Ok, IfOk, List}
+use Rattle.std.specs.Borrow.{Bor}
 use Rattle.fraction.specs.declared.frac.Frac.{Frac}
 use Rattle.instance.specs.Parts.{Parts}
 use Rattle.instance.specs.Program.{problem}
@@ -25,7 +26,7 @@ use Rattle.handed_results.specs.declared.handed.Handed.TheVariants.{Once}
 use Rattle.solve_run.specs.declared.document.Document.{Document}
 use Rattle.solve_run.specs.Firsts.{IsFirstOf}
 use Rattle.solve_run.specs.Untils.{job_terms, stop_by, looks_by, MayTime}
-use Rattle.solve_run.specs.JobAnswers.{SaysSeconds, RefusesOptions, RefusesInstance, AreJobTexts, TakesHanded, Solved, GaveUp, AnswersJob, TellsReport}
+use Rattle.solve_run.specs.JobAnswers.{SaysSeconds, RefusesOptions, RefusesInstance, AreJobTexts, TakesBeside, SolvedBeside, GaveUpBeside, AnswersBeside, TellsReport}
 
 -- the looks are those of the search of the instance, up to its end or to where memory was wanting; or a time that the options say was over at the last one
 pub record AreSearched (osil osol : List ℕ) (n : ℕ) (killed : Bool) : Type 0 where
@@ -48,12 +49,12 @@ MayTimeOut osol killed None = Unit {0}
 MayTimeOut osol killed (Some s) = SaysSeconds osol s × (killed ≡ false)
 
 -- the report that is answered after n looks at which the job's own watch went on, and one more where that stopped the search
-pub data Reports (osil osol : List ℕ) (n : ℕ) (killed : Bool) (r : Report) : Type 0 where
-  no_options : RefusesOptions osol r → Reports osil osol n killed r
-  no_instance : RefusesInstance osil osol r → Reports osil osol n killed r
-  handed : TakesHanded osil osol r → Reports osil osol n killed r
-  solved : (timed : Option Frac) → MayTimeOut osol killed timed → Solved osil osol (stop_by n killed timed) timed (looks_by n killed timed) r → Reports osil osol n killed r
-  gave_up : GaveUp osil osol r → Reports osil osol n killed r
+pub data Reports (beside : Option (List ℕ)) (osil osol : List ℕ) (n : ℕ) (killed : Bool) (r : Report) : Type 0 where
+  no_options : RefusesOptions osol r → Reports beside osil osol n killed r
+  no_instance : RefusesInstance osil osol r → Reports beside osil osol n killed r
+  handed : TakesBeside beside osil osol r → Reports beside osil osol n killed r
+  solved : (timed : Option Frac) → MayTimeOut osol killed timed → SolvedBeside beside osil osol (stop_by n killed timed) timed (looks_by n killed timed) r → Reports beside osil osol n killed r
+  gave_up : GaveUpBeside beside osil osol r → Reports beside osil osol n killed r
 
 -- the document is this report's, and says whether it reports an error
 pub record IsDocumentOf (r : Report) (doc : Document) : Type 0 where
@@ -76,14 +77,21 @@ pub record AreDueNames (osil : List ℕ) (o : Options) (ns : NameLists) : Type 0
   pub unasked : (o.names ≡ 1 → ⊥) → ns ≡ no_names
 
 -- the document that is answered then
-pub record TellsOutcome (osil osol : List ℕ) (n : ℕ) (killed : Bool) (doc : Document) : Type 0 where
+pub record OutcomeBeside (beside : Option (List ℕ)) (osil osol : List ℕ) (n : ℕ) (killed : Bool) (doc : Document) : Type 0 where
   pub report : Report
-  pub reports : Reports osil osol n killed report
+  pub reports : Reports beside osil osol n killed report
   pub is : IsAnswer osil osol report doc
 
 -- the document answers a job with these texts, which was asked to stop or wasn't
+abbrev pub RightBeside : (beside : Option (List ℕ)) → (osil osol : List ℕ) → (asked : Bool) → Document → Type 0
+RightBeside beside osil osol asked doc = (r : Report) × AnswersBeside beside osil osol asked r × IsAnswer osil osol r doc
+
 abbrev pub IsRight : (osil osol : List ℕ) → (asked : Bool) → Document → Type 0
-IsRight osil osol asked doc = (r : Report) × AnswersJob osil osol asked r × IsAnswer osil osol r doc
+IsRight = RightBeside None
+
+-- and the document that is answered where nothing stands beside the options
+abbrev pub TellsOutcome : (osil osol : List ℕ) → ℕ → Bool → Document → Type 0
+TellsOutcome = OutcomeBeside None
 
 -- and its text
 abbrev pub TellsText : (osil osol : List ℕ) → ℕ → Bool → (text : List ℕ) → Type 0
@@ -98,8 +106,12 @@ pub record Ran (Came : List Bool → Type 0) (osil osol : List ℕ) (Told : ℕ 
   pub tells : Told went_on killed
 
 -- a document, if there was memory for one, tells what was found
-abbrev pub TellsDocument : {E : Type 0} → (osil osol : List ℕ) → Result Document E → ℕ → Bool → Type 0
-TellsDocument {E} osil osol result n killed = IfOk result (TellsOutcome osil osol n killed)
+abbrev pub TellsDocument : {E : Type 0} → (beside : Option (List ℕ)) → (osil osol : List ℕ) → Result Document E → ℕ → Bool → Type 0
+TellsDocument {E} beside osil osol result n killed = IfOk result (OutcomeBeside beside osil osol n killed)
+
+-- a text that may stand beside the options
+abbrev pub beside_text : Option (Bor (List ℕ)) → Option (List ℕ)
+beside_text beside = option_map (λ (b : Bor (List ℕ)). b.now) beside
 
 -- the document claims nothing for want of memory
 abbrev pub IsMemoryDocument : (job : Option (List ℕ)) → Document → Type 0
@@ -130,10 +142,10 @@ abbrev pub IsTextHanding : Parts → List ℕ → Handing → Type 0
 IsTextHanding p text (Taken c) = IsShownIn p text c
 IsTextHanding p text (Passed note) = IsNoteOf p (Once text) note
 
--- what becomes of what the options hand in
-abbrev pub IsHandingOf : (osol : List ℕ) → Parts → Handing → Type 0
-IsHandingOf osol p (Taken c) = HandsInClaim osol p c
-IsHandingOf osol p (Passed note) = HandsInNone osol p note
+-- what becomes of what is handed in
+abbrev pub IsHandingOf : (beside : Option (List ℕ)) → (osol : List ℕ) → Parts → Handing → Type 0
+IsHandingOf beside osol p (Taken c) = HandsInClaim beside osol p c
+IsHandingOf beside osol p (Passed note) = HandsInNone beside osol p note
 
 -- the numbers of a claim's cause are those of their types
 abbrev pub HasCauses : Claim → Type 0

@@ -1,7 +1,7 @@
 //! What becomes of a result that the options hand in.
-ghost use Rattle.std.specs.Prelude.{◌≡◌, IfOk};
+ghost use Rattle.std.specs.Prelude.{◌≡◌, None, IfOk};
 ghost use Rattle.solve_run.specs.Handing as specs;
-ghost use Rattle.solve_run.specs.Runs.{IsHandingOf, IsTextHanding};
+ghost use Rattle.solve_run.specs.Runs.{IsHandingOf, IsTextHanding, beside_text};
 
 use certificate::Claim;
 use document_checker::{answer_text, shown_claim};
@@ -41,12 +41,28 @@ fn judge_text(alloc: Global, instance: &Instance, osrl: &[u8]) -> Result<Handing
 }
 
 /// What becomes of the result that the text of options hands in, for a job with this instance.
-pub fn judge_handed(alloc: Global, instance: &Instance, osol: &[u8]) -> Result<Handing, Memory>
-    ensures { IfOk result (IsHandingOf osol.now instance.now) }
+fn judge_options(alloc: Global, instance: &Instance, osol: &[u8]) -> Result<Handing, Memory>
+    ensures { IfOk result (IsHandingOf None osol.now instance.now) }
 {
     match read_handed(alloc, osol)? {
         Handed::Nothing => Ok(Handing::Passed(None)),
         Handed::Once(text) => judge_text(alloc, instance, text.as_slice()),
         Handed::Twice => Ok(Handing::Passed(Some(message(alloc, b"refused Twice")?))),
+    }
+}
+
+/// What becomes of what is handed in, for a job with this instance: of the text beside the options, where there is one, in place of
+/// what they hand in.
+pub fn judge_handed(
+    alloc: Global,
+    instance: &Instance,
+    osol: &[u8],
+    beside: Option<&[u8]>,
+) -> Result<Handing, Memory>
+    ensures { IfOk result (IsHandingOf (beside_text beside.entry) osol.now instance.now) }
+{
+    match beside {
+        Some(osrl) => judge_text(alloc, instance, osrl),
+        None => judge_options(alloc, instance, osol),
     }
 }

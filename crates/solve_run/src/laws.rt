@@ -24,7 +24,7 @@ ghost use Rattle.solve_run.specs.Closings.{IsFormed, IsShort, claim_report, note
 ghost use Rattle.rational.specs.Ratio.{Ratio};
 ghost use Rattle.search_rules.specs.Beginnings.{IsFirstBest, SearchFrom};
 ghost use Rattle.solve_run.specs.Firsts.{IsFirstOf, IsNoteFrom};
-ghost use Rattle.solve_run.specs.JobAnswers.{RefusesOptions, RefusesInstance, TakesHanded, Solved, GaveUp, AnswersJob, TellsReport, Right};
+ghost use Rattle.solve_run.specs.JobAnswers.{RefusesOptions, RefusesInstance, TakesBeside, SolvedBeside, GaveUpBeside, AnswersBeside, TellsReport, Right};
 ghost use Rattle.solve_run.specs.Grounds.{OptionsAreOne, SearchesAreOne, HandedAreOne};
 ghost use Rattle.fraction.specs.declared.frac.Frac.{Frac};
 ghost use Rattle.solve_run.specs.Untils.{job_terms};
@@ -85,11 +85,11 @@ fn handed_are_one()
 /// by their texts, but for want of memory.
 pub fn answers_exclude_each_other()
     ensures options_instance { (osil osol : List ℕ) (r s : Report) → RefusesOptions osol r → RefusesInstance osil osol s → ⊥ }
-    ensures options_search { (osil osol : List ℕ) (stop : Option ℕ) (timed : Option Frac) (looks : ℕ) (r s : Report) → RefusesOptions osol r → Solved osil osol stop timed looks s → ⊥ }
-    ensures instance_search { (osil osol : List ℕ) (stop : Option ℕ) (timed : Option Frac) (looks : ℕ) (r s : Report) → RefusesInstance osil osol r → Solved osil osol stop timed looks s → ⊥ }
-    ensures options_handed { (osil osol : List ℕ) (r s : Report) → RefusesOptions osol r → TakesHanded osil osol s → ⊥ }
-    ensures instance_handed { (osil osol : List ℕ) (r s : Report) → RefusesInstance osil osol r → TakesHanded osil osol s → ⊥ }
-    ensures handed_search { (osil osol : List ℕ) (stop : Option ℕ) (timed : Option Frac) (looks : ℕ) (r s : Report) → TakesHanded osil osol r → Solved osil osol stop timed looks s → ⊥ }
+    ensures options_search { (beside : Option (List ℕ)) (osil osol : List ℕ) (stop : Option ℕ) (timed : Option Frac) (looks : ℕ) (r s : Report) → RefusesOptions osol r → SolvedBeside beside osil osol stop timed looks s → ⊥ }
+    ensures instance_search { (beside : Option (List ℕ)) (osil osol : List ℕ) (stop : Option ℕ) (timed : Option Frac) (looks : ℕ) (r s : Report) → RefusesInstance osil osol r → SolvedBeside beside osil osol stop timed looks s → ⊥ }
+    ensures options_handed { (beside : Option (List ℕ)) (osil osol : List ℕ) (r s : Report) → RefusesOptions osol r → TakesBeside beside osil osol s → ⊥ }
+    ensures instance_handed { (beside : Option (List ℕ)) (osil osol : List ℕ) (r s : Report) → RefusesInstance osil osol r → TakesBeside beside osil osol s → ⊥ }
+    ensures handed_search { (beside : Option (List ℕ)) (osil osol : List ℕ) (stop : Option ℕ) (timed : Option Frac) (looks : ℕ) (r s : Report) → TakesBeside beside osil osol r → SolvedBeside beside osil osol stop timed looks s → ⊥ }
 {
     options_are_one();
     instances_are_one();
@@ -102,8 +102,8 @@ pub fn answers_exclude_each_other()
 pub fn answers_are_one()
     ensures options { (osol : List ℕ) (r s : Report) → RefusesOptions osol r → RefusesOptions osol s → r ≡ s }
     ensures instance { (osil osol : List ℕ) (r s : Report) → RefusesInstance osil osol r → RefusesInstance osil osol s → r ≡ s }
-    ensures search { (osil osol : List ℕ) (stop : Option ℕ) (timed : Option Frac) (looks more : ℕ) (r s : Report) → Solved osil osol stop timed looks r → Solved osil osol stop timed more s → (r ≡ s) × (looks ≡ more) }
-    ensures handed { (osil osol : List ℕ) (r s : Report) → TakesHanded osil osol r → TakesHanded osil osol s → r ≡ s }
+    ensures search { (beside : Option (List ℕ)) (osil osol : List ℕ) (stop : Option ℕ) (timed : Option Frac) (looks more : ℕ) (r s : Report) → SolvedBeside beside osil osol stop timed looks r → SolvedBeside beside osil osol stop timed more s → (r ≡ s) × (looks ≡ more) }
+    ensures handed { (beside : Option (List ℕ)) (osil osol : List ℕ) (r s : Report) → TakesBeside beside osil osol r → TakesBeside beside osil osol s → r ≡ s }
 {
     options_are_one();
     instances_are_one();
@@ -126,7 +126,7 @@ pub fn found_claims_are_refused_for_width_alone()
 /// or such a result is taken, or memory is wanting, or a time that its options say was over at a look. Such is each claim that a point is optimal, that none is feasible or that points
 /// have no best value, and that the checker accepts.
 pub fn ended_searches_are_told()
-    ensures { (osil osol : List ℕ) (o : kinds.Options) (p : Parts) (start : Option Found) (oc : Outcome) (found formed : Claim) (c : Clock) (r : Report) → IsOptionsText osol o → IsInstanceText osil p → IsFirstOf (problem p) o start → SearchFrom (problem p) (job_terms o None) start oc c → ClaimTells found oc → ((q : Refused) (n : ℕ) → IsRefusedFor (problem p) (Means.claim found) q → IsWideAt q n → ⊥) → IsFormed p o.job o.form found formed → IsShort o.job formed → AnswersJob osil osol false r → ((note : Option (List ℕ)) × IsNoteFrom osol o p start note × (r ≡ noted note (claim_report o.job formed))) ⊎ TakesHanded osil osol r ⊎ GaveUp osil osol r ⊎ ((s : Frac) × (looks : ℕ) × (o.seconds ≡ Some s) × Solved osil osol (Some looks) (Some s) looks r) }
+    ensures { (beside : Option (List ℕ)) (osil osol : List ℕ) (o : kinds.Options) (p : Parts) (start : Option Found) (oc : Outcome) (found formed : Claim) (c : Clock) (r : Report) → IsOptionsText osol o → IsInstanceText osil p → IsFirstOf (problem p) o start → SearchFrom (problem p) (job_terms o None) start oc c → ClaimTells found oc → ((q : Refused) (n : ℕ) → IsRefusedFor (problem p) (Means.claim found) q → IsWideAt q n → ⊥) → IsFormed p o.job o.form found formed → IsShort o.job formed → AnswersBeside beside osil osol false r → ((note : Option (List ℕ)) × IsNoteFrom beside osol o p start note × (r ≡ noted note (claim_report o.job formed))) ⊎ TakesBeside beside osil osol r ⊎ GaveUpBeside beside osil osol r ⊎ ((s : Frac) × (looks : ℕ) × (o.seconds ≡ Some s) × SolvedBeside beside osil osol (Some looks) (Some s) looks r) }
 {
     options_are_one();
     instances_are_one();
@@ -137,9 +137,9 @@ pub fn ended_searches_are_told()
 /// Law: whatever an answer says, be it a claim, that nothing is known, or why the options or the instance were refused, its document
 /// is read as that answer, and isn't longer than a document may be, with names too where they are asked for.
 pub fn result_documents_are_read_back()
-    ensures read { (osil osol : List ℕ) (asked : Bool) (r : Report) → AnswersJob osil osol asked r → IsReportText (report_text r) r }
-    ensures short { (osil osol : List ℕ) (asked : Bool) (r : Report) → AnswersJob osil osol asked r → length (report_text r) ≤ document_limit }
-    ensures told { (osil osol : List ℕ) (asked : Bool) (r : Report) (text : List ℕ) → AnswersJob osil osol asked r → TellsReport osil osol r text → IsReportText text r }
+    ensures read { (beside : Option (List ℕ)) (osil osol : List ℕ) (asked : Bool) (r : Report) → AnswersBeside beside osil osol asked r → IsReportText (report_text r) r }
+    ensures short { (beside : Option (List ℕ)) (osil osol : List ℕ) (asked : Bool) (r : Report) → AnswersBeside beside osil osol asked r → length (report_text r) ≤ document_limit }
+    ensures told { (beside : Option (List ℕ)) (osil osol : List ℕ) (asked : Bool) (r : Report) (text : List ℕ) → AnswersBeside beside osil osol asked r → TellsReport osil osol r text → IsReportText text r }
 {
     names_are_of_characters();
     named_texts_are_reports();
@@ -153,9 +153,9 @@ pub fn result_documents_are_read_back()
 /// Law: what an answer claims, be it that a point is optimal, that none is feasible, that points have no best value, or a
 /// point, is accepted by the checker of documents from the bytes of the answer's document, with names or without, and is true.
 pub fn claims_are_accepted()
-    ensures accepted { (osil osol : List ℕ) (asked : Bool) (r : Report) (c : Claim) (k : Kind) → AnswersJob osil osol asked r → r.claim ≡ Some c → kind c ≡ Some k → IsAcceptedText osil (report_text r) k }
-    ensures told { (osil osol : List ℕ) (asked : Bool) (r : Report) (text : List ℕ) (c : Claim) (k : Kind) → AnswersJob osil osol asked r → TellsReport osil osol r text → r.claim ≡ Some c → kind c ≡ Some k → IsAcceptedText osil text k }
-    ensures is_true { (osil osol : List ℕ) (asked : Bool) (p : Parts) (r : Report) (c : Claim) (k : Kind) → IsInstanceText osil p → AnswersJob osil osol asked r → r.claim ≡ Some c → kind c ≡ Some k → IsTrueOf (problem p) (Means.claim c) }
+    ensures accepted { (beside : Option (List ℕ)) (osil osol : List ℕ) (asked : Bool) (r : Report) (c : Claim) (k : Kind) → AnswersBeside beside osil osol asked r → r.claim ≡ Some c → kind c ≡ Some k → IsAcceptedText osil (report_text r) k }
+    ensures told { (beside : Option (List ℕ)) (osil osol : List ℕ) (asked : Bool) (r : Report) (text : List ℕ) (c : Claim) (k : Kind) → AnswersBeside beside osil osol asked r → TellsReport osil osol r text → r.claim ≡ Some c → kind c ≡ Some k → IsAcceptedText osil text k }
+    ensures is_true { (beside : Option (List ℕ)) (osil osol : List ℕ) (asked : Bool) (p : Parts) (r : Report) (c : Claim) (k : Kind) → IsInstanceText osil p → AnswersBeside beside osil osol asked r → r.claim ≡ Some c → kind c ≡ Some k → IsTrueOf (problem p) (Means.claim c) }
 {
     result_documents_are_read_back();
     options_have_names();

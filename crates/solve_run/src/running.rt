@@ -1,5 +1,5 @@
 //! Runs jobs.
-ghost use Rattle.std.specs.Prelude.{◌≡◌, ℕ, ◌-◌, ◌^◌, ◌<◌, Bool, false, List, Some, IfOk};
+ghost use Rattle.std.specs.Prelude.{◌≡◌, ℕ, ◌-◌, ◌^◌, ◌<◌, Bool, false, Option, List, Some, IfOk};
 ghost use Rattle.instance.specs.Parts.{IsValid};
 ghost use Rattle.osol_grammar.specs.Meaning.{IsOptionsText};
 ghost use Rattle.osil_grammar.specs.Reading.{IsInstanceText};
@@ -9,7 +9,7 @@ ghost use Rattle.branch_bound.specs.Walks.{best as best_of};
 ghost use Rattle.solve_run.specs.Firsts.{IsFirstOf, IsNoteFrom};
 ghost use Rattle.solve_run.specs.Handing.{HandsInNone};
 ghost use Rattle.solve_run.specs.JobAnswers.{Right};
-ghost use Rattle.solve_run.specs.Runs.{Ran, IsRight, AreDueNames, TellsDocument, TellsText};
+ghost use Rattle.solve_run.specs.Runs.{Ran, RightBeside, AreDueNames, TellsDocument, TellsText, beside_text};
 
 use crate::document::Document;
 use crate::finding::{find_until, first_of};
@@ -52,7 +52,7 @@ fn run_from<W: Watch, T: Clock>(
     requires rounds { AreFewRounds options.rounds }
     requires stops { W.stops watch.old < 2 ^ 64 - 1 }
     requires first { IsFirstOf (problem instance.now) options (best_of first) }
-    ensures { (osil osol : List ℕ) → IsOptionsText osol options → IsInstanceText osil instance.now → AreDueNames osil options names.now → IsNoteFrom osol options instance.now (best_of first) note → Ran (W.came watch.old watch.new) osil osol (TellsDocument osil osol result) }
+    ensures { (beside : Option (List ℕ)) (osil osol : List ℕ) → IsOptionsText osol options → IsInstanceText osil instance.now → AreDueNames osil options names.now → IsNoteFrom beside osol options instance.now (best_of first) note → Ran (W.came watch.old watch.new) osil osol (TellsDocument beside osil osol result) }
 {
     let Searched { claim, turns } = find_until(alloc, instance, &options, first, clock, watch);
     options_have_names();
@@ -85,7 +85,7 @@ fn run_instance<W: Watch, T: Clock>(
     requires valid { IsValid instance.now }
     requires rounds { AreFewRounds options.rounds }
     requires stops { W.stops watch.old < 2 ^ 64 - 1 }
-    ensures { (osil osol : List ℕ) → IsOptionsText osol options → IsInstanceText osil instance.now → AreDueNames osil options names.now → HandsInNone osol instance.now handed → Ran (W.came watch.old watch.new) osil osol (TellsDocument osil osol result) }
+    ensures { (beside : Option (List ℕ)) (osil osol : List ℕ) → IsOptionsText osol options → IsInstanceText osil instance.now → AreDueNames osil options names.now → HandsInNone beside osol instance.now handed → Ran (W.came watch.old watch.new) osil osol (TellsDocument beside osil osol result) }
 {
     let Ok(first) = first_of(alloc, instance, &options) else {
         return memory_document(alloc, options.job);
@@ -101,6 +101,7 @@ fn run_instance<W: Watch, T: Clock>(
 fn run_named<W: Watch, T: Clock>(
     alloc: Global,
     osol: &[u8],
+    beside: Option<&[u8]>,
     instance: &Instance,
     names: &NameLists,
     options: Options,
@@ -110,9 +111,9 @@ fn run_named<W: Watch, T: Clock>(
     requires valid { IsValid instance.now }
     requires rounds { AreFewRounds options.rounds }
     requires stops { W.stops watch.old < 2 ^ 64 - 1 }
-    ensures { (osil : List ℕ) → IsOptionsText osol.now options → IsInstanceText osil instance.now → AreDueNames osil options names.now → Ran (W.came watch.old watch.new) osil osol.now (TellsDocument osil osol.now result) }
+    ensures { (osil : List ℕ) → IsOptionsText osol.now options → IsInstanceText osil instance.now → AreDueNames osil options names.now → Ran (W.came watch.old watch.new) osil osol.now (TellsDocument (beside_text beside.entry) osil osol.now result) }
 {
-    match judge_handed(alloc, instance, osol) {
+    match judge_handed(alloc, instance, osol, beside) {
         Ok(Handing::Taken(claim)) => fitted(alloc, names, None, options.job, claim),
         Ok(Handing::Passed(note)) => run_instance(
             alloc, instance, names, note, options, clock, watch,
@@ -126,6 +127,7 @@ fn run_read<W: Watch, T: Clock>(
     alloc: Global,
     osil: &[u8],
     osol: &[u8],
+    beside: Option<&[u8]>,
     instance: &Instance,
     options: Options,
     clock: &T,
@@ -134,10 +136,10 @@ fn run_read<W: Watch, T: Clock>(
     requires valid { IsValid instance.now }
     requires rounds { AreFewRounds options.rounds }
     requires stops { W.stops watch.old < 2 ^ 64 - 1 }
-    ensures { IsOptionsText osol.now options → IsInstanceText osil.now instance.now → Ran (W.came watch.old watch.new) osil.now osol.now (TellsDocument osil.now osol.now result) }
+    ensures { IsOptionsText osol.now options → IsInstanceText osil.now instance.now → Ran (W.came watch.old watch.new) osil.now osol.now (TellsDocument (beside_text beside.entry) osil.now osol.now result) }
 {
     match due_names(alloc, osil, &options) {
-        Ok(names) => run_named(alloc, osol, instance, &names, options, clock, watch),
+        Ok(names) => run_named(alloc, osol, beside, instance, &names, options, clock, watch),
         Err(_) => memory_document(alloc, options.job),
     }
 }
@@ -147,16 +149,17 @@ fn run_options<W: Watch, T: Clock>(
     alloc: Global,
     osil: &[u8],
     osol: &[u8],
+    beside: Option<&[u8]>,
     options: Options,
     clock: &T,
     watch: &mut W,
 ) -> Result<Document, Memory>
     requires rounds { AreFewRounds options.rounds }
     requires stops { W.stops watch.old < 2 ^ 64 - 1 }
-    ensures { IsOptionsText osol.now options → Ran (W.came watch.old watch.new) osil.now osol.now (TellsDocument osil.now osol.now result) }
+    ensures { IsOptionsText osol.now options → Ran (W.came watch.old watch.new) osil.now osol.now (TellsDocument (beside_text beside.entry) osil.now osol.now result) }
 {
     match osil_grammar::decode(alloc, osil) {
-        Ok(instance) => run_read(alloc, osil, osol, &instance, options, clock, watch),
+        Ok(instance) => run_read(alloc, osil, osol, beside, &instance, options, clock, watch),
         Err(OsilFault::Memory) => memory_document(alloc, options.job),
         Err(fault) => {
             let message = osil_grammar::refusal_text(alloc, &fault);
@@ -170,15 +173,16 @@ fn run_texts<W: Watch, T: Clock>(
     alloc: Global,
     osil: &[u8],
     osol: &[u8],
+    beside: Option<&[u8]>,
     clock: &T,
     watch: &mut W,
 ) -> Result<Document, Memory>
     requires { W.stops watch.old < 2 ^ 64 - 1 }
-    ensures { Ran (W.came watch.old watch.new) osil.now osol.now (TellsDocument osil.now osol.now result) }
+    ensures { Ran (W.came watch.old watch.new) osil.now osol.now (TellsDocument (beside_text beside.entry) osil.now osol.now result) }
 {
     read_options_come_back();
     match osol_grammar::decode(alloc, osol) {
-        Ok(options) => run_options(alloc, osil, osol, options, clock, watch),
+        Ok(options) => run_options(alloc, osil, osol, beside, options, clock, watch),
         Err(OsolFault::Memory) => memory_document(alloc, None),
         Err(fault) => {
             let message = osol_grammar::refusal_text(alloc, fault);
@@ -194,19 +198,20 @@ fn run_texts<W: Watch, T: Clock>(
 /// Where memory is wanting, the document says so, and may have the best point of some moment of the search; where there is
 /// none for such a document either, there is no document. Where the options ask for names, the instance's document is read
 /// for them before the search. Where they hand in a result whose claim the checker accepts of the instance, that claim is told, and
-/// nothing is searched.
+/// nothing is searched. A text beside them is handed in in place of what they hand in.
 pub fn answer_job<W: Watch, T: Clock>(
     alloc: Global,
     osil: &[u8],
     osol: &[u8],
+    beside: Option<&[u8]>,
     clock: &T,
     watch: &mut W,
 ) -> Result<Document, Memory>
     requires { W.stops watch.old < 2 ^ 64 - 1 }
-    ensures ran { Ran (W.came watch.old watch.new) osil.now osol.now (TellsDocument osil.now osol.now result) }
-    ensures right { (asked : Bool) → (asked ≡ false → W.stops watch.new ≡ W.stops watch.old) → IfOk result (IsRight osil.now osol.now asked) }
+    ensures ran { Ran (W.came watch.old watch.new) osil.now osol.now (TellsDocument (beside_text beside.entry) osil.now osol.now result) }
+    ensures right { (asked : Bool) → (asked ≡ false → W.stops watch.new ≡ W.stops watch.old) → IfOk result (RightBeside (beside_text beside.entry) osil.now osol.now asked) }
 {
-    run_texts(alloc, osil, osol, clock, watch)
+    run_texts(alloc, osil, osol, beside, clock, watch)
 }
 
 /// Runs a job, as [`answer_job`] does: the text of its result document.
@@ -221,7 +226,7 @@ pub fn run_job<W: Watch, T: Clock>(
     ensures ran { Ran (W.came watch.old watch.new) osil.now osol.now (λ n killed. IfOk result (TellsText osil.now osol.now n killed)) }
     ensures right { (asked : Bool) → (asked ≡ false → W.stops watch.new ≡ W.stops watch.old) → IfOk result (λ doc. Right osil.now osol.now asked (Some doc)) }
 {
-    match answer_job(alloc, osil, osol, clock, watch) {
+    match answer_job(alloc, osil, osol, None, clock, watch) {
         Ok(document) => Ok(document.text),
         Err(memory) => Err(memory),
     }

@@ -9,12 +9,14 @@ use std::alloc::Global;
 pub(crate) const ROOM: usize = 9_000;
 
 /// The files that a run finds.
-const NAMES: [&str; 6] = [
+const NAMES: [&str; 8] = [
     "halves.osil",
     "two.osrl",
     "three.osrl",
     "silent.osrl",
     "wide.osrl",
+    "handed.osol",
+    "handed_twice.osol",
     "empty",
 ];
 

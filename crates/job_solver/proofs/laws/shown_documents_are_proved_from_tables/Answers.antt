@@ -1,5 +1,6 @@
+use Rattle.std.specs.Prelude.{None}
 use Rattle.job_solver.proofs.ProvedDocuments.{shown_from}
 use Rattle.job_solver.proofs.laws.shown_documents_are_proved_from_tables.Goals as goal
 
 pub returns : goal.returns
-returns c = shown_from c.documents_are_right.ensures c.claims_are_accepted.ensures.told c.claims_are_accepted.ensures.is_true
+returns c = shown_from c.documents_are_right.ensures (c.claims_are_accepted.ensures.told None) (c.claims_are_accepted.ensures.is_true None)

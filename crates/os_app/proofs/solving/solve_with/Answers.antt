@@ -10,5 +10,5 @@ returns-in-None g c =
     let a = c.args in
     let none : HasNoSafeText a.osil.now a.osol.now = subst (IsSafeOrNone a.osil.now a.osol.now) c.in-None.is c.in_ok-text.ensures in
     let asked : a.safe ≡ true = c.if-not-safe.false in
-    subst (λ (b : Bool). IfOk c.solve-in-None.result (IsRightWith b a.osil.now a.osol.now)) (sym asked)
+    subst (λ (b : Bool). IfOk c.solve-in-None.result (IsRightWith a.beside.now b a.osil.now a.osol.now)) (sym asked)
     (IfOk-weaker c.solve-in-None.result _ _ (λ doc right. (a.osol.now, inr (none, refl), right)) c.solve-in-None.ensures)

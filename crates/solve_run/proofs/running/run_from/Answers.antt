@@ -10,8 +10,8 @@ pub found_document-requires-clause-few : goal.found_document-requires-clause-few
 found_document-requires-clause-few g c = few_by _ _ _ c.requires.first _ _ _ c.find_until-claim.ensures c.requires.rounds
 
 pub returns : goal.returns
-returns g c = λ osil osol options_text instance_text due noting.
-    ran _ _ _ c.requires.first _ _ _ c.find_until-claim.ensures osil osol c.args.names.now c.args.note c.found_document.result c.requires.valid (c.options_have_names.ensures osol c.args.options options_text) options_text instance_text due noting
+returns g c = λ beside osil osol options_text instance_text due noting.
+    ran _ _ _ c.requires.first _ _ _ c.find_until-claim.ensures beside osil osol c.args.names.now c.args.note c.found_document.result c.requires.valid (c.options_have_names.ensures osol c.args.options options_text) options_text instance_text due noting
     (shown_by _ _ _ c.requires.first _ _ _ c.find_until-claim.ensures c.searches_from_points_are_shown.ensures.shown c.problems_have_numbers.ensures.numbers) c.found_document.ensures
 
 pub find_until-claim-requires-clause-values : goal.find_until-claim-requires-clause-values

@@ -1,5 +1,6 @@
 use Rattle.std.proofs.Common.{None, inl, refl}
 use Rattle.solve_run.proofs.RoundLimits.{few_rounds}
+use Rattle.solve_run.specs.Runs.{beside_text}
 use Rattle.solve_run.proofs.Runs.{quiet_memory, quiet_options}
 use Rattle.solve_run.proofs.running.run_texts.Goals as goal
 
@@ -11,10 +12,10 @@ returns-in-Ok g c = c.run_options.ensures c.in-Ok.ensures.ok
 
 pub returns-in-Err-Memory : goal.returns-in-Err-Memory
 returns-in-Err-Memory g c =
-    quiet_memory (g.W.Watch.came c.args.watch.now c.args.watch.now) c.args.osil.now c.args.osol.now None c.memory_document.result
+    quiet_memory (g.W.Watch.came c.args.watch.now c.args.watch.now) (beside_text c.args.beside) c.args.osil.now c.args.osol.now None c.memory_document.result
     (g.met.W.Watch.stays c.args.watch.now) (inl refl) c.memory_document.ensures
 
 pub returns-in-Err : goal.returns-in-Err
 returns-in-Err g c =
-    quiet_options (g.W.Watch.came c.args.watch.now c.args.watch.now) c.args.osil.now c.args.osol.now c.in-Err.fault c.refusal_text-message.result c.refusal.result
+    quiet_options (g.W.Watch.came c.args.watch.now c.args.watch.now) (beside_text c.args.beside) c.args.osil.now c.args.osol.now c.in-Err.fault c.refusal_text-message.result c.refusal.result
     (g.met.W.Watch.stays c.args.watch.now) c.in-Err.ensures.err c.refusal_text-message.ensures c.refusal.ensures
