@@ -116,7 +116,7 @@ one_size n f s t (inr (h, p)) (inr (i, q)) = p ∙ sym q
 module _ (v : View Note) where
   leaves_legal : (x : Bool) (b : ℕ) (wanted : Way) → LeavesIf v x b wanted → (b < goal_column v.program) × IsOut v.program v.statuses v.entries v.values b wanted
   leaves_legal true b wanted p = (p.inside, p.out)
-  leaves_legal false b wanted (o, f, k, p) = (p.inside, o)
+  leaves_legal false b wanted (o, (f, k, p)) = (p.inside, o)
 
   abbrev scored : ℕ → Ratio → Ratio
   scored c s = score (out_by (column_at v.program c) (v.values c)) s
@@ -138,7 +138,7 @@ module _ (v : View Note) where
 
   leaves_once : (x : Bool) (b c : ℕ) (y z : Way) → LeavesIf v x b y → LeavesIf v x c z → b ≡ c
   leaves_once true b c y z p q = one_out v.program v.statuses v.entries v.values b c y z p q
-  leaves_once false b c y z (o, f, k, p) (r, g, l, q) = unbeaten_once _ _ _ b c (greater_ordered (leaving_score v g)) (resized f g k l b p) q
+  leaves_once false b c y z (o, (f, k, p)) (r, (g, l, q)) = unbeaten_once _ _ _ b c (greater_ordered (leaving_score v g)) (resized f g k l b p) q
 
   enters_inside : (x : Bool) (b : ℕ) (wanted : Way) (n : ℕ) → EntersIf v x b wanted n → n < goal_column v.program
   enters_inside true b wanted n p = p.inside
