@@ -52,9 +52,9 @@ module _ (P : Problem) (t : Terms) where
     best_back : (h : Given) (b : Ratio) (x : List Ratio) (ms : List Multiplier) (a : NextOfSearch) (ray : Option (List Ratio)) → ((ss : List Status) → h ≡ Some ss → EndsAtBasis C.program (is_some ray) t before (Best b x ms) m.clock ss) → BestBy bland_search P t ray h C rest m b x ms a → GoesFromBest P t ray C rest m before b x ms a
     best_back h b x ms a None at (inl p) = inl p
     best_back h b x ms a None at (inr (hope, inl (s, none, q, e))) = absurd none
-    best_back h b x ms a None at (inr (hope, inr (no, inl p))) = inr (hope, inl p)
-    best_back h b x ms a None at (inr (hope, inr (no, inr (inl p)))) = inr (hope, inr (inl p))
-    best_back h b x ms a None at (inr (hope, inr (no, inr (inr (ss, trial, may, other, e, tries, p))))) = inr (hope, inr (inr (ss, trial, may, other, at ss e, tries, tried_back h C rest m x trial a p)))
+    best_back h b x ms a None at (inr (hope, inr (off, inl p))) = inr (hope, inl p)
+    best_back h b x ms a None at (inr (hope, inr (off, inr (inl p)))) = inr (hope, inr (inl p))
+    best_back h b x ms a None at (inr (hope, inr (off, inr (inr (ss, trial, may, other, e, tries, p))))) = inr (hope, inr (inr (ss, trial, may, other, at ss e, tries, tried_back h C rest m x trial a p)))
     best_back h b x ms a (Some r) at p = p
 
     goes_back : (h : Given) (e : End) (a : NextOfSearch) → ((ss : List Status) → h ≡ Some ss → ((k : ℕ) → e ≡ Clash k → ⊥) → EndsAtBasis C.program (is_some C.ray) t before e m.clock ss) → GoesBy bland_search P t h C rest m (Ends e) a → GoesFrom P t C rest m before e a

@@ -41,7 +41,7 @@ module _ (S : SearchRules) (Splits : BranchView → ℕ → ℤ → Type 0) (Div
 
     rounds : (b : Ratio) (x : List Ratio) (ms : List Multiplier) (n : NextOfSearch) → RoundsBy S P t g C rest m b x ms n → RoundsBy others P t g C rest m b x ms n
     rounds b x ms n (inl p) = inl p
-    rounds b x ms n (inr (no, p)) = inr (no, hopes b x ms n p)
+    rounds b x ms n (inr (off, p)) = inr (off, hopes b x ms n p)
 
     bests : (ray : Option (List Ratio)) (b : Ratio) (x : List Ratio) (ms : List Multiplier) (n : NextOfSearch) → BestBy S P t ray g C rest m b x ms n → BestBy others P t ray g C rest m b x ms n
     bests None b x ms n (inl p) = inl p

@@ -25,7 +25,7 @@ pub told_in_order : (T : Tree) (ms : List Met) → IsMet T ms → in_order ms �
 told_in_order T ms p = ap (λ ns. first_part (parts_of ns)) (sym (append-nil ms)) ∙ ap first_part (parts_met T ms p [])
 
 -- a tree for each of these programs, one after the other as a search meets their nodes, and nothing after them
-pub MetAll : List Instance → List Met → Option Ratio → Type 0
+abbrev pub MetAll : List Instance → List Met → Option Ratio → Type 0
 MetAll [] ms z = ms ≡ []
 MetAll (I ∷ Is) ms z = (T : Tree) × (xs : List Met) × (rest : List Met) × IsMet T xs × (ms ≡ xs ++ rest) × Shows I T z × MetAll Is rest z
 

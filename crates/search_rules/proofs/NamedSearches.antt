@@ -1,6 +1,7 @@
 -- The searches that have a name are legal, and none of their choices has two answers.
 use Rattle.search_rules.specs.FastSearch.{search_rules_of}
-use Rattle.simplex_rules.specs.NamedRules.{RuleName, Bland, Fast}
+use Rattle.simplex_rules.specs.declared.names.RuleName.{RuleName}
+use Rattle.simplex_rules.specs.declared.names.RuleName.TheVariants.{Bland, Fast}
 use Rattle.search_rules.proofs.FastSearches.{legal_fast, single_fast}
 use Rattle.search_rules.specs.RuleSearch.{bland_search, AreLegalSearches, AreSingleSearches}
 use Rattle.std.proofs.Common.{subst}

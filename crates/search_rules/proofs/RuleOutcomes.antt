@@ -66,9 +66,9 @@ module _ (S : SearchRules) (legal : AreLegalSearches S) (single : AreSingleSearc
 
       rounds_once : (c : Ratio) (x : List Ratio) (ms : List Multiplier) (a b : NextOfSearch) → RoundsBy S P t g C rest m c x ms a → RoundsBy S P t g C rest m c x ms b → a ≡ b
       rounds_once c x ms a b (inl (s, p, r, e)) (inl (u, q, o, f)) = e ∙ ap (λ s. To (closed_by_leaf m rest (GridBy s ms))) (single.steps C.program s u p q) ∙ sym f
-      rounds_once c x ms a b (inl (s, p, r, e)) (inr (no, q)) = absurd (no s p r)
-      rounds_once c x ms a b (inr (no, q)) (inl (s, p, r, e)) = absurd (no s p r)
-      rounds_once c x ms a b (inr (no, p)) (inr (nor, q)) = hopes_once c x ms a b p q
+      rounds_once c x ms a b (inl (s, p, r, e)) (inr (off, q)) = absurd (off s p r)
+      rounds_once c x ms a b (inr (off, q)) (inl (s, p, r, e)) = absurd (off s p r)
+      rounds_once c x ms a b (inr (off, p)) (inr (nor, q)) = hopes_once c x ms a b p q
 
       best_once : (before : Clock) (ray : Option (List Ratio)) (c : Ratio) (x : List Ratio) (ms : List Multiplier) (a b : NextOfSearch) → BestBy S P t ray g C rest m c x ms a → BestBy S P t ray g C rest m c x ms b → a ≡ b
       best_once before None c x ms a b (inl (p, e)) (inl (q, f)) = e ∙ sym f

@@ -60,7 +60,7 @@ module _ (S : SearchRules) (legal : AreLegalSearches S) (P : Problem) (t : Terms
     rounds_hold b x ms n best hope (inl (s, steps, p, e)) =
         let q : closed_by_leaf m rest (GridBy s ms) ≡ n = cc in
         subst (Holds P) q (rounded_holds P C rest m h opened (others P C rest m is h) (so_far P C rest m is h) p.found s ms p.is p.grid)
-    rounds_hold b x ms n best hope (inr (no, p)) = hopes_hold b x ms n best hope p
+    rounds_hold b x ms n best hope (inr (off, p)) = hopes_hold b x ms n best hope p
 
     best_holds : (b : Ratio) (x : List Ratio) (ms : List Multiplier) (n : SearchMoment) → (is_some C.ray ≡ false → IsBest C.program b x ms) → (ray : Option (List Ratio)) → C.ray ≡ ray → BestBy S P t ray g C rest m b x ms (To n) → Holds P n
     best_holds b x ms n is_best None e (inl (p, f)) =
@@ -109,9 +109,9 @@ module _ (S : SearchRules) (legal : AreLegalSearches S) (P : Problem) (t : Terms
     best_shown : (b : Ratio) (x : List Ratio) (ms : List Multiplier) (o : Outcome) (d : Clock) → IsRelaxed C.program x → (ray : Option (List Ratio)) → BestBy S P t ray g C rest m b x ms (Out o d) → IsShown P o
     best_shown b x ms o d relaxed None (inl (p, e)) = absurd (cc)
     best_shown b x ms o d relaxed None (inr (hope, inl (s, steps, p, e))) = absurd (cc)
-    best_shown b x ms o d relaxed None (inr (hope, inr (no, inl p))) = takes_shown P m h t C rest opened x ms o d relaxed p
-    best_shown b x ms o d relaxed None (inr (hope, inr (no, inr (inl (never, p))))) = branches_go_on x o d p
-    best_shown b x ms o d relaxed None (inr (hope, inr (no, inr (inr (ss, trial, may, other, e, tries, p))))) = tried_shown x trial o d p
+    best_shown b x ms o d relaxed None (inr (hope, inr (off, inl p))) = takes_shown P m h t C rest opened x ms o d relaxed p
+    best_shown b x ms o d relaxed None (inr (hope, inr (off, inr (inl (never, p))))) = branches_go_on x o d p
+    best_shown b x ms o d relaxed None (inr (hope, inr (off, inr (inr (ss, trial, may, other, e, tries, p))))) = tried_shown x trial o d p
     best_shown b x ms o d relaxed (Some r) p = meets_shown C opened x ms o d relaxed p
 
     goes_shown : (f : Finish) (o : Outcome) (d : Clock) → ShownBy (is_some C.ray) C.program f → GoesBy S P t g C rest m f (Out o d) → IsShown P o

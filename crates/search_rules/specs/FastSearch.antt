@@ -13,7 +13,8 @@ use Rattle.bases.specs.Program.{goal_column}
 use Rattle.simplex_rules.specs.declared.columns.Status.{Status}
 use Rattle.simplex_rules.specs.declared.columns.Status.TheVariants.{Basic, Lower, Upper, Zero}
 use Rattle.simplex_rules.specs.Statuses.{status_at, basic_in, has_width, HasDictionary}
-use Rattle.simplex_rules.specs.NamedRules.{RuleName, Bland, Fast}
+use Rattle.simplex_rules.specs.declared.names.RuleName.{RuleName}
+use Rattle.simplex_rules.specs.declared.names.RuleName.TheVariants.{Bland, Fast}
 use Rattle.scores.specs.Leading.{leading, score}
 use Rattle.scores.specs.Sizes.{size}
 use Rattle.simplex_rules.specs.Fast.{is_none, Greater, IsUnbeaten, fast}
