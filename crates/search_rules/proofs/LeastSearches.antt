@@ -14,7 +14,7 @@ use Rattle.search_rules.specs.Branching.{Case}
 use Rattle.search_rules.specs.Cuts.{Trial, NoCut, WideCut, Cut}
 use Rattle.search_rules.specs.Search as Plain
 use Rattle.search_rules.specs.Search.{SearchMoment, NextOfSearch, Outcome, To, Out, GoesFromTrial, GoesFromBest, GoesFrom, IsVisit, IsNextInSearch, ComesInSearch, Search, IsCaseRun, IsSearchAnswer}
-use Rattle.search_rules.specs.RuleSearch.{MomentBy, NextBy, On, Off, kept_for, with_basis, best_value, bland_search, TriedBy, BestBy, GoesBy, IsVisitBy, IsNextBy, ComesBy, begins, goes_on, SearchBy, IsRunOfCase, IsAnswerBy, searched, given_up, given_up_after}
+use Rattle.search_rules.specs.RuleSearch.{MomentBy, NextBy, On, Off, kept_for, with_basis, best_value, bland_search, TriedBy, BestBy, GoesBy, IsVisitBy, IsNextBy, ComesBy, begins, goes_on, SearchBy, IsAnswerBy, searched, given_up, given_up_after}
 
 module _ (P : Problem) (t : Terms) where
   tried_on : (g : Given) (C : Case) (rest : List Case) (m : SearchMoment) (x : List Ratio) (trial : Trial) (a : NextOfSearch) → GoesFromTrial P t C rest m x trial a → TriedBy bland_search P t g C rest m x trial a

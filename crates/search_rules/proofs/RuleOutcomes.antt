@@ -3,16 +3,16 @@ use Rattle.std.proofs.Common.{◌≡◌, inl, inr, Option, None, Some, List, [],
 use Rattle.std.specs.List.{All}
 use Rattle.std.specs.Option.{is_some}
 use Rattle.rational.specs.Ratio.{Ratio, IsNumber}
-use Rattle.evidence.specs.Instance.{Instance, Problem, IsInstance, IsProblem, width}
+use Rattle.evidence.specs.Instance.{Problem, IsInstance, IsProblem, width}
 use Rattle.evidence.specs.Cases.{Multiplier, GridBy}
-use Rattle.simplex_rules.specs.Ends.{Terms, Clock, End, Clash, Empty, Best, Endless, TurnsOut, TooWide, Stopped}
+use Rattle.simplex_rules.specs.Ends.{Terms, Clock, Clash, Empty, Best, Endless, TurnsOut, TooWide, Stopped}
 use Rattle.simplex_rules.specs.Runs.{looked_once}
 use Rattle.simplex_rules.specs.Rules.{Given}
 use Rattle.simplex_rules.specs.RuleRuns.{Finish, Ends, Passed, ShownBy, RunBy}
 use Rattle.simplex_rules.proofs.RuleEnds.{run_once}
 use Rattle.search_rules.specs.Branching.{Case, AreMetBelow}
 use Rattle.search_rules.specs.Cuts.{Trial, NoCut, WideCut, Cut, TriesBasis}
-use Rattle.search_rules.specs.Search.{SearchMoment, NextOfSearch, Outcome, To, Out, first, closed_by_leaf, branch, divide}
+use Rattle.search_rules.specs.Search.{SearchMoment, NextOfSearch, Outcome, To, first, closed_by_leaf, branch, divide}
 use Rattle.search_rules.specs.RuleSearch.{BranchView, SearchRules, AreLegalSearches, AreSingleSearches, MomentBy, NextBy, On, Off, kept_for, with_basis, best_value, BranchesBy, MeetsBy, TriedBy, HopesBy, RoundsBy, BestBy, AlongBy, GoesBy, IsVisitBy, IsNextBy, ComesBy, begins, goes_on, SearchBy}
 use Rattle.search_rules.proofs.Rays.{one_ray}
 use Rattle.search_rules.proofs.OneCut.{trial_once}

@@ -1,5 +1,5 @@
 -- Searches by rules from a first point: what they end with, that there is one outcome, and that from none they are the searches by these rules.
-use Rattle.std.proofs.Common.{◌≡◌, Option, None, List, refl, sym, subst}
+use Rattle.std.proofs.Common.{◌≡◌, Option, None, List, refl, subst}
 use Rattle.rational.specs.Ratio.{Ratio}
 use Rattle.evidence.specs.Instance.{Problem, IsProblem}
 use Rattle.simplex_rules.specs.Ends.{Terms, Clock}

@@ -1,21 +1,21 @@
 -- What holds at each moment of a search by legal rules stays so, and its outcome is shown.
-use Rattle.std.proofs.Common.{◌≡◌, inl, inr, ℤ, pos, ◌+ℤ◌, false, Option, None, Some, List, [], ◌∷◌, refl, sym, ◌∙◌, ap, subst}
+use Rattle.std.proofs.Common.{◌≡◌, inl, inr, pos, ◌+ℤ◌, false, Option, None, Some, List, [], ◌∷◌, refl, sym, ◌∙◌, ap, subst}
 use Rattle.std.specs.List.{All}
 use Rattle.std.specs.Option.{is_some}
 use Rattle.rational.specs.Ratio.{Ratio}
 use Rattle.evidence.specs.Instance.{Problem, IsProblem}
 use Rattle.evidence.specs.Cases.{Multiplier, ClashAt, FarkasBy, BoundBy, GridBy, SplitAt}
 use Rattle.simplex_rules.specs.declared.columns.Status.{Status}
-use Rattle.simplex_rules.specs.Ends.{Terms, Clock, End, Clash, Empty, Best, Endless, TurnsOut, TooWide, Stopped, IsRelaxed, IsBest}
+use Rattle.simplex_rules.specs.Ends.{Terms, Clock, Clash, Empty, Best, Endless, TurnsOut, TooWide, Stopped, IsRelaxed, IsBest}
 use Rattle.simplex_rules.specs.Runs.{looked_once}
 use Rattle.simplex_rules.specs.Rules.{Given}
 use Rattle.simplex_rules.specs.RuleRuns.{Finish, Ends, Passed, ShownBy}
 use Rattle.simplex_rules.proofs.RuleMoments.{run_true}
 use Rattle.search_rules.specs.Branching.{Case, split_cases}
 use Rattle.search_rules.specs.Cuts.{Trial, NoCut, WideCut, Cut, TriesBasis}
-use Rattle.search_rules.specs.Search.{Level, SearchMoment, NextOfSearch, Outcome, To, Out, closed_by_leaf, branch, divide, with_cut, IsHopeful, MayCut, ClosesLevel, StopsBefore}
+use Rattle.search_rules.specs.Search.{SearchMoment, NextOfSearch, Outcome, To, Out, closed_by_leaf, branch, divide, with_cut, IsHopeful, MayCut, ClosesLevel, StopsBefore}
 use Rattle.search_rules.specs.Outcomes.{IsShown}
-use Rattle.search_rules.specs.RuleSearch.{SearchRules, AreLegalSearches, MomentBy, NextBy, On, Off, kept_for, with_basis, best_value, BranchesBy, MeetsBy, TriedBy, HopesBy, RoundsBy, BestBy, GoesBy, IsRunOfCase, IsNextBy, ComesBy, begins, goes_on, SearchBy, IsAnswerBy, searched, given_up, given_up_after}
+use Rattle.search_rules.specs.RuleSearch.{SearchRules, AreLegalSearches, MomentBy, On, Off, kept_for, with_basis, best_value, BranchesBy, MeetsBy, TriedBy, HopesBy, RoundsBy, BestBy, GoesBy, IsRunOfCase, IsNextBy, ComesBy, begins, goes_on, SearchBy, IsAnswerBy, searched, given_up, given_up_after}
 use Rattle.search_rules.proofs.Nodes.{Leads, clash_first, farkas_first, split_first}
 use Rattle.search_rules.proofs.Cases.{IsOpen, open_most, open_least}
 use Rattle.search_rules.proofs.Moments.{Holds, holds_first, clocked, passed_holds, rounded_holds, same_best, both_open, divide_holds, takes_hold, cut_of, this, others, so_far, open_along, cut_holds, closes_hold}

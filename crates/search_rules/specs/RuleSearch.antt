@@ -8,7 +8,7 @@ use Rattle.evidence.specs.Width.{TreeFits}
 use Rattle.certificate.specs.declared.causes.Step.TheVariants.{Ray, Round}
 use Rattle.certificate.specs.declared.causes.Cause.TheVariants.{Killed, TurnLimit, Memory}
 use Rattle.simplex_rules.specs.declared.columns.Status.{Status}
-use Rattle.simplex_rules.specs.Ends.{Terms, Clock, End, Clash, Empty, Best, Endless, TurnsOut, TooWide, Stopped}
+use Rattle.simplex_rules.specs.Ends.{Terms, Clock, Clash, Empty, Best, Endless, TurnsOut, TooWide, Stopped}
 use Rattle.simplex_rules.specs.Runs.{looked_once}
 use Rattle.simplex_rules.specs.Rules.{Given, Rules, AreLegalRules, AreSingleRules, bland}
 use Rattle.simplex_rules.specs.RuleRuns.{Finish, Ends, Passed, RunBy}

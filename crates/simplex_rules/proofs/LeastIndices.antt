@@ -11,7 +11,7 @@ use Rattle.simplex_rules.specs.Turns.{IsLeastOut, IsFirstHelp, IsFirstLeast}
 use Rattle.simplex_rules.specs.Ends.{Terms, Clock, End, Clash}
 use Rattle.simplex_rules.specs.Runs as Runs
 use Rattle.simplex_rules.specs.Runs.{Moment, Next, PassesTurn, BeginsTurn, MovesColumn, Repairs, Improves, Chooses, IsNext, ComesInRun, Run, EndsAtBasis}
-use Rattle.simplex_rules.specs.Rules.{Given, Rules, AreLegalRules, AreSingleRules, bland}
+use Rattle.simplex_rules.specs.Rules.{Given, AreLegalRules, AreSingleRules, bland}
 use Rattle.simplex_rules.specs.RuleRuns.{handed_on, Finish, Ends, MomentBy, NextBy, To, Out, PassesTurnBy, BeginsTurnBy, MovesBy, RepairsBy, ImprovesBy, ChoosesBy, WeighsBy, IsNextBy, ComesBy, begins, goes_on, RunBy}
 use Rattle.simplex_rules.proofs.Moments.{fresh_placed}
 use Rattle.simplex_rules.proofs.OneEnd.{one_fresh}

@@ -3,7 +3,6 @@ use Rattle.std.proofs.Common.{◌≡◌, ℕ, inl, inr, Bool, true, false, Optio
 use Rattle.rational.specs.Ratio.{Ratio}
 use Rattle.evidence.specs.Instance.{Instance, IsInstance, column_at}
 use Rattle.evidence.proofs.Columns.{by_lt, column-numbers}
-use Rattle.certificate.specs.declared.causes.Step.TheVariants as At
 use Rattle.bases.specs.Dictionary.{Entries, Values}
 use Rattle.bases.specs.Program.{goal_column}
 use Rattle.simplex_rules.specs.declared.columns.Status.{Status}

@@ -15,7 +15,7 @@ use Rattle.simplex_rules.specs.declared.columns.Way.TheVariants.{Rise, Fall}
 use Rattle.simplex_rules.specs.Statuses.{status_at, basic_in, HasDictionary, HasValues, HasPlace, IsPlaced}
 use Rattle.simplex_rules.specs.Turns.{rate, MovesIn, Can, missed_status, reached_status, left_status, NoneOut, Helps, NoneHelps, until_by, across}
 use Rattle.simplex_rules.specs.Widths.{ValuesFit}
-use Rattle.simplex_rules.specs.Ends.{Terms, Clock, End, Clash, Empty, Best, Endless, TurnsOut, TooWide, Stopped}
+use Rattle.simplex_rules.specs.Ends.{Terms, Clock, Empty, Best, Endless, TurnsOut, TooWide, Stopped}
 use Rattle.simplex_rules.specs.Reports.{IsBoundAt, multipliers_of}
 use Rattle.simplex_rules.specs.Runs.{HasNoClash}
 use Rattle.simplex_rules.specs.Rules.{View, Given, Rules, IsSeen, AreLegalRules}

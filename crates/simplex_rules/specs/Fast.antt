@@ -1,5 +1,5 @@
 -- The rules `fast`: the dual method from the last dictionary (Lemke, The dual method of solving the linear programming problem, 1954), by scores cut to 31 leading binary digits, and Bland's rule behind long ties.
-use Rattle.std.specs.Prelude.{◌≡◌, ℕ, zero, suc, ◌+◌, ◌-◌, ◌*◌, ◌/◌, ◌^◌, ◌<◌, ◌⊎◌, ℤ, pos, negsuc, unsigned_abs, Bool, true, false, cond, not, nat_eq, nat_lt, Option, None, Some, List, length}
+use Rattle.std.specs.Prelude.{◌≡◌, ℕ, zero, suc, ◌+◌, ◌<◌, ◌⊎◌, ℤ, pos, negsuc, Bool, true, false, cond, not, nat_eq, nat_lt, Option, None, Some, List, length}
 use Rattle.rational.specs.Ratio.{Ratio, whole, sum, product, negative, quotient, IsBelow, IsAtMost, IsSame}
 use Rattle.rational.specs.Width.{ReducedFits, SumFits}
 use Rattle.evidence.specs.Sums.{none, is_below}

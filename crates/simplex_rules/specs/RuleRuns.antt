@@ -15,7 +15,7 @@ use Rattle.simplex_rules.specs.Widths.{ValuesFit, LimitsFit, BoundFits}
 use Rattle.simplex_rules.specs.Ends.{Terms, Clock, End, Clash, Empty, Best, Endless, TurnsOut, TooWide, Stopped, Shown}
 use Rattle.simplex_rules.specs.Reports.{multipliers_of, AreValues, movement, IsBoundAt}
 use Rattle.simplex_rules.specs.Runs.{is_checked, turned, looked_once, HasNoClash, IsFirstEmpty}
-use Rattle.simplex_rules.specs.Rules.{View, Given, Turn, Swap, Flip, Rules}
+use Rattle.simplex_rules.specs.Rules.{View, Given, Swap, Flip, Rules}
 
 -- an end as ever; or a bound that was enough, with the multipliers that show it
 pub data Finish : Type 0 where
