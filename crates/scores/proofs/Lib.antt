@@ -1,3 +1,5 @@
 pub mod Digits
 pub mod Cuts
 pub mod Leads
+pub mod Tops
+pub mod Parts
