@@ -3,3 +3,4 @@ pub mod Cuts
 pub mod Leads
 pub mod Tops
 pub mod Parts
+pub mod Scored

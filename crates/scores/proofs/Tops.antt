@@ -5,7 +5,7 @@ use Rattle.std.proofs.lemmas.Int.{ints}
 use Rattle.std.proofs.lemmas.Nat.{le-div, shr_below, shr_split, mod_below, leading_top}
 use Rattle.std.specs.Int.Count.{count_leading_zeros}
 use Rattle.rational.specs.Ratio.{Ratio}
-use Rattle.evidence.proofs.Columns.{by_eq}
+use Rattle.evidence.proofs.Columns.{by_lt, by_eq}
 use Rattle.scores.specs.Scores.{IsLeading, HasDigits}
 use Rattle.scores.specs.Scores.HasDigits.{exactly, without_rest}
 use Rattle.scores.proofs.Cuts.{Cuts}
@@ -116,3 +116,12 @@ raised k w n e some fits =
     let b : 2 ^ z * suc n ≤ 2 ^ z * 2 ^ suc t.0 = mul-le-mul_left (2 ^ z) (let h : suc n ≤ 2 ^ suc t.0 = t.3 in h) in
     let p = pow_pos z in
     (omega (arith, low, a), omega (arith, high, b, p))
+
+-- a power of 2 within 30 digits
+pub few_more : (m q : ℕ) → 2 ^ m ≤ q → q < 2 ^ 30 → m < 30
+few_more m q low high =
+    by_lt m 30 (λ h. h) (λ h. let f : 2 ^ 30 ≤ 2 ^ m = pow_mono h in absurd (omega (arith, f, low, high)))
+
+-- the whole part of n 2^z by d, of 31 digits or more
+pub whole_digits : (n d w z : ℕ) (r : ℤ) → r +ℤ pos z ≡ pos 0 → 2 ^ 30 ≤ w → w * d ≤ n * 2 ^ z → n * 2 ^ z < (w + 1) * d → HasDigits (record { num = pos n; den = d }) w r
+whole_digits n d w z r e many low high = without_rest 0 z e many (omega (arith, low)) (omega (arith, high))
