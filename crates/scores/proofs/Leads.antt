@@ -5,7 +5,7 @@ use Rattle.std.proofs.lemmas.Int.{ints}
 use Rattle.std.proofs.lemmas.Nat.{shr_split, div-add-mod'}
 use Rattle.rational.specs.Ratio.{Ratio, IsSame}
 use Rattle.scores.specs.declared.score.Score.{Score}
-use Rattle.scores.specs.Leading.{leading, shift_of, scaled, dropped}
+use Rattle.scores.specs.Leading.{shift_of, scaled, dropped}
 use Rattle.scores.specs.Scores.{times_power, IsLeading, IsCut}
 use Rattle.scores.specs.Scores.IsCut.{zero_so, digits_so}
 use Rattle.scores.proofs.Cuts.{Cuts, one_cut, cuts_more, leading_cuts}

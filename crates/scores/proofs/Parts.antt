@@ -1,9 +1,9 @@
 -- Numbers times powers of 2 of either sign: a power is what it is up, less what it is down.
-use Rattle.std.proofs.Common.{◌≡◌, ℕ, zero, suc, ◌+◌, ◌*◌, ◌^◌, ◌<◌, ◌≤◌, ◌⊎◌, ◌↔◌, inl, inr, ℤ, pos, negsuc, ◌+ℤ◌, ◌<ℤ◌, unsigned_abs, refl, sym, ◌∙◌, ap, subst, pow_pos, pow_mono, pow-add, arith}
+use Rattle.std.proofs.Common.{◌≡◌, ℕ, suc, ◌+◌, ◌*◌, ◌^◌, ◌<◌, ◌≤◌, ◌⊎◌, ◌↔◌, inl, inr, ℤ, pos, negsuc, ◌+ℤ◌, ◌<ℤ◌, unsigned_abs, refl, sym, ◌∙◌, ap, subst, pow_pos, pow_mono, pow-add, arith}
 use Rattle.std.proofs.Math.Nat.{mul-le-mul_left}
 use Rattle.std.proofs.lemmas.Int.{ints}
 use borrow.Author.Differences.{up, down}
-use Rattle.rational.specs.Ratio.{Ratio, sum, product, quotient, IsBelow}
+use Rattle.rational.specs.Ratio.{sum, product, quotient, IsBelow}
 use Rattle.evidence.proofs.Columns.{by_lt, by_eq}
 use Rattle.scores.specs.declared.score.Score.{Score}
 use Rattle.scores.specs.Scores.{times_power, IsLeading, HasDigits, IsCut}
@@ -81,7 +81,7 @@ sum_digits n m t p q e =
     let place : up p + down q ≡ t + (up q + down p) = omega (arith, ints, e, a, b) in
     let power : 2 ^ (up p + down q) ≡ 2 ^ t * 2 ^ (up q + down p) = ap (λ (k : ℕ). 2 ^ k) place ∙ pow-add 2 t (up q + down p) in
     let all : (n * 2 ^ (up p + down q) + m * 2 ^ (up q + down p)) * (under n p * under m q) ≡ (n * 2 ^ t + m) * 2 ^ (up q + down p) * (under n p * under m q) =
-      ap (λ (k : ℕ). (n * k + m * 2 ^ (up q + down p)) * (under n p * under m q)) power ∙ (let o : (n * (2 ^ t * 2 ^ (up q + down p)) + m * 2 ^ (up q + down p)) * (under n p * under m q) ≡ (n * 2 ^ t + m) * 2 ^ (up q + down p) * (under n p * under m q) = omega arith in o) in
+    ap (λ (k : ℕ). (n * k + m * 2 ^ (up q + down p)) * (under n p * under m q)) power ∙ (let o : (n * (2 ^ t * 2 ^ (up q + down p)) + m * 2 ^ (up q + down p)) * (under n p * under m q) ≡ (n * 2 ^ t + m) * 2 ^ (up q + down p) * (under n p * under m q) = omega arith in o) in
     exactly (up q + down p) (down p + down q) (omega (arith, ints, b)) (sum_is n m p q ∙ all)
 
 pub sum_shifted : (n m t w : ℕ) (p q r : ℤ) → w ≡ n * 2 ^ t + m → r ≡ q → p ≡ q +ℤ pos t → HasDigits (sum (times_power n p) (times_power m q)) w r
@@ -98,12 +98,12 @@ sum_length n m t k w many few small e low high =
     by_lt k t
     (λ less. let f = pow_mono less in let g = twice k in absurd (omega (arith, a, e, high, f, g)))
     (λ most. by_lt (t + 1) k
-      (λ more.
-        let f : 2 ^ (2 + t) ≤ 2 ^ k = pow_mono (let h : 2 + t ≤ k = omega (arith, more) in h) in
-        let g : 2 ^ (2 + t) ≡ 2 ^ 2 * 2 ^ t = pow-add 2 2 t in
-        let h : 2 ^ t * 1 ≤ 2 ^ t * 2 ^ t = mul-le-mul_left (2 ^ t) (let o : 1 ≤ 2 ^ t = some in o) in
-        absurd (omega (arith, b, e, low, f, g, some, small)))
-      (λ few. by_eq k t inl (λ other. inr (omega (arith, most, few, other)))))
+    (λ more.
+    let f : 2 ^ (2 + t) ≤ 2 ^ k = pow_mono (let h : 2 + t ≤ k = omega (arith, more) in h) in
+    let g : 2 ^ (2 + t) ≡ 2 ^ 2 * 2 ^ t = pow-add 2 2 t in
+    let h : 2 ^ t * 1 ≤ 2 ^ t * 2 ^ t = mul-le-mul_left (2 ^ t) (let o : 1 ≤ 2 ^ t = some in o) in
+    absurd (omega (arith, b, e, low, f, g, some, small)))
+    (λ few. by_eq k t inl (λ other. inr (omega (arith, most, few, other)))))
 
 -- with 0
 pub sum_leads : (s : Score) → IsCut s → (m : ℕ) (q : ℤ) → m ≡ 0 → IsLeading (sum (times_power s.digits s.power) (times_power m q)) s
@@ -113,7 +113,7 @@ sum_leads s c m q e =
     let a = power_parts p in
     let x = sum_is n m p q in
     let y : (n * 2 ^ (up p + down q) + m * 2 ^ (up q + down p)) * (under n p * under m q) ≡ n * 2 ^ (up p + down q) * (under n p * under m q) =
-      ap (λ (k : ℕ). (n * 2 ^ (up p + down q) + k * 2 ^ (up q + down p)) * (under n p * under m q)) e ∙ (let o : (n * 2 ^ (up p + down q) + 0 * 2 ^ (up q + down p)) * (under n p * under m q) ≡ n * 2 ^ (up p + down q) * (under n p * under m q) = omega arith in o) in
+    ap (λ (k : ℕ). (n * 2 ^ (up p + down q) + k * 2 ^ (up q + down p)) * (under n p * under m q)) e ∙ (let o : (n * 2 ^ (up p + down q) + 0 * 2 ^ (up q + down p)) * (under n p * under m q) ≡ n * 2 ^ (up p + down q) * (under n p * under m q) = omega arith in o) in
     own_leads s c (sum (times_power n p) (times_power m q)) (product_above n m p q) (up p + down q) (down p + down q) (omega (arith, ints, a)) (x ∙ y)
 
 -- with one that begins behind its digits
@@ -268,18 +268,20 @@ same_power n m p q e =
     let y = up q + down p in
     let place : x ≡ y = omega (arith, ints, e, a, b) in
     let same : m * 2 ^ y ≡ m * 2 ^ x = ap (λ (k : ℕ). m * 2 ^ k) (sym place) in
-    let i = below_is n m p q in
-    (λ h. let g = i.0 h in lt_of (2 ^ x) n m (omega (arith, g, same)),
-     λ h. let t : 2 ^ x * suc n ≤ 2 ^ x * m = mul-le-mul_left (2 ^ x) h in let some = pow_pos x in i.1 (omega (arith, t, same, some)))
+    let i = below_is n m p q in (
+      λ h. let g = i.0 h in lt_of (2 ^ x) n m (omega (arith, g, same)),
+      λ h. let t : 2 ^ x * suc n ≤ 2 ^ x * m = mul-le-mul_left (2 ^ x) h in let some = pow_pos x in i.1 (omega (arith, t, same, some)),
+    )
 
 -- and 0 is below each other one
 pub none_below : (n m : ℕ) (p q : ℤ) → n ≡ 0 → IsBelow (times_power n p) (times_power m q) ↔ n < m
 none_below n m p q e =
     let i = below_is n m p q in
     let y = 2 ^ (up q + down p) in
-    let z : n * 2 ^ (up p + down q) ≡ 0 = ap (λ (k : ℕ). k * 2 ^ (up p + down q)) e ∙ (let o : 0 * 2 ^ (up p + down q) ≡ 0 = omega arith in o) in
-    (λ h. let g = i.0 h in lt_of y n m (let t : y * n ≡ 0 = ap (λ (k : ℕ). y * k) e ∙ (let o : y * 0 ≡ 0 = omega arith in o) in omega (arith, g, z, t)),
-     λ h. let t : m * 1 ≤ m * y = mul-le-mul_left m (let o : 1 ≤ y = pow_pos (up q + down p) in o) in i.1 (omega (arith, t, z, h, e)))
+    let z : n * 2 ^ (up p + down q) ≡ 0 = ap (λ (k : ℕ). k * 2 ^ (up p + down q)) e ∙ (let o : 0 * 2 ^ (up p + down q) ≡ 0 = omega arith in o) in (
+      λ h. let g = i.0 h in lt_of y n m (let t : y * n ≡ 0 = ap (λ (k : ℕ). y * k) e ∙ (let o : y * 0 ≡ 0 = omega arith in o) in omega (arith, g, z, t)),
+      λ h. let t : m * 1 ≤ m * y = mul-le-mul_left m (let o : 1 ≤ y = pow_pos (up q + down p) in o) in i.1 (omega (arith, t, z, h, e)),
+    )
 
 pub not_below_none : (n m : ℕ) (p q : ℤ) → m ≡ 0 → IsBelow (times_power n p) (times_power m q) ↔ n < m
 not_below_none n m p q e =

@@ -1,5 +1,5 @@
 -- A number of at most 128 bits moved so that 31 binary digits are left of it.
-use Rattle.std.proofs.Common.{◌≡◌, ℕ, zero, suc, ◌+◌, ◌-◌, ◌*◌, ◌/◌, ◌^◌, ◌<◌, ◌≤◌, ℤ, pos, ◌+ℤ◌, unsigned_abs, sym, ◌∙◌, ap, subst, pow_pos, pow_mono, pow-add, arith}
+use Rattle.std.proofs.Common.{◌≡◌, ℕ, suc, ◌+◌, ◌-◌, ◌*◌, ◌/◌, ◌^◌, ◌<◌, ◌≤◌, ℤ, pos, ◌+ℤ◌, unsigned_abs, sym, ◌∙◌, ap, subst, pow_pos, pow_mono, pow-add, arith}
 use Rattle.std.proofs.Math.Nat.{mul-le-mul_left}
 use Rattle.std.proofs.lemmas.Int.{ints}
 use Rattle.std.proofs.lemmas.Nat.{le-div, shr_below, shr_split, mod_below, leading_top}
@@ -51,12 +51,12 @@ pub drop_leads : (n k d : ℕ) (p q : ℤ) → Cuts n 1 d k → q ≡ p +ℤ pos
 drop_leads n k d p q c e x above h =
     let y = unsigned_abs x.num in
     let led : (a b : ℕ) → p +ℤ pos b ≡ pos a → n * 2 ^ a * x.den ≤ y * 2 ^ b → y * 2 ^ b < (n + 1) * 2 ^ a * x.den → IsLeading x (record { digits = d; power = q }) =
-      λ a b o low high.
-        let power : d * 2 ^ (a + k) * x.den ≡ d * (2 ^ a * 2 ^ k) * x.den = ap (λ (m : ℕ). d * m * x.den) (pow-add 2 a k) in
-        let next : (d + 1) * 2 ^ (a + k) * x.den ≡ (d + 1) * (2 ^ a * 2 ^ k) * x.den = ap (λ (m : ℕ). (d + 1) * m * x.den) (pow-add 2 a k) in
-        let under : 2 ^ a * x.den * (d * 2 ^ k) ≤ 2 ^ a * x.den * n = mul-le-mul_left (2 ^ a * x.den) (let g : d * 2 ^ k ≤ n = let l = c.low in omega (arith, l) in g) in
-        let over : 2 ^ a * x.den * (n + 1) ≤ 2 ^ a * x.den * ((d + 1) * 2 ^ k) = mul-le-mul_left (2 ^ a * x.den) (let g : n + 1 ≤ (d + 1) * 2 ^ k = let l = c.high in omega (arith, l) in g) in
-        leads x above d (a + k) b q (omega (arith, ints, e, o)) (record { many = c.many; few = c.few; low = omega (arith, power, under, low); high = omega (arith, next, over, high) }) in
+    λ a b o low high.
+    let power : d * 2 ^ (a + k) * x.den ≡ d * (2 ^ a * 2 ^ k) * x.den = ap (λ (m : ℕ). d * m * x.den) (pow-add 2 a k) in
+    let next : (d + 1) * 2 ^ (a + k) * x.den ≡ (d + 1) * (2 ^ a * 2 ^ k) * x.den = ap (λ (m : ℕ). (d + 1) * m * x.den) (pow-add 2 a k) in
+    let under : 2 ^ a * x.den * (d * 2 ^ k) ≤ 2 ^ a * x.den * n = mul-le-mul_left (2 ^ a * x.den) (let g : d * 2 ^ k ≤ n = let l = c.low in omega (arith, l) in g) in
+    let over : 2 ^ a * x.den * (n + 1) ≤ 2 ^ a * x.den * ((d + 1) * 2 ^ k) = mul-le-mul_left (2 ^ a * x.den) (let g : n + 1 ≤ (d + 1) * 2 ^ k = let l = c.high in omega (arith, l) in g) in
+    leads x above d (a + k) b q (omega (arith, ints, e, o)) (record { many = c.many; few = c.few; low = omega (arith, power, under, low); high = omega (arith, next, over, high) }) in
     elim h [
       | exactly a b o s ↦
           let one : 2 ^ a * 1 ≤ 2 ^ a * x.den = mul-le-mul_left (2 ^ a) (let g : 1 ≤ x.den = above in g) in
@@ -70,9 +70,9 @@ pub none_added : (n j : ℕ) → 2 ^ 30 ≤ n → n * 2 ^ j < 2 ^ 31 → j ≡ 0
 none_added n j long few =
     by_eq j 0 (λ g. g)
     (λ g.
-      let two : 2 ^ 1 ≤ 2 ^ j = pow_mono (let k : 1 ≤ j = omega (arith, g) in k) in
-      let t : n * 2 ^ 1 ≤ n * 2 ^ j = mul-le-mul_left n two in
-      absurd (omega (arith, t, long, few)))
+    let two : 2 ^ 1 ≤ 2 ^ j = pow_mono (let k : 1 ≤ j = omega (arith, g) in k) in
+    let t : n * 2 ^ 1 ≤ n * 2 ^ j = mul-le-mul_left n two in
+    absurd (omega (arith, t, long, few)))
 
 -- a number of at most 31 digits is what it is moved up: one of 31 has none behind it
 moved_leads : (n j : ℕ) (p q : ℤ) → 2 ^ 30 ≤ n * 2 ^ j → n * 2 ^ j < 2 ^ 31 → q +ℤ pos j ≡ p → (x : Ratio) → 0 < x.den → HasDigits x n p → IsLeading x (record { digits = n * 2 ^ j; power = q })

@@ -1,6 +1,5 @@
-use Rattle.std.proofs.Common.{◌≡◌, ℕ, ◌+◌, ◌-◌, ◌*◌, ◌/◌, ◌^◌, ◌<◌, ◌≤◌, pos, ap, arith}
+use Rattle.std.proofs.Common.{◌≡◌, ℕ, ◌-◌, ◌*◌, ◌/◌, ◌^◌, ap, arith}
 use Rattle.std.proofs.lemmas.Int.{ints}
-use Rattle.std.proofs.lemmas.Nat.{leading_le}
 use Rattle.std.specs.Int.Count.{count_leading_zeros}
 use Rattle.scores.proofs.Tops.{long_cuts, short_digits, drop_leads, add_leads, none_added, cuts_length}
 use Rattle.scores.proofs.score.cut.Goals as goal

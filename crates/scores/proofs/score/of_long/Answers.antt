@@ -1,4 +1,4 @@
-use Rattle.std.proofs.Common.{◌≡◌, ℕ, suc, ◌+◌, ◌-◌, ◌*◌, ◌/◌, ◌%◌, ◌^◌, ◌<◌, ◌≤◌, pos, ap, ◌∙◌, pow-add, arith}
+use Rattle.std.proofs.Common.{◌≡◌, ℕ, ◌+◌, ◌*◌, ◌%◌, ◌^◌, ◌<◌, ◌≤◌, ap, ◌∙◌, pow-add, arith}
 use Rattle.std.proofs.lemmas.Int.{ints}
 use Rattle.std.proofs.lemmas.Nat.{le-div, div-add-mod', mod_below, leading_le}
 use Rattle.std.specs.Int.Count.{count_leading_zeros}
@@ -55,7 +55,7 @@ returns-clause-leading c =
     let t = top_is n c.requires.numer c.ranges.numer.fits in
     let small = leading_le 128 n in
     let moved : n * 2 ^ (room n + l.more) ≡ top n * 2 ^ l.more =
-      ap (λ (k : ℕ). n * k) (pow-add 2 (room n) l.more) ∙ (let e : n * (2 ^ room n * 2 ^ l.more) ≡ n * 2 ^ room n * 2 ^ l.more = omega arith in e) ∙ ap (λ (k : ℕ). k * 2 ^ l.more) (let e : n * 2 ^ room n ≡ top n = omega (arith, t.0) in e) in
+    ap (λ (k : ℕ). n * k) (pow-add 2 (room n) l.more) ∙ (let e : n * (2 ^ room n * 2 ^ l.more) ≡ n * 2 ^ room n * 2 ^ l.more = omega arith in e) ∙ ap (λ (k : ℕ). k * 2 ^ l.more) (let e : n * 2 ^ room n ≡ top n = omega (arith, t.0) in e) in
     c.cut.ensures.leading _ c.requires.denom
     (whole_digits n d l.quotient (room n + l.more) _ (omega (arith, ints, small, i.few)) (omega arith) (omega (arith, moved, i.parts)) (omega (arith, moved, i.parts, i.below)))
 

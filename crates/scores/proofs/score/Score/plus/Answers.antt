@@ -1,4 +1,4 @@
-use Rattle.std.proofs.Common.{◌≡◌, ℕ, ◌<◌, ◌≤◌, sym, subst, arith}
+use Rattle.std.proofs.Common.{subst}
 use Rattle.rational.specs.Ratio.{Ratio, sum}
 use Rattle.evidence.proofs.Numbers.{sum_swap}
 use Rattle.scores.specs.declared.score.Score.{Score}

@@ -1,4 +1,4 @@
-use Rattle.std.proofs.Common.{◌≡◌, ℕ, ◌+◌, ◌*◌, pos, arith}
+use Rattle.std.proofs.Common.{◌*◌, arith}
 use Rattle.std.proofs.lemmas.Int.{ints}
 use Rattle.scores.proofs.Parts.{product_digits, product_above}
 use Rattle.scores.proofs.score.Score.times.Goals as goal
