@@ -1,5 +1,5 @@
 -- A number cut to 31 binary digits: so many digits times a power of 2, at most the number, and above it with one digit more. There is one such cut.
-use Rattle.std.proofs.Common.{◌≡◌, ℕ, suc, ◌+◌, ◌-◌, ◌*◌, ◌/◌, ◌%◌, ◌^◌, ◌<◌, ◌≤◌, unsigned_abs, sym, ◌∙◌, ap, subst, pow_pos, pow_mono, pow-add, arith}
+use Rattle.std.proofs.Common.{◌≡◌, ℕ, suc, ◌+◌, ◌-◌, ◌*◌, ◌/◌, ◌^◌, ◌<◌, ◌≤◌, unsigned_abs, sym, ◌∙◌, ap, subst, pow_pos, pow_mono, pow-add, arith}
 use Rattle.std.proofs.Math.Nat.{mul-le-mul_left}
 use Rattle.std.proofs.lemmas.Nat.{le-div, shr_below, shr_split, mod_below, div-add-mod'}
 use Rattle.rational.specs.Ratio.{Ratio}

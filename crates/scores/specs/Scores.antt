@@ -1,5 +1,5 @@
 -- What a score in memory is the number of.
-use Rattle.std.specs.Prelude.{◌≡◌, ℕ, suc, ◌+◌, ◌*◌, ◌^◌, ◌<◌, ◌≤◌, ℤ, pos, negsuc, unsigned_abs}
+use Rattle.std.specs.Prelude.{◌≡◌, ℕ, suc, ◌+◌, ◌*◌, ◌^◌, ◌<◌, ◌≤◌, ℤ, ◌+ℤ◌, pos, negsuc, unsigned_abs}
 use Rattle.rational.specs.Ratio.{Ratio, IsSame}
 use Rattle.scores.specs.Leading.{leading}
 use Rattle.scores.specs.declared.score.Score.{Score}
@@ -21,6 +21,11 @@ pub data IsCut (s : Score) : Type 0 where
 pub record IsLeading (x : Ratio) (s : Score) : Type 0 where
   pub cut : IsCut s
   pub same : IsSame (number s) (leading x)
+
+-- the size of x is n times 2 to the power p; or n is what that leaves of it before the point, and has 31 digits or more
+pub data HasDigits (x : Ratio) (n : ℕ) (p : ℤ) : Type 0 where
+  exactly : (a b : ℕ) → p +ℤ pos b ≡ pos a → unsigned_abs x.num * 2 ^ b ≡ n * 2 ^ a * x.den → HasDigits x n p
+  without_rest : (a b : ℕ) → p +ℤ pos b ≡ pos a → 2 ^ 30 ≤ n → n * 2 ^ a * x.den ≤ unsigned_abs x.num * 2 ^ b → unsigned_abs x.num * 2 ^ b < (n + 1) * 2 ^ a * x.den → HasDigits x n p
 
 -- its power is at most so great, up or down
 abbrev pub IsWithin : ℕ → Score → Type 0

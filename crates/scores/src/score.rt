@@ -1,9 +1,8 @@
 //! Sizes by their 31 leading binary digits.
-ghost use Rattle.std.specs.Prelude.{◌≡◌, ◌≢◌, ◌⊎◌, ℕ, ◌+◌, ◌*◌, ◌^◌, ◌<◌, ◌≤◌, ◌↔◌, ℤ, ◌≤ℤ◌, ◌+ℤ◌, pos, IsTrue, unsigned_abs};
-ghost use Rattle.rational.specs.Ratio.{whole, sum, product, quotient, IsBelow};
+ghost use Rattle.std.specs.Prelude.{◌≡◌, ◌≢◌, ◌⊎◌, ℕ, ◌+◌, ◌*◌, ◌^◌, ◌<◌, ◌≤◌, ◌↔◌, ◌≤ℤ◌, ◌+ℤ◌, pos, IsTrue, unsigned_abs};
+ghost use Rattle.rational.specs.Ratio.{Ratio, sum, product, quotient, IsBelow};
 ghost use Rattle.fraction.specs.Frac.{ratio};
-ghost use Rattle.scores.specs.Leading.{leading};
-ghost use Rattle.scores.specs.Scores.{number, times_power, IsCut, IsLeading, IsWithin};
+ghost use Rattle.scores.specs.Scores.{number, IsCut, IsLeading, IsWithin, HasDigits};
 
 use fraction::Frac;
 
@@ -27,9 +26,9 @@ const NONE: Score = Score {
 fn cut(n: u128, power: i64) -> Score
     requires some { 0 < n }
     requires near { unsigned_abs power < 2 ^ 48 }
-    ensures leading { IsLeading (times_power n power) result }
+    ensures leading { (x : Ratio) → 0 < x.den → HasDigits x n power → IsLeading x result }
     ensures near { (m : ℕ) → unsigned_abs power ≤ m → IsWithin (m + 97) result }
-    ensures long { 2 ^ 30 ≤ n → power ≤ℤ result.power }
+    ensures long { 2 ^ 30 ≤ n → (k : ℕ) × (result.power ≡ power +ℤ pos k) × (2 ^ 30 * 2 ^ k ≤ n) × (n < 2 ^ 31 * 2 ^ k) }
 {
     let count = 128 - n.leading_zeros();
     if count > KEPT {
@@ -51,7 +50,7 @@ fn of_short(numer: u64, denom: u64) -> Score
     requires numer { 0 < numer }
     requires denom { 0 < denom }
     requires short { denom < 2 ^ 32 }
-    ensures leading { IsLeading (quotient (whole (pos numer)) (whole (pos denom))) result }
+    ensures leading { IsLeading (record { num = pos numer; den = denom }) result }
     ensures near { IsWithin 256 result }
 {
     let room = numer.leading_zeros();
@@ -63,7 +62,7 @@ fn of_long(numer: u128, denom: u128) -> Score
     requires numer { 0 < numer }
     requires denom { 0 < denom }
     requires long { denom < 2 ^ 127 }
-    ensures leading { IsLeading (quotient (whole (pos numer)) (whole (pos denom))) result }
+    ensures leading { IsLeading (record { num = pos numer; den = denom }) result }
     ensures near { IsWithin 256 result }
 {
     let room = numer.leading_zeros();
