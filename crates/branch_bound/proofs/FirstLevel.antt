@@ -1,5 +1,5 @@
 -- Where a search begins.
-use Rattle.std.proofs.Common.{◌≡◌, ℕ, None, Option, List, [], length, arith, refl, sym, ◌∙◌, ap, ap₂, subst}
+use Rattle.std.proofs.Common.{◌≡◌, ◌<◌, ℕ, None, Option, IfSome, List, [], ◌∷◌, map, length, arith, refl, sym, ◌∙◌, ap, ap₂, subst}
 use Rattle.certificate.specs.declared.nodes.Cert.{Cert}
 use Rattle.certificate.specs.declared.nodes.Round.{Round}
 use Rattle.instance.specs.Parts.{Parts}
@@ -11,7 +11,10 @@ use Rattle.simplex.specs.declared.cuts.Added.{Added}
 use Rattle.simplex.specs.declared.answer.Turns.{Turns}
 use Rattle.simplex.specs.Cuts.{Cutting}
 use Rattle.search_rules.specs.Search.{begun_at}
-use Rattle.search_rules.specs.Beginnings.{begins, first_with}
+use Rattle.search_rules.specs.Beginnings.{first_with}
+use Rattle.search_rules.specs.Asked.{Asked, asked_first}
+use Rattle.branch_bound.specs.declared.carried.Carried.{Carried}
+use Rattle.branch_bound.specs.Bounds.{CarriesNone, kept_next, multipliers_of, number_of}
 use Rattle.branch_bound.specs.declared.found.Found as Best
 use Rattle.branch_bound.specs.declared.level.Level.{Level}
 use Rattle.branch_bound.specs.declared.relaxation.Relaxation.{Relaxation}
@@ -64,11 +67,18 @@ module _ {M : _} {G : _} (p : Parts) (r : Relaxation M G) (ks : List Cert) (rs :
         ∙ ap₂ (λ (cs : List Cert) (n : ℕ). begun_at (level p (program p) (begun_level cs rs)) (record { turns = n; looks = 0 }) (best w.best)) certs turns
         )
 
-    pub begun_stands : StandsIn p t (best w.best) r (begun_level ks rs) w (clock_at r 0)
-    begun_stands = record {
+    pub begun_stands : (a : Asked) → CarriesNone w → StandsIn p t a (best w.best) r (begun_level ks rs) w (clock_at r 0)
+    begun_stands a none = record {
       at = first_with (problem p) (best w.best);
-      comes = begins;
+      carried = None ∷ [];
+      numbers = None ∷ [];
+      comes = asked_first;
       stands = record { program = program p; cut = program p; at = begun_at_level; is = is_first };
+      kept = λ keeps.
+          let h = none keeps in (
+            sym (ap (λ o. map multipliers_of (kept_next w.carried.items w.branches.items o)) fresh.next ∙ ap (λ (k : Option Carried). multipliers_of k ∷ []) h.1),
+            sym (ap (λ o. map number_of (kept_next w.carried.items w.branches.items o)) fresh.next ∙ ap (λ (k : Option Carried). number_of k ∷ []) h.1),
+          );
     }
 
 -- of the state before the first step, with this best point, if any
@@ -87,9 +97,11 @@ module _ {M : _} {G : _} (p : Parts) (l : Limits) (s : SearchState M G) (begun :
     fresh = λ e. fresh;
     within = let n = ap length begun.fresh.nodes in let v = ap (λ (v : Level). v.before) begun.level in omega arith;
     values = values;
+    keeps = begun.keeps;
+    carried = λ keeps. let h = begun.carried keeps in subst (λ (o : Option ℕ). IfSome o (λ d. d < length s.walk.carried.items)) (sym begun.fresh.next) h.0;
   }
 
-  pub begun_comes : (t : Terms) → StandsIn p t (best b) s.relaxation s.level walk (clock_at s.relaxation 0)
-  begun_comes t =
-      subst (λ (v : Level). StandsIn p t (best b) s.relaxation v walk (clock_at s.relaxation 0)) (sym begun.level)
-      (begun_stands p s.relaxation [] [] refl refl begun.beside begun.goal begun.rows t walk fresh begun.ray (ap (λ (t : Turns). t.done) begun.turns))
+  pub begun_comes : (t : Terms) (a : Asked) → StandsIn p t a (best b) s.relaxation s.level walk (clock_at s.relaxation 0)
+  begun_comes t a =
+      subst (λ (v : Level). StandsIn p t a (best b) s.relaxation v walk (clock_at s.relaxation 0)) (sym begun.level)
+      (begun_stands p s.relaxation [] [] refl refl begun.beside begun.goal begun.rows t walk fresh begun.ray (ap (λ (t : Turns). t.done) begun.turns) a begun.carried)

@@ -8,6 +8,11 @@ mod Leftovers
 mod Factors
 mod Places
 mod PendingCases
+mod Kept
+mod KeptAfter
+mod Gaps
+mod OpenBounds
+mod GivenUp
 mod ZeroBranches
 mod Sides
 mod Splits

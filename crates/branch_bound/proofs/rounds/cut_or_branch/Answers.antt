@@ -18,6 +18,7 @@ use Rattle.case_tree.specs.Cuts.{cut}
 use Rattle.branch_bound.proofs.Ready.{at_as, suits_as, size_as, same_point}
 use Rattle.branch_bound.proofs.PointSteps.{if_err, or_memory}
 use Rattle.branch_bound.proofs.CutProgram.{uncut_is, first_case_is}
+use Rattle.branch_bound.proofs.GivenUp.{for_memory_at, stays_from}
 use Rattle.branch_bound.proofs.rounds.cut_or_branch.Goals as goal
 use Rattle.branch_bound.proofs.rounds.cut_or_branch.Goals.{In-Ok}
 
@@ -94,3 +95,15 @@ returns-in-Ok-clause-err g c =
 
 pub returns-in-Err-clause-err : goal.returns-in-Err-clause-err
 returns-in-Err-clause-err g c = inl c.give_up.ensures.told
+
+-- the walk stays where the search is given up
+pub returns-in-Ok-clause-stays : goal.returns-in-Ok-clause-stays
+returns-in-Ok-clause-stays g c =
+    if_err c.go_on.result
+    (λ ended stays. stays_from c.args.relaxation.now c.try_at.new.relaxation c.go_on.new.relaxation c.args.level.now c.go_on.new.level c.args.walk.now c.go_on.new.walk ended c.try_at.ensures.ends c.try_at.ensures.rows stays)
+    c.go_on.ensures.stays
+
+pub returns-in-Err-clause-stays : goal.returns-in-Err-clause-stays
+returns-in-Err-clause-stays g c =
+    let v = c.args.level.now in
+    for_memory_at c.args.relaxation.now c.try_at.new.relaxation v v c.args.walk.now c.give_up.new.walk c.give_up.result (c.args.walk.now.best, c.give_up.ensures.is)
