@@ -57,7 +57,7 @@ module _ {M : _} {G : _} (p : Parts) (r : Relaxation M G) (ks : List Cert) (rs :
     shown = ap (λ (cs : List Cert). length cs) certs;
     counted = λ n. rw certs (omega arith);
     several = λ h. refl;
-    one = λ e. is_rows;
+    first = λ e. is_rows;
   }
 
   module _ (t : Terms) (w : Walk) (fresh : IsFreshWalk p w) (no_ray : w.ray ≡ None) (turns : r.turns.done ≡ 0) where

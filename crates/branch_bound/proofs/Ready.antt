@@ -74,7 +74,7 @@ module _ {M : _} {G : _} (p : Parts) (r s : Relaxation M G) (es : List Ends) (en
     shown = at.shown;
     counted = at.counted;
     several = at.several;
-    one = λ e. at.one e ∙ ap (with_rows (program p)) (sym rows);
+    first = λ e. at.first e ∙ ap (with_rows (program p)) (sym rows);
   }
 
   pub suits_as : HasSize p s → SuitsLevel p r v → SuitsLevel p s v

@@ -156,8 +156,7 @@ pub record EndsIn {L : _} {G : _} (p : Parts) (t : Terms) (a : Asked) (start : O
 -- how a search that ended so may be answered: for want of memory, with the best point of some moment; or as its last moment ends it
 abbrev pub AnswersSo : {L : _} {G : _} → Parts → Terms → Asked → Option Found → Relaxation L G → Level → Walk → Ended → Clock → Type 0
 AnswersSo p t a start r v w (Unbounded f z) c = (b : Option Says.ProvedBound) × IsAskedAnswer (problem p) t a start (outcome_of (Means.certificates v.certs) (Unbounded f z)) b c
-AnswersSo p t a start r v w (Early b Memory) c = IsAskedAnswer (problem p) t a start (early (best b) Memory) None c
-AnswersSo p t a start r v w (Early b k) c = EndsIn p t a start r v w (early (best b) k) b c
+AnswersSo p t a start r v w (Early b k) c = (k ≡ Memory) × IsAskedAnswer (problem p) t a start (early (best b) Memory) None c ⊎ EndsIn p t a start r v w (early (best b) k) b c
 
 -- what comes then of the search: one more such moment, or an answer
 abbrev pub ComesThrough : {L : _} {G : _} → Parts → Terms → Asked → Option Found → Relaxation L G → Level → Walk → Clock → Result (Unit {0}) Ended → Type 0

@@ -1,5 +1,6 @@
 //! The search, case by case.
-ghost use Rattle.std.specs.Prelude.{◌≡◌, ◌⊎◌, ℕ, ◌+◌, ◌-◌, ◌^◌, ◌<◌, ◌≤◌, Option, None, Some, [], true, length, map, IfOk};
+ghost use Rattle.std.specs.Prelude.{◌≡◌, ◌⊎◌, ℕ, ◌+◌, ◌-◌, ◌^◌, ◌<◌, ◌≤◌, Option, None, Some, List, [], true, length, map, IfOk};
+ghost use Rattle.rational.specs.Ratio.{Ratio};
 ghost use Rattle.fraction.specs.Frac.{ratio, ratios};
 ghost use Rattle.evidence.specs.Point.{value_at};
 ghost use Rattle.evidence.specs.ProvedBounds as says;
@@ -10,6 +11,7 @@ ghost use Rattle.simplex.specs.Answers.{was_stopped};
 ghost use Rattle.simplex_rules.specs.Looks.{answers, AgreesWith, looks_after};
 ghost use Rattle.search_rules.specs.Search.{Outcome, IsSearchAnswer};
 ghost use Rattle.search_rules.specs.Asked.{IsAskedAnswer};
+ghost use Rattle.search_rules.specs.Beginnings.{IsFirstBest};
 ghost use Rattle.search_rules.specs.Outcomes.{IsPlain, HaveOneRange};
 ghost use Rattle.no_cycles.specs.Beginning.{BeginsFeasible};
 ghost use Rattle.branch_bound.specs.Claims.{ClaimTells, ClaimTellsWith, claimed_cause, is_killed};
@@ -251,6 +253,7 @@ fn explore<W: Watch, L: Ledger>(
 ) -> Searched
     requires begun { IsBegun instance.now limits state }
     requires values { HaveValues instance.now first }
+    requires first { (gs : Option (List (Option Ratio))) × IsFirstBest (problem instance.now) gs (best_of first) }
     requires stops { W.stops watch.old < 2 ^ 64 - 1 }
     ensures { (n : ℕ) × (o : Outcome) × (b : Option says.ProvedBound) × ClaimTellsWith result.claim o b × W.came watch.old watch.new (answers n (is_killed o)) × ((stop : Option ℕ) → AgreesWith stop 0 n (is_killed o) → IsAskedAnswer (problem instance.now) (terms limits stop) (asked limits) (best_of first) o b (record { turns = result.turns; looks = looks_after 0 n (is_killed o) })) }
 {
@@ -391,6 +394,7 @@ fn search_on<W: Watch, L: Ledger>(
     requires parts { blank.parts ≡ L.parts }
     requires some { 0 < blank.parts }
     requires values { HaveValues instance.now first }
+    requires first { (gs : Option (List (Option Ratio))) × IsFirstBest (problem instance.now) gs (best_of first) }
     requires stops { W.stops watch.old < 2 ^ 64 - 1 }
     ensures { (n : ℕ) × (o : Outcome) × (b : Option says.ProvedBound) × ClaimTellsWith result.claim o b × W.came watch.old watch.new (answers n (is_killed o)) × ((stop : Option ℕ) → AgreesWith stop 0 n (is_killed o) → IsAskedAnswer (problem instance.now) (terms limits stop) (asked limits) (best_of first) o b (record { turns = result.turns; looks = looks_after 0 n (is_killed o) })) }
 {
@@ -446,6 +450,7 @@ pub fn search_from<W: Watch>(
     watch: &mut W,
 ) -> Searched
     requires values { HaveValues instance.now first }
+    requires first { (gs : Option (List (Option Ratio))) × IsFirstBest (problem instance.now) gs (best_of first) }
     requires stops { W.stops watch.old < 2 ^ 64 - 1 }
     ensures { (n : ℕ) × (o : Outcome) × (b : Option says.ProvedBound) × ClaimTellsWith result.claim o b × W.came watch.old watch.new (answers n (is_killed o)) × ((stop : Option ℕ) → AgreesWith stop 0 n (is_killed o) → IsAskedAnswer (problem instance.now) (terms limits stop) (asked limits) (best_of first) o b (record { turns = result.turns; looks = looks_after 0 n (is_killed o) })) }
 {

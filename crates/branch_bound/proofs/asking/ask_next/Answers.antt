@@ -85,7 +85,7 @@ returns-clause-begun g c = λ L D at'.
             let k = length-map w.nodes Means.node in
             ap (λ cs. nodes_with cs n) told ∙ nodes_more (Means.certificates v.certs) (record { rounds = Means.rounds v.rounds; nodes = Means.nodes w.nodes }) n ∙ at'.counted (length (Means.nodes w.nodes) + n) ∙ (omega arith);
         several = λ h. refl;
-        one = λ e. absurd (omega arith);
+        first = λ e. absurd (omega arith);
       };
       shown = told;
       begins = λ k. fresh_moment p K u c.begin_again.new.walk k (fresh g here) c.begin_again.ensures.ray given.variables (c.replace-rounds.ensures.after ∙ c.new-2.ensures) ∙ ap (begun_at (level p K u) k) (ap best c.begin_again.ensures.best);

@@ -68,7 +68,7 @@ returns-in-Ok-clause-ok g c =
       f.1,
       (
         tried c.in-Ok.trial c.try_at.new.relaxation.slots.items,
-        subst (λ (J : Instance). TriesBasis J (point_of r.work) (statuses_in r.work) (tried c.in-Ok.trial c.try_at.new.relaxation.slots.items)) (first_case_is p D r.rows.items w.cuts.items c.requires.fresh.uncut lvl.given.variables (lvl.one c.requires.one)) c.in-Ok.ensures.tries,
+        subst (λ (J : Instance). TriesBasis J (point_of r.work) (statuses_in r.work) (tried c.in-Ok.trial c.try_at.new.relaxation.slots.items)) (first_case_is p D r.rows.items w.cuts.items c.requires.fresh.uncut lvl.given.variables (lvl.first (let low = c.requires.suits.goal in let alone = c.requires.one in omega arith))) c.in-Ok.ensures.tries,
         subst (λ (y : List Ratio). GoesFromTrial (problem p) t (case D w c.args.depth) (rest D w c.args.depth) (moment p L D v w now) y (tried c.in-Ok.trial c.try_at.new.relaxation.slots.items) (To (moment p L f.0 c.go_on.new.level c.go_on.new.walk now)))
             (same_point p r c.try_at.new.relaxation t'.work) f.2,
       ),
@@ -85,7 +85,7 @@ returns-in-Ok-clause-err g c =
     if_err c.go_on.result
     (λ ended. or_memory w ended (λ goes L D t looks lvl. (
       tried c.in-Ok.trial c.try_at.new.relaxation.slots.items,
-      subst (λ (J : Instance). TriesBasis J (point_of r.work) (statuses_in r.work) (tried c.in-Ok.trial c.try_at.new.relaxation.slots.items)) (first_case_is p D r.rows.items w.cuts.items c.requires.fresh.uncut lvl.given.variables (lvl.one c.requires.one)) c.in-Ok.ensures.tries,
+      subst (λ (J : Instance). TriesBasis J (point_of r.work) (statuses_in r.work) (tried c.in-Ok.trial c.try_at.new.relaxation.slots.items)) (first_case_is p D r.rows.items w.cuts.items c.requires.fresh.uncut lvl.given.variables (lvl.first (let low = c.requires.suits.goal in let alone = c.requires.one in omega arith))) c.in-Ok.ensures.tries,
       subst (λ (y : List Ratio). GoesFromTrial (problem p) t (case D w c.args.depth) (rest D w c.args.depth) (moment p L D v w (record { turns = r.turns.done; looks = looks })) y (tried c.in-Ok.trial c.try_at.new.relaxation.slots.items) (Out (outcome_of (Means.certificates v.certs) ended) (record { turns = r.turns.done; looks = looks })))
           (same_point p r c.try_at.new.relaxation t'.work)
           (subst (λ (n : ℕ). GoesFromTrial (problem p) t (case D w c.args.depth) (rest D w c.args.depth) (moment p L D v w (record { turns = n; looks = looks })) (point_of c.try_at.new.relaxation.work) (tried c.in-Ok.trial c.try_at.new.relaxation.slots.items) (Out (outcome_of (Means.certificates v.certs) ended) (record { turns = n; looks = looks })))
