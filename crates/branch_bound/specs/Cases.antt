@@ -16,7 +16,7 @@ use Rattle.simplex.specs.Cuts.{Suits}
 use Rattle.simplex.specs.Memory.{width_in, height_in}
 use Rattle.search_rules.specs.Search as Rules
 use Rattle.search_rules.specs.Search.{Found, SearchMoment, Outcome, NextOfSearch, Optimal, Infeasible, TakesPoint, MeetsPoint, GoesFrom, ImprovesBest, early}
-use Rattle.search_rules.specs.Beginnings.{ComesFrom, IsAnswerFrom}
+use Rattle.search_rules.specs.Beginnings.{IsFirstBest}
 use Rattle.branch_bound.specs.declared.found.Found as Best
 use Rattle.branch_bound.specs.declared.ended.Ended.{Ended}
 use Rattle.branch_bound.specs.declared.ended.Ended.TheVariants.{Unbounded, Early}
@@ -137,8 +137,9 @@ abbrev pub is_killed_by : Result (Unit {0}) Ended → Bool
 is_killed_by (Ok x) = false
 is_killed_by (Err ended) = was_killed ended
 
--- the moments of a search have come to one at which the code stands, and what its open cases carry is kept, where it is asked for
+-- the moments of a search from a first point on have come to one at which the code stands, and what its open cases carry is kept, where it is asked for
 pub record StandsIn {L : _} {G : _} (p : Parts) (t : Terms) (a : Asked) (start : Option Found) (r : Relaxation L G) (v : Level) (w : Walk) (c : Clock) : Type 0 where
+  pub first : (gs : Option (List (Option Ratio))) × IsFirstBest (problem p) gs start
   pub at : SearchMoment
   pub carried : List Carries.Carried
   pub numbers : List (Option Ratio)

@@ -1,11 +1,12 @@
 use Rattle.std.proofs.Common.{rules, ◌≡◌, suc, ◌+◌, ◌<◌, ◌≤◌, true, false, [], ◌∷◌, ◌++◌, length, sym, ◌∙◌, subst}
+use Rattle.std.proofs.lemmas.Bool.{false≢true}
 use Rattle.simplex.specs.Answers.{was_stopped}
 use Rattle.simplex.specs.Memory.{ended_with}
 use Rattle.simplex_rules.specs.Ends as Ended
 use Rattle.simplex_rules.specs.Looks.{went_on}
 use Rattle.branch_bound.proofs.Ready.{walk_at}
 use Rattle.branch_bound.proofs.CaseSteps.{stopped_is, not_killed}
-use Rattle.branch_bound.proofs.CaseMoments.{limit_carries, look_carries, stop_carries, ran_to, visit_carries}
+use Rattle.branch_bound.proofs.CaseMoments.{limit_carries, near_carries, look_carries, stop_carries, ran_to, visit_carries}
 use Rattle.branch_bound.proofs.state.SearchState.step.Goals as goal
 
 pub returns-then-self-len-clause-moments : goal.returns-then-self-len-clause-moments
@@ -19,7 +20,22 @@ returns-then-self-len-clause-moments g c =
       killed = false;
       is = c.give_up.ensures.killed;
       came = g.met.W.Watch.stays a.watch.now;
-      carries = limit_carries a.instance.now a.limits s.relaxation s.level s.walk a.depth at s.level c.give_up.new.walk c.give_up.result c.give_up.ensures.told low;
+      carries = limit_carries a.instance.now a.limits s.relaxation s.level s.walk a.depth at c.give_up.new.walk c.give_up.result c.give_up.ensures.is c.give_up.ensures.rest low;
+    }
+
+pub returns-then-is_near-clause-moments : goal.returns-then-is_near-clause-moments
+returns-then-is_near-clause-moments g c =
+    let a = c.args in
+    let s = a.self.now in
+    let at = walk_at (length a.instance.now.vars) a.depth s.walk c.requires.state.walk c.requires.at in
+    let low : s.level.before + length s.walk.nodes < a.limits.nodes = search rules in
+    record {
+      looks = 0;
+      killed = false;
+      is = c.give_up-then-is_near.ensures.killed;
+      came = g.met.W.Watch.stays a.watch.now;
+      carries = near_carries a.instance.now a.limits s.relaxation s.level s.walk a.depth at c.give_up-then-is_near.new.walk c.give_up-then-is_near.result c.requires.state.keeps low c.give_up-then-is_near.ensures.is c.give_up-then-is_near.ensures.rest
+          (λ K D k shown. let h = c.is_near.ensures K D k shown in h.0 c.if-is_near.true);
     }
 
 pub returns-then-look-clause-moments : goal.returns-then-look-clause-moments
@@ -33,7 +49,8 @@ returns-then-look-clause-moments g c =
       killed = true;
       is = c.give_up-then-look.ensures.killed;
       came = subst (λ b. g.W.Watch.came a.watch.now c.look.new.self (b ∷ [])) c.if-look.true c.look.ensures.came;
-      carries = look_carries a.instance.now a.limits s.relaxation s.level s.walk a.depth at s.level c.give_up-then-look.new.walk c.give_up-then-look.result low c.give_up-then-look.ensures.told;
+      carries = look_carries a.instance.now a.limits s.relaxation s.level s.walk a.depth at c.give_up-then-look.new.walk c.give_up-then-look.result c.requires.state.keeps low
+          (λ K D k shown near. let h = c.is_near.ensures K D k shown in false≢true (sym c.if-is_near.false ∙ h.1 near)) c.give_up-then-look.ensures.is c.give_up-then-look.ensures.rest;
     }
 
 pub returns-then-is_stop-clause-moments : goal.returns-then-is_stop-clause-moments
@@ -52,7 +69,9 @@ returns-then-is_stop-clause-moments g c =
       killed = true;
       is = c.give_up-then-is_stop.ensures.killed;
       came = g.met.W.Watch.joined a.watch.now c.look.new.self c.run_case-end.new.watch (false ∷ []) (went_on k ++ true ∷ []) first came;
-      carries = stop_carries a.instance.now a.limits s.relaxation s.level s.walk a.depth at s.level c.give_up-then-is_stop.new.walk c.give_up-then-is_stop.result low c.give_up-then-is_stop.ensures.told r c.is_some-zero_goal.result k (sym c.is_some-zero_goal.ensures) (sym c.requires.state.most)
+      carries = stop_carries a.instance.now a.limits s.relaxation s.level s.walk a.depth at c.give_up-then-is_stop.new.walk c.give_up-then-is_stop.result c.requires.state.keeps low
+          (λ K D k shown near. let h = c.is_near.ensures K D k shown in false≢true (sym c.if-is_near.false ∙ h.1 near)) c.give_up-then-is_stop.ensures.is c.give_up-then-is_stop.ensures.rest
+          r _ c.run_case-end.ensures.given c.run_case-end.ensures.rows c.is_some-zero_goal.result k (sym c.is_some-zero_goal.ensures) (sym c.requires.state.most)
           (λ D t looks given most tells. (run D t looks given most tells).0);
     }
 
@@ -83,5 +102,6 @@ returns-clause-moments g c =
       is = not_killed c.visit.result c.visit.ensures.went_on;
       came = g.met.W.Watch.joined a.watch.now c.look.new.self c.run_case-end.new.watch (false ∷ []) (went_on k) first came;
       carries = visit_carries a.instance.now a.limits s.relaxation s.level s.walk a.depth at r _ c.run_case-end.ensures.given c.run_case-end.ensures.rows low c.is_some-zero_goal.result (sym c.is_some-zero_goal.ensures) (sym c.requires.state.most) k c.run_case-end.result run
-          c.visit.new.relaxation c.visit.new.level c.visit.new.walk c.visit.ensures.turns c.visit.ensures.certs c.visit.result c.visit.ensures.ok c.visit.ensures.err;
+          c.requires.state.keeps (λ K D k shown near. let h = c.is_near.ensures K D k shown in false≢true (sym c.if-is_near.false ∙ h.1 near))
+          c.visit.new.relaxation c.visit.new.level c.visit.new.walk c.visit.ensures.turns c.visit.ensures.certs c.visit.result c.visit.ensures.leaves c.visit.ensures.stays c.visit.ensures.ok c.visit.ensures.err;
     }
