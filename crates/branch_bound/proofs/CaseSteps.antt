@@ -49,21 +49,57 @@ after_one looks k (Some q) a = omega arith
 abbrev pub clock_of : ℕ → ℕ → Clock
 clock_of turns looks = record { turns = turns; looks = looks }
 
--- a search has come to a moment at which a case waits
-module _ (P : Problem) (t : Terms) (start : Option Found) (m : SearchMoment) (comes : ComesFrom P t start m) (C : Case) (rest : List Case) (is : m.waiting ≡ C ∷ rest) where
+-- a search has come to a moment, where this is carried and numbered
+module _ (P : Problem) (t : Terms) (a : Asked) (start : Option Found) (m : SearchMoment) (ls : List Carried) (ys : List (Option Ratio)) (comes : ComesAsked P t a start m ls ys) where
+  -- whatever ends there is an answer, without a bound
+  pub answered : (o : Outcome) (c : Clock) → EndsAsked P t a m ys o c → IsAskedAnswer P t a start o None c
+  answered o c e = by a.bound refl
+    where
+      by : (b : Bool) → a.bound ≡ b → IsAskedAnswer P t a start o None c
+      by true is = gave_up_closing is comes e
+      by false is = asked (record { last = m; carried = ls; numbers = ys; comes = comes; ends = e; has = subst (λ (b : Bool). FindsAsked P b m ls o None) (sym is) refl })
+
+  -- where no case waits nothing is near
+  module _ (none : m.waiting ≡ []) where
+    nothing_numbered : ys ≡ []
+    nothing_numbered = let n = as_many P t a start m ls ys comes in no_more ys (n.1 ∙ ap (λ (Cs : List Case). length Cs) none)
+
+    pub never_near : StopsNear P t a m ys → ⊥
+    never_near s = by a.gap (subst (λ (l : List (Option Ratio)). IsNearEnough P a.gap m l) nothing_numbered s.near)
+      where
+        by : (g : Option gaps.Gap) → IsNearEnough P g m [] → ⊥
+        by None h = h
+        by (Some g) h = h.some refl
+
+    pub level_ends : (o : Outcome) (c : Clock) → IsNextInSearch P t m (Out o c) → EndsAsked P t a m ys o c
+    level_ends o c next = ends never_near next
+
+    pub level_on : (n : SearchMoment) → IsNextInSearch P t m (To n) → ComesAsked P t a start n (None ∷ []) (None ∷ [])
+    level_on n next =
+        let both = as_many P t a start m ls ys comes in
+        let nothing = no_more ls (both.0 ∙ ap (λ (Cs : List Case). length Cs) none) in
+        asked_level (subst (λ (l : List Carried). ComesAsked P t a start m l []) nothing (subst (λ (l : List (Option Ratio)). ComesAsked P t a start m ls l) nothing_numbered comes)) none next
+
+-- at which a case waits
+module _ (P : Problem) (t : Terms) (a : Asked) (start : Option Found) (m : SearchMoment) (ls : List Carried) (ys : List (Option Ratio)) (comes : ComesAsked P t a start m ls ys) (C : Case) (rest : List Case) (is : m.waiting ≡ C ∷ rest) where
   open_case : m.waiting ≡ [] → ⊥
   open_case e = let q : C ∷ rest ≡ [] = sym is ∙ e in cc
 
-  pub at_limit : (o : Outcome) → t.nodes ≤ nodes_so_far m → o ≡ early m.best (NodeLimit t.nodes) → IsAnswerFrom P t start o (clock_of m.clock.turns (m.clock.looks + 0))
+  pub at_limit : (o : Outcome) → t.nodes ≤ nodes_so_far m → o ≡ early m.best (NodeLimit t.nodes) → EndsAsked P t a m ys o (clock_of m.clock.turns (m.clock.looks + 0))
   at_limit o h e =
       let l : m.clock.looks + 0 ≡ m.clock.looks = omega arith in
-      searched (record { last = m; comes = comes; ends = inr (inl (open_case, inl (h, ap (λ n. Out o (clock_of m.clock.turns n)) l ∙ ap (λ (o : Outcome). Out o m.clock) e))) })
+      ends (λ s. let w = s.within in omega arith) (inr (inl (open_case, inl (h, ap (λ n. Out o (clock_of m.clock.turns n)) l ∙ ap (λ (o : Outcome). Out o m.clock) e))))
 
-  module _ (within : nodes_so_far m < t.nodes) where
-    pub at_look : (o : Outcome) → t.stop ≡ Some (m.clock.looks + 0 + 1) → o ≡ early m.best Killed → IsAnswerFrom P t start o (clock_of m.clock.turns (m.clock.looks + 0 + 1))
+  pub at_near : (o : Outcome) → StopsNear P t a m ys → o ≡ early m.best Gap → EndsAsked P t a m ys o (clock_of m.clock.turns (m.clock.looks + 0))
+  at_near o s e =
+      let l : m.clock.looks ≡ m.clock.looks + 0 = omega arith in
+      subst (λ (n : ℕ). EndsAsked P t a m ys o (clock_of m.clock.turns n)) l (subst (λ (q : Outcome). EndsAsked P t a m ys q m.clock) (sym e) (near s))
+
+  module _ (within : nodes_so_far m < t.nodes) (far : StopsNear P t a m ys → ⊥) where
+    pub at_look : (o : Outcome) → t.stop ≡ Some (m.clock.looks + 0 + 1) → o ≡ early m.best Killed → EndsAsked P t a m ys o (clock_of m.clock.turns (m.clock.looks + 0 + 1))
     at_look o s e =
         let l : m.clock.looks + 0 + 1 ≡ m.clock.looks + 1 = omega arith in
-        searched (record { last = m; comes = comes; ends = inr (inl (open_case, inr (within, s ∙ ap Some l, ap (λ n. Out o (clock_of m.clock.turns n)) l ∙ ap (λ (o : Outcome). Out o (looked_once m.clock)) e))) })
+        ends far (inr (inl (open_case, inr (within, s ∙ ap Some l, ap (λ n. Out o (clock_of m.clock.turns n)) l ∙ ap (λ (o : Outcome). Out o (looked_once m.clock)) e))))
 
     -- its run, whose first look is that before it, among k more
     module _ (zeroed : Bool) (z : is_some C.ray ≡ zeroed) (turns k : ℕ) where
@@ -77,18 +113,14 @@ module _ (P : Problem) (t : Terms) (start : Option Found) (m : SearchMoment) (co
             (subst (λ (b : Bool). Run C.program b t (looked_once m.clock) e (clock_of turns l)) (sym z) run);
       }
 
-      pub stopped_run : (o : Outcome) → t.stop ≡ Some (m.clock.looks + suc k + 1) → Run C.program zeroed t (looked_once m.clock) Stopped (clock_of turns (m.clock.looks + 1 + k + 1)) → o ≡ early m.best Killed → IsAnswerFrom P t start o (clock_of turns (m.clock.looks + suc k + 1))
+      pub stopped_run : (o : Outcome) → t.stop ≡ Some (m.clock.looks + suc k + 1) → Run C.program zeroed t (looked_once m.clock) Stopped (clock_of turns (m.clock.looks + 1 + k + 1)) → o ≡ early m.best Killed → EndsAsked P t a m ys o (clock_of turns (m.clock.looks + suc k + 1))
       stopped_run o stop run told =
-          searched (record {
-            last = m;
-            comes = comes;
-            ends = inr (inr (record {
-              end = Stopped;
-              clock = clock_of turns (m.clock.looks + suc k + 1);
-              visit = case_run Stopped (m.clock.looks + suc k + 1) (not_yet m.clock.looks k t.stop stop) (m.clock.looks + 1 + k + 1) (omega arith) run;
-              goes = ap (λ (o : Outcome). Out o (clock_of turns (m.clock.looks + suc k + 1))) told;
-            }));
-          })
+          ends far (inr (inr (record {
+            end = Stopped;
+            clock = clock_of turns (m.clock.looks + suc k + 1);
+            visit = case_run Stopped (m.clock.looks + suc k + 1) (not_yet m.clock.looks k t.stop stop) (m.clock.looks + 1 + k + 1) (omega arith) run;
+            goes = ap (λ (o : Outcome). Out o (clock_of turns (m.clock.looks + suc k + 1))) told;
+          })))
 
       -- which didn't stop
       module _ (e : End) (after : IsAfter (m.clock.looks + suc k) t.stop) (run : Run C.program zeroed t (looked_once m.clock) e (clock_of turns (m.clock.looks + 1 + k))) where
@@ -98,16 +130,37 @@ module _ (P : Problem) (t : Terms) (start : Option Found) (m : SearchMoment) (co
         visited : IsCaseRun P t m e (clock_of turns (m.clock.looks + suc k))
         visited = case_run e (m.clock.looks + suc k) (not_now m.clock.looks k t.stop after) (m.clock.looks + 1 + k) (omega arith) run
 
-        next_on : (next : NextOfSearch) → GoesFrom P t C rest (record m { clock = clock }) (looked_once m.clock) e next → IsNextInSearch P t m next
+        visit_on : (next : NextOfSearch) → GoesFrom P t C rest (record m { clock = clock }) (looked_once m.clock) e next → IsVisit P t m next
         unfolding visited case_run
-        next_on next goes = inr (inr (record { end = e; clock = clock; visit = visited; goes = goes }))
+        visit_on next goes = record { end = e; clock = clock; visit = visited; goes = goes }
 
-        pub comes_on : (n : SearchMoment) → GoesFrom P t C rest (record m { clock = clock }) (looked_once m.clock) e (To n) → ComesFrom P t start n
-        comes_on n goes = goes_on comes (next_on (To n) goes)
+        pub lacks_memory : IsAskedAnswer P t a start (early m.best Memory) None clock
+        lacks_memory = gave_up_after comes visited
 
-        pub ends_on : (w : Walk) (ended : Ended) (cs : List Certificate) → m.best ≡ best w.best → OrMemory w ended (GoesFrom P t C rest (record m { clock = clock }) (looked_once m.clock) e (Out (outcome_of cs ended) clock)) → IsAnswerFrom P t start (outcome_of cs ended) clock
-        ends_on w ended cs b (inl q) = subst (λ (o : Outcome). IsAnswerFrom P t start o clock) (sym (q cs ∙ ap (λ b. early b Memory) (sym b))) (given_up_after comes visited)
-        ends_on w ended cs b (inr goes) = searched (record { last = m; comes = comes; ends = next_on (Out (outcome_of cs ended) clock) goes })
+        pub run_ends : (o : Outcome) → GoesFrom P t C rest (record m { clock = clock }) (looked_once m.clock) e (Out o clock) → EndsAsked P t a m ys o clock
+        run_ends o goes = ends far (inr (inr (visit_on (Out o clock) goes)))
+
+        -- nothing is carried along a direction
+        pub none_carried : IsProblem P → (gs : Option (List (Option Ratio))) → IsFirstBest P gs start → (k : Carried) (ks : List Carried) → ls ≡ k ∷ ks → CarriesNothing C.ray e k
+        none_carried good gs first k ks is_ls =
+            let here = subst (λ (l : List Carried). ComesAsked P t a start m l ys) is_ls comes in
+            TODO
+
+        -- the cases that come in its place carry what the run leaves
+        module _ (n : SearchMoment) (goes : GoesFrom P t C rest (record m { clock = clock }) (looked_once m.clock) e (To n)) where
+          abbrev pub new : List Case
+          new = (goes_part P t C rest (record m { clock = clock }) (looked_once m.clock) e n goes).new
+
+          pub new_is : n.waiting ≡ new ++ rest
+          new_is = (goes_part P t C rest (record m { clock = clock }) (looked_once m.clock) e n goes).is
+
+          pub comes_on : (k : Carried) (ks : List Carried) (x : Option Ratio) (xs : List (Option Ratio)) → ls ≡ k ∷ ks → ys ≡ x ∷ xs → ComesAsked P t a start n (map (λ (D : Case). carried_after C.ray e k) new ++ ks) (map (λ (D : Case). number_after C.ray e x) new ++ xs)
+          unfolding visit_on visited case_run
+          comes_on k ks x xs carried_is numbers_are =
+              asked_on
+              (subst (λ (l : List Carried). ComesAsked P t a start m l (x ∷ xs)) carried_is (subst (λ (l : List (Option Ratio)). ComesAsked P t a start m ls l) numbers_are comes))
+              (λ s. far (record { within = s.within; near = subst (λ (l : List (Option Ratio)). IsNearEnough P a.gap m l) (sym numbers_are) s.near }))
+              (visit_on (To n) goes) new new_is
 
 pub stopped_is : {L : _} {G : _} (e : LpEnd) (w : Work L G) → was_stopped e ≡ true → ended_with e w ≡ Stopped
 stopped_is (Has.Best b) w h = absurd (cc)

@@ -89,14 +89,15 @@ Leaves w x d new = (x.keeps ≡ w.keeps) × (w.keeps ≡ true → kept_by x x.ne
 abbrev pub IsLeft : Option (List Ratio) → End → Option Carried → Option Carried → Type 0
 IsLeft r e k y = (multipliers_of y ≡ Rules.carried_after r e (multipliers_of k)) × (number_of y ≡ gaps.number_after r e (number_of k))
 
-abbrev pub LeavesBy : Walk → Walk → ℕ → Option (List Ratio) → End → Type 0
-LeavesBy w x d r e = (new : List (Option Carried)) × All (IsLeft r e (carried_at w.carried.items d)) new × Leaves w x d new
-
 -- nothing is carried below a ray, nor by a case whose run ends along a direction
 abbrev pub CarriesNoneAlong : Walk → ℕ → Option (List Ratio) → End → Type 0
 CarriesNoneAlong w d (Some r) e = carried_at w.carried.items d ≡ None
 CarriesNoneAlong w d None (Endless x z) = carried_at w.carried.items d ≡ None
 CarriesNoneAlong w d None e = Unit {0}
+
+-- what new cases carry is left by this end of the run
+abbrev pub LeavesBy : Walk → Walk → ℕ → Option (List Ratio) → End → Type 0
+LeavesBy w x d r e = (new : List (Option Carried)) × (CarriesNoneAlong w d r e → All (IsLeft r e (carried_at w.carried.items d)) new) × Leaves w x d new
 
 -- where it is kept, there is a place for the case at hand and for each that comes of a branch above
 abbrev pub HasCarried : Walk → Type 0

@@ -96,19 +96,19 @@ EndsForMemory w ended = (cs : List Certificate) → outcome_of cs ended ≡ earl
 abbrev pub OrMemory : Walk → Ended → Type 0 → Type 0
 OrMemory w ended P = EndsForMemory w ended ⊎ P
 
--- memory was wanting
-abbrev pub IsForMemory : Ended → Type 0
-IsForMemory ended = (b : Option Best.Found) × (ended ≡ Early b Memory)
+-- it is so, with that point itself
+abbrev pub IsForMemory : Walk → Ended → Type 0
+IsForMemory w ended = ended ≡ Early w.best Memory
 
 -- a walk that is given up stays as it was but for its best point, which is told, and for its ray; unless memory was wanting
 abbrev pub StaysIn : Walk → Walk → Ended → Type 0
 StaysIn w x (Unbounded f z) = Unit {0}
-StaysIn w x (Early b k) = (k ≡ Memory) ⊎ ((b ≡ w.best) × (record x { best = w.best; ray = w.ray } ≡ w))
+StaysIn w x (Early b k) = (b ≡ w.best) × ((k ≡ Memory) ⊎ (record x { best = w.best; ray = w.ray } ≡ w))
 
 -- and so do the level and what runs are given
 abbrev pub StaysAt : {L : _} {G : _} → Relaxation L G → Level → Walk → Relaxation L G → Level → Walk → Ended → Type 0
 StaysAt r v w s u x (Unbounded f z) = Unit {0}
-StaysAt r v w s u x (Early b k) = (k ≡ Memory) ⊎ ((b ≡ w.best) × (record x { best = w.best; ray = w.ray } ≡ w) × (u ≡ v) × (s.ends ≡ r.ends) × (s.rows.items ≡ r.rows.items))
+StaysAt r v w s u x (Early b k) = (b ≡ w.best) × ((k ≡ Memory) ⊎ ((record x { best = w.best; ray = w.ray } ≡ w) × (u ≡ v) × (s.ends ≡ r.ends) × (s.rows.items ≡ r.rows.items)))
 
 -- from this point of the case at hand on, where the level has program L and the cases come of D
 abbrev pub MeetsAt : Parts → Instance → Instance → Level → Walk → ℕ → Terms → Clock → List Ratio → List Multiplier → NextOfSearch → Type 0

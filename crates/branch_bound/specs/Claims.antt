@@ -1,5 +1,5 @@
 -- What a claim tells of a search.
-use Rattle.std.specs.Prelude.{◌≡◌, Bool, true, false, Option, None, Some}
+use Rattle.std.specs.Prelude.{◌≡◌, ◌⊎◌, Bool, true, false, Option, None, Some}
 use Rattle.evidence.specs.Claim as Says
 use Rattle.certificate.specs.Meanings as Means
 use Rattle.certificate.specs.declared.causes.Cause.{Cause}
@@ -62,3 +62,7 @@ is_kill Memory = false
 -- a look stopped the search
 abbrev pub is_killed : Outcome → Bool
 is_killed o = is_for is_kill o
+
+-- where a look stopped the search the outcome has that cause; or memory was wanting for a bound that was asked for
+abbrev pub TellsStop : Bool → Bool → Outcome → Type 0
+TellsStop asks killed o = (killed ≡ is_killed o) ⊎ ((asks ≡ true) × (killed ≡ true) × (cause_of o ≡ Some Memory))

@@ -125,7 +125,7 @@ pub fn leaf(walk: &mut Walk, depth: usize, node: Node) -> Result<(), Ended>
     ensures ok { IfOk result (λ _. IsClosedBy walk.old walk.new depth (Means.node node)) }
     ensures one { IfOk result (λ _. length walk.new.nodes ≡ length walk.old.nodes + 1) }
     ensures err { IfErr result (EndsForMemory walk.old) }
-    ensures memory { IfErr result IsForMemory }
+    ensures memory { IfErr result (IsForMemory walk.old) }
     ensures went_on { IfErr result (λ ended. was_killed ended ≡ false) }
 {
     match close(walk, depth, node) {
@@ -151,7 +151,7 @@ pub fn branch(
     ensures ok { IfOk result (λ _. IsDividedBy walk.old walk.new depth at.by at.col) }
     ensures one { IfOk result (λ _. length walk.new.nodes ≡ length walk.old.nodes + 1) }
     ensures err { IfErr result (EndsForMemory walk.old) }
-    ensures memory { IfErr result IsForMemory }
+    ensures memory { IfErr result (IsForMemory walk.old) }
     ensures went_on { IfErr result (λ ended. was_killed ended ≡ false) }
 {
     match divide(walk, depth, at.col, at.by, carried) {

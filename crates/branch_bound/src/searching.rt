@@ -1,5 +1,5 @@
 //! The search, case by case.
-ghost use Rattle.std.specs.Prelude.{◌≡◌, ◌⊎◌, ℕ, ◌+◌, ◌-◌, ◌^◌, ◌<◌, ◌≤◌, Option, None, Some, List, [], true, length, map, IfOk};
+ghost use Rattle.std.specs.Prelude.{◌≡◌, ◌⊎◌, ℕ, ◌+◌, ◌-◌, ◌^◌, ◌<◌, ◌≤◌, Bool, Option, None, Some, List, [], true, length, map, IfOk};
 ghost use Rattle.rational.specs.Ratio.{Ratio};
 ghost use Rattle.fraction.specs.Frac.{ratio, ratios};
 ghost use Rattle.evidence.specs.Point.{value_at};
@@ -14,7 +14,7 @@ ghost use Rattle.search_rules.specs.Asked.{IsAskedAnswer};
 ghost use Rattle.search_rules.specs.Beginnings.{IsFirstBest};
 ghost use Rattle.search_rules.specs.Outcomes.{IsPlain, HaveOneRange};
 ghost use Rattle.no_cycles.specs.Beginning.{BeginsFeasible};
-ghost use Rattle.branch_bound.specs.Claims.{ClaimTells, ClaimTellsWith, claimed_cause, is_killed};
+ghost use Rattle.branch_bound.specs.Claims.{ClaimTells, ClaimTellsWith, TellsStop, claimed_cause, is_killed};
 ghost use Rattle.branch_bound.specs.Bounds.{asked, HoldsAt, CarriesNone};
 ghost use Rattle.branch_bound.specs.Walks.{best as best_of, IsWalk};
 ghost use Rattle.branch_bound.specs.Trials.{IsFreshWalk};
@@ -255,7 +255,7 @@ fn explore<W: Watch, L: Ledger>(
     requires values { HaveValues instance.now first }
     requires first { (gs : Option (List (Option Ratio))) × IsFirstBest (problem instance.now) gs (best_of first) }
     requires stops { W.stops watch.old < 2 ^ 64 - 1 }
-    ensures { (n : ℕ) × (o : Outcome) × (b : Option says.ProvedBound) × ClaimTellsWith result.claim o b × W.came watch.old watch.new (answers n (is_killed o)) × ((stop : Option ℕ) → AgreesWith stop 0 n (is_killed o) → IsAskedAnswer (problem instance.now) (terms limits stop) (asked limits) (best_of first) o b (record { turns = result.turns; looks = looks_after 0 n (is_killed o) })) }
+    ensures { (n : ℕ) × (killed : Bool) × (o : Outcome) × (b : Option says.ProvedBound) × ClaimTellsWith result.claim o b × TellsStop limits.bound killed o × W.came watch.old watch.new (answers n killed) × ((stop : Option ℕ) → AgreesWith stop 0 n killed → IsAskedAnswer (problem instance.now) (terms limits stop) (asked limits) (best_of first) o b (record { turns = result.turns; looks = looks_after 0 n killed })) }
 {
     state.walk.best = first;
     match state.search_levels(alloc, instance, limits, watch) {
@@ -396,7 +396,7 @@ fn search_on<W: Watch, L: Ledger>(
     requires values { HaveValues instance.now first }
     requires first { (gs : Option (List (Option Ratio))) × IsFirstBest (problem instance.now) gs (best_of first) }
     requires stops { W.stops watch.old < 2 ^ 64 - 1 }
-    ensures { (n : ℕ) × (o : Outcome) × (b : Option says.ProvedBound) × ClaimTellsWith result.claim o b × W.came watch.old watch.new (answers n (is_killed o)) × ((stop : Option ℕ) → AgreesWith stop 0 n (is_killed o) → IsAskedAnswer (problem instance.now) (terms limits stop) (asked limits) (best_of first) o b (record { turns = result.turns; looks = looks_after 0 n (is_killed o) })) }
+    ensures { (n : ℕ) × (killed : Bool) × (o : Outcome) × (b : Option says.ProvedBound) × ClaimTellsWith result.claim o b × TellsStop limits.bound killed o × W.came watch.old watch.new (answers n killed) × ((stop : Option ℕ) → AgreesWith stop 0 n killed → IsAskedAnswer (problem instance.now) (terms limits stop) (asked limits) (best_of first) o b (record { turns = result.turns; looks = looks_after 0 n killed })) }
 {
     match begin(alloc, instance, limits, Steps::<L>::new(blank)) {
         Ok(state) => explore(alloc, instance, limits, state, first, watch),
@@ -452,7 +452,7 @@ pub fn search_from<W: Watch>(
     requires values { HaveValues instance.now first }
     requires first { (gs : Option (List (Option Ratio))) × IsFirstBest (problem instance.now) gs (best_of first) }
     requires stops { W.stops watch.old < 2 ^ 64 - 1 }
-    ensures { (n : ℕ) × (o : Outcome) × (b : Option says.ProvedBound) × ClaimTellsWith result.claim o b × W.came watch.old watch.new (answers n (is_killed o)) × ((stop : Option ℕ) → AgreesWith stop 0 n (is_killed o) → IsAskedAnswer (problem instance.now) (terms limits stop) (asked limits) (best_of first) o b (record { turns = result.turns; looks = looks_after 0 n (is_killed o) })) }
+    ensures { (n : ℕ) × (killed : Bool) × (o : Outcome) × (b : Option says.ProvedBound) × ClaimTellsWith result.claim o b × TellsStop limits.bound killed o × W.came watch.old watch.new (answers n killed) × ((stop : Option ℕ) → AgreesWith stop 0 n killed → IsAskedAnswer (problem instance.now) (terms limits stop) (asked limits) (best_of first) o b (record { turns = result.turns; looks = looks_after 0 n killed })) }
 {
     search_on::<W, Brand>(alloc, instance, limits, first, watch, Blank::new(1))
 }

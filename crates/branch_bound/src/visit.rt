@@ -16,7 +16,7 @@ ghost use Rattle.branch_bound.specs.Walks.{case, IsWalk, IsAt};
 ghost use Rattle.branch_bound.specs.Levels.{moment, IsGiven, IsAtLevel};
 ghost use Rattle.branch_bound.specs.Trials.{RanTo};
 ghost use Rattle.branch_bound.specs.Cases.{outcome_of, was_killed, IsWalkReady, HasGoneOn, clock_at, OrMemory, StaysIn, StaysAt, GoesAt, HaveValues};
-ghost use Rattle.branch_bound.specs.Bounds.{carried_at, HasCarried, Leaves, LeavesBy, CarriesNoneAlong};
+ghost use Rattle.branch_bound.specs.Bounds.{HasCarried, Leaves, LeavesBy};
 ghost use Rattle.branch_bound.specs.Walks.{ray as ray_in};
 
 use crate::along::first_moving;
@@ -57,7 +57,7 @@ fn at_best<L: Ledger>(
     requires values { HaveValues instance.now walk.old.best }
     requires carried { HasCarried walk.old }
     ensures carried { IfOk result (λ _. HasCarried walk.new) }
-    ensures leaves { IfOk result (λ _. CarriesNoneAlong walk.old depth (ray_in walk.old.ray) (Best (ratio bound) (point_of relaxation.old.work) (mults_of relaxation.old.work)) → LeavesBy walk.old walk.new depth (ray_in walk.old.ray) (Best (ratio bound) (point_of relaxation.old.work) (mults_of relaxation.old.work))) }
+    ensures leaves { IfOk result (λ _. LeavesBy walk.old walk.new depth (ray_in walk.old.ray) (Best (ratio bound) (point_of relaxation.old.work) (mults_of relaxation.old.work))) }
     ensures on { IfOk result (λ _. HasGoneOn instance.now limits level.old walk.old relaxation.new level.new walk.new) }
     ensures certs { level.new.certs ≡ level.old.certs }
     ensures turns { relaxation.new.turns ≡ relaxation.old.turns }
@@ -101,7 +101,7 @@ fn keep_ray<L: Ledger>(
     requires values { HaveValues instance.now walk.old.best }
     requires carried { HasCarried walk.old }
     ensures carried { IfOk result (λ _. HasCarried walk.new) }
-    ensures leaves { IfOk result (λ _. carried_at walk.old.carried.items depth ≡ None → LeavesBy walk.old walk.new depth (ray_in walk.old.ray) (Endless (point_of relaxation.now.work) (ray_of relaxation.now.work))) }
+    ensures leaves { IfOk result (λ _. LeavesBy walk.old walk.new depth (ray_in walk.old.ray) (Endless (point_of relaxation.now.work) (ray_of relaxation.now.work))) }
     ensures values { IfOk result (λ _. HaveValues instance.now walk.new.best) }
     ensures walk { IfOk result (λ _. IsWalk (length instance.now.vars) walk.new) }
     ensures one { IfOk result (λ _. length walk.new.nodes ≡ length walk.old.nodes + 1) }
@@ -137,7 +137,7 @@ fn at_endless<L: Ledger>(
     requires values { HaveValues instance.now walk.old.best }
     requires carried { HasCarried walk.old }
     ensures carried { IfOk result (λ _. HasCarried walk.new) }
-    ensures leaves { IfOk result (λ _. carried_at walk.old.carried.items depth ≡ None → LeavesBy walk.old walk.new depth (ray_in walk.old.ray) (Endless (point_of relaxation.now.work) (ray_of relaxation.now.work))) }
+    ensures leaves { IfOk result (λ _. LeavesBy walk.old walk.new depth (ray_in walk.old.ray) (Endless (point_of relaxation.now.work) (ray_of relaxation.now.work))) }
     ensures values { IfOk result (λ _. HaveValues instance.now walk.new.best) }
     ensures walk { IfOk result (λ _. IsWalk (length instance.now.vars) walk.new) }
     ensures one { IfOk result (λ _. length walk.new.nodes ≡ length walk.old.nodes + 1) }
@@ -210,7 +210,7 @@ pub fn visit<L: Ledger>(
     requires values { HaveValues instance.now walk.old.best }
     requires carried { HasCarried walk.old }
     ensures carried { IfOk result (λ _. HasCarried walk.new) }
-    ensures leaves { IfOk result (λ _. CarriesNoneAlong walk.old depth (ray_in walk.old.ray) (ended_with end relaxation.old.work) → LeavesBy walk.old walk.new depth (ray_in walk.old.ray) (ended_with end relaxation.old.work)) }
+    ensures leaves { IfOk result (λ _. LeavesBy walk.old walk.new depth (ray_in walk.old.ray) (ended_with end relaxation.old.work)) }
     ensures on { IfOk result (λ _. HasGoneOn instance.now limits level.old walk.old relaxation.new level.new walk.new) }
     ensures certs { level.new.certs ≡ level.old.certs }
     ensures turns { relaxation.new.turns ≡ relaxation.old.turns }

@@ -106,4 +106,4 @@ returns-in-Ok-clause-stays g c =
 pub returns-in-Err-clause-stays : goal.returns-in-Err-clause-stays
 returns-in-Err-clause-stays g c =
     let v = c.args.level.now in
-    for_memory_at c.args.relaxation.now c.try_at.new.relaxation v v c.args.walk.now c.give_up.new.walk c.give_up.result (c.args.walk.now.best, c.give_up.ensures.is)
+    for_memory_at c.args.relaxation.now c.try_at.new.relaxation v v c.args.walk.now c.give_up.new.walk c.give_up.result c.give_up.ensures.is

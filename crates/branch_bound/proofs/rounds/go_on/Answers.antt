@@ -136,7 +136,7 @@ returns-in-WideCut-clause-stays g c =
     stays_at r r v v c.args.walk.now c.too_wide.new.walk c.too_wide.result refl refl refl (given_up c.args.walk.now c.too_wide.new.walk c.too_wide.result is.0 is.1 c.too_wide.ensures.rest)
 
 pub returns-in-Err-clause-stays : goal.returns-in-Err-clause-stays
-returns-in-Err-clause-stays g c = for_memory_at c.args.relaxation.now c.add_cut.new.relaxation c.args.level.now c.add_cut.new.level c.args.walk.now c.give_up.new.walk c.give_up.result (c.args.walk.now.best, c.give_up.ensures.is)
+returns-in-Err-clause-stays g c = for_memory_at c.args.relaxation.now c.add_cut.new.relaxation c.args.level.now c.add_cut.new.level c.args.walk.now c.give_up.new.walk c.give_up.result c.give_up.ensures.is
 
 pub returns-in-Err-carry-clause-stays : goal.returns-in-Err-carry-clause-stays
-returns-in-Err-carry-clause-stays g c = for_memory_at c.args.relaxation.now c.add_cut.new.relaxation c.args.level.now c.add_cut.new.level c.args.walk.now c.give_up-in-Err-carry.new.walk c.give_up-in-Err-carry.result (c.args.walk.now.best, c.give_up-in-Err-carry.ensures.is)
+returns-in-Err-carry-clause-stays g c = for_memory_at c.args.relaxation.now c.add_cut.new.relaxation c.args.level.now c.add_cut.new.level c.args.walk.now c.give_up-in-Err-carry.new.walk c.give_up-in-Err-carry.result c.give_up-in-Err-carry.ensures.is

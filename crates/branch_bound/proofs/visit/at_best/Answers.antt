@@ -160,26 +160,26 @@ returns-clause-err g c =
 pub returns-then-is_some-clause-leaves : goal.returns-then-is_some-clause-leaves
 returns-then-is_some-clause-leaves g c =
     let w = c.args.walk.now in
-    if_ok c.meet.result (λ x told none. below_ray w c.meet.new.walk c.args.depth w.ray _ told.0 (sym c.is_some.ensures ∙ c.if-is_some.true) told.1 told.2 none) c.meet.ensures.leaves
+    if_ok c.meet.result (λ x told. below_ray w c.meet.new.walk c.args.depth w.ray _ told.0 (sym c.is_some.ensures ∙ c.if-is_some.true) told.1 told.2) c.meet.ensures.leaves
 
 pub returns-then-is_no_better-clause-carried : goal.returns-then-is_no_better-clause-carried
 returns-then-is_no_better-clause-carried g c = if_ok c.leaf.result (λ x told. told.0) c.leaf.ensures.carried
 
 pub returns-then-is_no_better-clause-leaves : goal.returns-then-is_no_better-clause-leaves
-returns-then-is_no_better-clause-leaves g c = if_ok c.leaf.result (λ x told none. none_left c.args.walk.now c.leaf.new.walk c.args.depth _ _ told.1) c.leaf.ensures.carried
+returns-then-is_no_better-clause-leaves g c = if_ok c.leaf.result (λ x told. none_left c.args.walk.now c.leaf.new.walk c.args.depth _ _ told.1) c.leaf.ensures.carried
 
 pub returns-then-not-may_cut-clause-leaves : goal.returns-then-not-may_cut-clause-leaves
 returns-then-not-may_cut-clause-leaves g c =
     let w = c.args.walk.now in
     if_ok c.meet-then-not-may_cut.result
-    (λ x told none. best_left w c.meet-then-not-may_cut.new.walk c.args.depth w.ray c.args.bound _ _ c.in-Ok.mults told.0 (sym c.is_some.ensures ∙ c.if-is_some.false) c.in-Ok.ensures told.1 told.2)
+    (λ x told. best_left w c.meet-then-not-may_cut.new.walk c.args.depth w.ray c.args.bound _ _ c.in-Ok.mults told.0 (sym c.is_some.ensures ∙ c.if-is_some.false) c.in-Ok.ensures told.1 told.2)
     c.meet-then-not-may_cut.ensures.leaves
 
 pub returns-clause-leaves : goal.returns-clause-leaves
 returns-clause-leaves g c =
     let w = c.args.walk.now in
     if_ok c.improve.result
-    (λ x told none. best_left w c.improve.new.walk c.args.depth w.ray c.args.bound _ _ c.in-Ok.mults told.0 (sym c.is_some.ensures ∙ c.if-is_some.false) c.in-Ok.ensures told.1 told.2)
+    (λ x told. best_left w c.improve.new.walk c.args.depth w.ray c.args.bound _ _ c.in-Ok.mults told.0 (sym c.is_some.ensures ∙ c.if-is_some.false) c.in-Ok.ensures told.1 told.2)
     c.improve.ensures.leaves
 
 -- the walk stays where the search is given up
@@ -187,7 +187,7 @@ pub returns-in-Err-clause-stays : goal.returns-in-Err-clause-stays
 returns-in-Err-clause-stays g c =
     let r = c.args.relaxation.now in
     let v = c.args.level.now in
-    for_memory_at r r v v c.args.walk.now c.give_up.new.walk c.give_up.result (c.args.walk.now.best, c.give_up.ensures.is)
+    for_memory_at r r v v c.args.walk.now c.give_up.new.walk c.give_up.result c.give_up.ensures.is
 
 pub returns-then-is_some-clause-stays : goal.returns-then-is_some-clause-stays
 returns-then-is_some-clause-stays g c =

@@ -46,7 +46,7 @@ returns-in-Some-clause-carried g c = if_ok c.branch-walk.result (λ x told. told
 pub returns-in-Some-clause-leaves : goal.returns-in-Some-clause-leaves
 returns-in-Some-clause-leaves g c =
     let w = c.args.walk.now in
-    if_ok c.branch-walk.result (λ x told none. along_direction w c.branch-walk.new.walk c.args.depth (ray w.ray) _ _ (None ∷ None ∷ []) (both_are (λ (k : Option Carried). k ≡ None) None refl) told.1 none) c.branch-walk.ensures.carried
+    if_ok c.branch-walk.result (λ x told. along_direction w c.branch-walk.new.walk c.args.depth (ray w.ray) _ _ (None ∷ None ∷ []) (both_are (λ (k : Option Carried). k ≡ None) None refl) told.1) c.branch-walk.ensures.carried
 
 -- the walk stays where the search is given up
 pub returns-in-Some-clause-stays : goal.returns-in-Some-clause-stays

@@ -65,7 +65,7 @@ returns-clause-err g c =
 pub returns-clause-leaves : goal.returns-clause-leaves
 returns-clause-leaves g c =
     let w = c.args.walk.now in
-    if_ok c.meet.result (λ x told none. along_direction w c.meet.new.walk c.args.depth (Walks.ray w.ray) _ _ told.0 told.1 told.2 none) c.meet.ensures.leaves
+    if_ok c.meet.result (λ x told. along_direction w c.meet.new.walk c.args.depth (Walks.ray w.ray) _ _ told.0 told.1 told.2) c.meet.ensures.leaves
 
 -- the walk stays where the search is given up
 pub returns-in-Err-clause-stays : goal.returns-in-Err-clause-stays

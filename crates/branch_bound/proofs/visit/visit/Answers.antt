@@ -7,8 +7,7 @@ use Rattle.branch_bound.specs.Cases.{clock_at}
 use Rattle.branch_bound.proofs.Moments.{closes}
 use Rattle.branch_bound.proofs.Ready.{gone_on, if_ok₃}
 use Rattle.branch_bound.proofs.PointSteps.{if_err, or_memory, kept_values}
-use Rattle.branch_bound.specs.Walks.{ray}
-use Rattle.branch_bound.proofs.KeptAfter.{none_left, none_along}
+use Rattle.branch_bound.proofs.KeptAfter.{none_left}
 use Rattle.certificate.specs.declared.causes.Cause.TheVariants.{TurnLimit, Killed}
 use Rattle.branch_bound.proofs.GivenUp.{given_up, for_memory_at, stays_at}
 use Rattle.branch_bound.proofs.visit.visit.Goals as goal
@@ -91,18 +90,17 @@ pub returns-in-Clash-clause-carried : goal.returns-in-Clash-clause-carried
 returns-in-Clash-clause-carried g c = if_ok c.leaf.result (λ x told. told.0) c.leaf.ensures.carried
 
 pub returns-in-Clash-clause-leaves : goal.returns-in-Clash-clause-leaves
-returns-in-Clash-clause-leaves g c = if_ok c.leaf.result (λ x told none. none_left c.args.walk.now c.leaf.new.walk c.args.depth _ _ told.1) c.leaf.ensures.carried
+returns-in-Clash-clause-leaves g c = if_ok c.leaf.result (λ x told. none_left c.args.walk.now c.leaf.new.walk c.args.depth _ _ told.1) c.leaf.ensures.carried
 
 pub returns-in-Empty-clause-leaves : goal.returns-in-Empty-clause-leaves
-returns-in-Empty-clause-leaves g c = if_ok c.at_empty.result (λ x leaves none. none_left c.args.walk.now c.at_empty.new.walk c.args.depth _ _ leaves) c.at_empty.ensures.leaves
+returns-in-Empty-clause-leaves g c = if_ok c.at_empty.result (λ x leaves. none_left c.args.walk.now c.at_empty.new.walk c.args.depth _ _ leaves) c.at_empty.ensures.leaves
 
 pub returns-in-Best-clause-leaves : goal.returns-in-Best-clause-leaves
 returns-in-Best-clause-leaves g c = rw c.in-Best.is c.at_best.ensures.leaves
 
 pub returns-in-Endless-clause-leaves : goal.returns-in-Endless-clause-leaves
 returns-in-Endless-clause-leaves g c =
-    let w = c.args.walk.now in
-    rw c.in-Endless.is (if_ok c.at_endless.result (λ x goes none. goes (none_along w c.args.depth (ray w.ray) _ _ none)) c.at_endless.ensures.leaves)
+    rw c.in-Endless.is c.at_endless.ensures.leaves
 
 -- the walk stays where the search is given up
 pub returns-in-Clash-clause-stays : goal.returns-in-Clash-clause-stays
