@@ -10,10 +10,10 @@ pub kept_same : (ks ls : List (Option Carried)) (bs : List Branch) (d : ℕ) →
 kept_same ks ls bs zero same = refl
 kept_same ks ls bs (suc d) same =
     by (branch_at bs d).is_second (kept_same ks ls bs d (λ e h. same e (omega arith)))
-    where
-      by : (b : Bool) → kept_after ls (pending_places bs d) ≡ kept_after ks (pending_places bs d) → kept_after ls (cond b (pending_places bs d) (d ∷ pending_places bs d)) ≡ kept_after ks (cond b (pending_places bs d) (d ∷ pending_places bs d))
-      by true below = below
-      by false below = ap₂ (λ (k : Option Carried) (l : List (Option Carried)). k ∷ l) (same (d + 1) (omega arith)) below
+  where
+    by : (b : Bool) → kept_after ls (pending_places bs d) ≡ kept_after ks (pending_places bs d) → kept_after ls (cond b (pending_places bs d) (d ∷ pending_places bs d)) ≡ kept_after ks (cond b (pending_places bs d) (d ∷ pending_places bs d))
+    by true below = below
+    by false below = ap₂ (λ (k : Option Carried) (l : List (Option Carried)). k ∷ l) (same (d + 1) (omega arith)) below
 
 -- the case at hand is closed
 pub closed_kept : (ks : List (Option Carried)) (bs es : List Branch) (d : ℕ) (o : Option ℕ) → IfSome o (λ n. 0 < n) → MatchOption o (pending_places bs d ≡ []) (λ n. pending_places bs d ≡ (n - 1) ∷ pending_places es n) → kept_next ks es o ≡ kept_after ks (pending_places bs d)

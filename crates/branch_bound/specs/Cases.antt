@@ -146,17 +146,26 @@ pub record StandsIn {L : _} {G : _} (p : Parts) (t : Terms) (a : Asked) (start :
   pub comes : ComesAsked (problem p) t a start at carried numbers
   pub stands : IsMoment p r v w c at
   pub kept : w.keeps ≡ true → (carried ≡ Kept.carried w) × (numbers ≡ Kept.numbers w)
+  pub first : (gs : Option (List (Option Ratio))) × IsFirstBest (problem p) gs start
+
+-- the walk's open cases may be closed, where a bound is asked for
+pub record MayClose (p : Parts) (a : Asked) (w : Walk) : Type 0 where
+  pub walk : IsWalk (length p.vars) w
+  pub keeps : a.bound ≡ true → w.keeps ≡ true
+  pub carried : Kept.HasCarried w
+  pub values : HaveValues p w.best
 
 -- the walk is that of the search's last moment, but for the best point, which was given up, and for the ray: where there is one its case carries nothing
 pub record EndsIn {L : _} {G : _} (p : Parts) (t : Terms) (a : Asked) (start : Option Found) (r : Relaxation L G) (v : Level) (w : Walk) (o : Outcome) (best : Option Best.Found) (c : Clock) : Type 0 where
   pub before : Clock
   pub old_ray : Option RayAt
   pub last : StandsIn p t a start r v (record w { best = best; ray = old_ray }) before
+  pub ready : MayClose p a (record w { best = best; ray = old_ray })
   pub ends : EndsAsked (problem p) t a last.at last.numbers o c
 
 -- how a search that ended so may be answered: for want of memory, with the best point of some moment; or as its last moment ends it
 abbrev pub AnswersSo : {L : _} {G : _} → Parts → Terms → Asked → Option Found → Relaxation L G → Level → Walk → Ended → Clock → Type 0
-AnswersSo p t a start r v w (Unbounded f z) c = (b : Option Says.ProvedBound) × IsAskedAnswer (problem p) t a start (outcome_of (Means.certificates v.certs) (Unbounded f z)) b c
+AnswersSo p t a start r v w (Unbounded f z) c = IsAskedAnswer (problem p) t a start (outcome_of (Means.certificates v.certs) (Unbounded f z)) None c
 AnswersSo p t a start r v w (Early b k) c = (k ≡ Memory) × IsAskedAnswer (problem p) t a start (early (best b) Memory) None c ⊎ EndsIn p t a start r v w (early (best b) k) b c
 
 -- what comes then of the search: one more such moment, or an answer

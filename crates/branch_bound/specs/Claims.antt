@@ -59,6 +59,17 @@ is_kill (Wide p) = false
 is_kill Length = false
 is_kill Memory = false
 
+-- memory was wanting
+abbrev pub is_want : Cause → Bool
+is_want Killed = false
+is_want (NodeLimit n) = false
+is_want (TurnLimit n) = false
+is_want Gap = false
+is_want (TimeLimit x) = false
+is_want (Wide p) = false
+is_want Length = false
+is_want Memory = true
+
 -- a look stopped the search
 abbrev pub is_killed : Outcome → Bool
 is_killed o = is_for is_kill o

@@ -9,17 +9,19 @@ ghost use Rattle.certificate.specs.declared.causes.Cause.TheVariants as causes;
 ghost use Rattle.case_tree.specs.Cuts.{cut_variable};
 ghost use Rattle.simplex.specs.Answers.{was_stopped};
 ghost use Rattle.simplex_rules.specs.Looks.{answers, AgreesWith, looks_after};
+ghost use Rattle.simplex_rules.specs.Ends.{Terms, Clock};
+ghost use Rattle.search_rules.specs.Search as rules;
 ghost use Rattle.search_rules.specs.Search.{Outcome, IsSearchAnswer};
 ghost use Rattle.search_rules.specs.Asked.{IsAskedAnswer};
 ghost use Rattle.search_rules.specs.Beginnings.{IsFirstBest};
 ghost use Rattle.search_rules.specs.Outcomes.{IsPlain, HaveOneRange};
 ghost use Rattle.no_cycles.specs.Beginning.{BeginsFeasible};
-ghost use Rattle.branch_bound.specs.Claims.{ClaimTells, ClaimTellsWith, TellsStop, claimed_cause, is_killed};
+ghost use Rattle.branch_bound.specs.Claims.{ClaimTells, ClaimTellsWith, TellsStop, claimed_cause, is_killed, is_want};
 ghost use Rattle.branch_bound.specs.Bounds.{asked, HoldsAt, CarriesNone};
 ghost use Rattle.branch_bound.specs.Walks.{best as best_of, IsWalk};
 ghost use Rattle.branch_bound.specs.Trials.{IsFreshWalk};
 ghost use Rattle.branch_bound.specs.declared.found.Found as points;
-ghost use Rattle.branch_bound.specs.Cases.{terms, HasSize, HaveValues, GoesFurther};
+ghost use Rattle.branch_bound.specs.Cases.{terms, HasSize, HaveValues, GoesFurther, AnswersSo, was_killed};
 ghost use Rattle.branch_bound.specs.States.{IsUnderWay, IsBegun, Changes};
 
 use crate::asking::value_to_reach;
@@ -36,8 +38,7 @@ use crate::state::SearchState;
 use crate::visit::visit;
 use crate::walk::Walk;
 use case_tree::{Cut, uncut};
-use cert_checker::Added as Checked;
-use certificate::{Cause, Certs, Claim, Nodes, ProvedBound, Rounds};
+use certificate::{Cause, Certs, Claim, Nodes, Rounds};
 use dictionary::Steps;
 use fraction::Frac;
 use instance::{Instance, Var};
@@ -204,37 +205,36 @@ impl<L: Ledger> SearchState<L> {
     }
 }
 
-/// The bound of a search that is given up for this cause, where one is asked for; there is none for want of memory.
-fn asked_bound(
-    alloc: Global,
-    instance: &Instance,
-    rows: &[Checked],
-    limits: Limits,
-    level: Level,
-    walk: Walk,
-    best: &Option<Found>,
-    cause: Cause,
-) -> Result<Option<ProvedBound>, AllocError> {
-    if !limits.bound || matches!(cause, Cause::Memory) {
-        return Ok(None);
-    }
-    bound_of(alloc, instance, rows, level, walk, best)
+/// Whether memory was wanting.
+fn is_memory(cause: &Cause) -> bool
+    ensures { result ≡ is_want cause.now }
+{
+    matches!(cause, Cause::Memory)
 }
 
-/// The claim of a search that ends before all its cases are closed. Where memory for its bound is wanting, that is its cause.
-fn end_early(
+/// The claim of a search that ends before all its cases are closed: where a bound is asked for, and memory wasn't wanting, with that of
+/// its last moment. Where memory for the bound is wanting, that is the cause.
+fn end_early<L: Ledger>(
     alloc: Global,
     instance: &Instance,
-    rows: &[Checked],
     limits: Limits,
+    relaxation: &Relaxation<L>,
     level: Level,
-    walk: Walk,
+    mut walk: Walk,
     ended: Ended,
-) -> Claim {
+) -> Claim
+    requires ended { (t : Terms) × (start : Option rules.Found) × (c : Clock) × AnswersSo instance.now t (asked limits) start relaxation.now level walk ended c }
+    ensures { (o : Outcome) × (b : Option says.ProvedBound) × ClaimTellsWith result o b × TellsStop limits.bound (was_killed ended) o × ((t : Terms) (start : Option rules.Found) (c : Clock) → AnswersSo instance.now t (asked limits) start relaxation.now level walk ended c → IsAskedAnswer (problem instance.now) t (asked limits) start o b c) }
+{
     match ended {
         Ended::Unbounded { found, ray } => claim_endless(found, ray, level.certs),
         Ended::Early { best, cause } => {
-            match asked_bound(alloc, instance, rows, limits, level, walk, &best, cause) {
+            if !limits.bound || is_memory(&cause) {
+                return claim_early(best, cause, None);
+            }
+            walk.ray = None;
+            let rows = relaxation.rows.as_slice();
+            match bound_of(alloc, instance, rows, level, walk, &best) {
                 Ok(bound) => claim_early(best, cause, bound),
                 Err(_) => claim_early(best, Cause::Memory, None),
             }
@@ -276,10 +276,9 @@ fn explore<W: Watch, L: Ledger>(
                 level,
                 walk,
             } = state;
-            let rows = relaxation.rows.as_slice();
             Searched {
                 turns: relaxation.turns.done,
-                claim: end_early(alloc, instance, rows, limits, level, walk, ended),
+                claim: end_early(alloc, instance, limits, &relaxation, level, walk, ended),
             }
         }
     }

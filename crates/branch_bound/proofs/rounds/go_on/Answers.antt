@@ -106,7 +106,6 @@ returns-in-NoCut-clause-leaves g c =
     let k : Option Carried = Some c.args.carried in
     if_ok c.branch-walk.result (λ x told. (k ∷ k ∷ [], both_are (λ (y : Option Carried). y ≡ k) k refl, told.1)) c.branch-walk.ensures.carried
 
-
 pub returns-in-Ok-carry-clause-leaves : goal.returns-in-Ok-carry-clause-leaves
 returns-in-Ok-carry-clause-leaves g c =
     let w = c.args.walk.now in
