@@ -146,7 +146,6 @@ pub record StandsIn {L : _} {G : _} (p : Parts) (t : Terms) (a : Asked) (start :
   pub comes : ComesAsked (problem p) t a start at carried numbers
   pub stands : IsMoment p r v w c at
   pub kept : w.keeps ≡ true → (carried ≡ Kept.carried w) × (numbers ≡ Kept.numbers w)
-  pub first : (gs : Option (List (Option Ratio))) × IsFirstBest (problem p) gs start
 
 -- the walk's open cases may be closed, where a bound is asked for
 pub record MayClose (p : Parts) (a : Asked) (w : Walk) : Type 0 where
