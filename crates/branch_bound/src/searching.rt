@@ -232,6 +232,7 @@ fn end_early<L: Ledger>(
             if !limits.bound || is_memory(&cause) {
                 return claim_early(best, cause, None);
             }
+            let _some = instance.goals();
             walk.ray = None;
             let rows = relaxation.rows.as_slice();
             match bound_of(alloc, instance, rows, level, walk, &best) {

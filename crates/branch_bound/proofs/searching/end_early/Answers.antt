@@ -1,0 +1,2 @@
+use Rattle.std.proofs.Common.{◌≡◌, refl}
+use Rattle.branch_bound.proofs.searching.end_early.Goals as goal
