@@ -1,13 +1,10 @@
 -- One case of a search is its next step.
-use Rattle.std.proofs.Common.{◌≡◌, ℕ, suc, ◌+◌, ◌<◌, ◌≤◌, inl, inr, Bool, true, false, Option, None, Some, Result, Ok, Err, IfOk, IfErr, List, [], ◌∷◌, arith, refl, sym, ◌∙◌, ap, subst}
+use Rattle.std.proofs.Common.{◌≡◌, ℕ, suc, ◌+◌, ◌<◌, ◌≤◌, inl, inr, Bool, true, false, Option, None, Some, Result, Ok, Err, IfOk, IfErr, List, [], ◌∷◌, ◌++◌, map, length, arith, refl, sym, ◌∙◌, ap, subst}
 use Rattle.std.specs.Option.{is_some}
 use Rattle.rational.specs.Ratio.{Ratio}
 use Rattle.evidence.specs.Instance.{Instance, IsInstance, Problem}
-use Rattle.evidence.specs.Rounds.{Certificate}
-use Rattle.certificate.specs.declared.causes.Cause.TheVariants.{Killed, NodeLimit, Memory}
-use Rattle.certificate.specs.Meanings as Means
+use Rattle.certificate.specs.declared.causes.Cause.TheVariants.{Killed, NodeLimit, Gap, Memory}
 use Rattle.instance.specs.Parts.{Parts}
-use Rattle.instance.specs.Program.{problem}
 use Rattle.simplex_rules.specs.Ends.{Terms, Clock, End, Endless, Stopped}
 use Rattle.simplex_rules.specs.Runs.{Run, looked_once}
 use Rattle.simplex_rules.specs.Looks.{IsAfter}
@@ -22,15 +19,21 @@ use Rattle.case_tree.specs.declared.cuts.Cut.{Cut}
 use Rattle.case_tree.specs.Cuts.{cut}
 use Rattle.cert_checker.proofs.Widths.{cut-instance}
 use Rattle.search_rules.specs.Branching.{Case}
-use Rattle.search_rules.specs.Search.{SearchMoment, Outcome, To, Out, NextOfSearch, GoesFrom, IsCaseRun, IsNextInSearch, Found, early, nodes_so_far}
-use Rattle.search_rules.specs.Beginnings.{ComesFrom, goes_on, IsAnswerFrom, searched, given_up_after}
+use Rattle.search_rules.specs.Search.{SearchMoment, Outcome, To, Out, NextOfSearch, GoesFrom, IsCaseRun, IsVisit, IsNextInSearch, Found, early, nodes_so_far}
+use Rattle.search_rules.specs.Bounds.{Carried, carried_after}
+use Rattle.search_rules.specs.Gaps as gaps
+use Rattle.search_rules.specs.Gaps.{number_after, IsNearEnough}
+use Rattle.search_rules.specs.Asked.{Asked, FindsAsked, StopsNear, EndsAsked, near, ends, ComesAsked, asked_on, asked_level, IsAskedAnswer, asked, gave_up_after}
+use Rattle.search_rules.proofs.OpenBounds.{goes_part}
+use Rattle.search_rules.proofs.AskedCounts.{as_many}
 use Rattle.branch_bound.specs.declared.ended.Ended.{Ended}
 use Rattle.branch_bound.specs.declared.level.Level.{Level}
 use Rattle.branch_bound.specs.declared.limits.Limits.{Limits}
 use Rattle.branch_bound.specs.declared.relaxation.Relaxation.{Relaxation}
 use Rattle.branch_bound.specs.declared.walk.Walk.{Walk}
-use Rattle.branch_bound.specs.Walks.{best}
-use Rattle.branch_bound.specs.Cases.{terms, outcome_of, was_killed, is_killed_by, OrMemory, StandsIn, ComesThrough, CarriesOn, clock_at}
+use Rattle.branch_bound.specs.Bounds as Kept
+use Rattle.branch_bound.specs.Cases.{terms, was_killed, is_killed_by, StandsIn, AnswersSo, ComesThrough, CarriesOn, clock_at}
+use Rattle.branch_bound.proofs.OpenBounds.{empty_list}
 
 not_now : (looks k : ℕ) (stop : Option ℕ) → IsAfter (looks + suc k) stop → stop ≡ Some (looks + 1) → ⊥
 not_now looks k None a e = cc
@@ -51,18 +54,18 @@ clock_of turns looks = record { turns = turns; looks = looks }
 
 -- a search has come to a moment, where this is carried and numbered
 module _ (P : Problem) (t : Terms) (a : Asked) (start : Option Found) (m : SearchMoment) (ls : List Carried) (ys : List (Option Ratio)) (comes : ComesAsked P t a start m ls ys) where
-  -- whatever ends there is an answer, without a bound
-  pub answered : (o : Outcome) (c : Clock) → EndsAsked P t a m ys o c → IsAskedAnswer P t a start o None c
-  answered o c e = by a.bound refl
+  -- what ends there is an answer, where no bound is found
+  pub answered : (o : Outcome) (c : Clock) → FindsAsked P true m ls o None → EndsAsked P t a m ys o c → IsAskedAnswer P t a start o None c
+  answered o c none e = asked (record { last = m; carried = ls; numbers = ys; comes = comes; ends = e; has = by a.bound })
     where
-      by : (b : Bool) → a.bound ≡ b → IsAskedAnswer P t a start o None c
-      by true is = gave_up_closing is comes e
-      by false is = asked (record { last = m; carried = ls; numbers = ys; comes = comes; ends = e; has = subst (λ (b : Bool). FindsAsked P b m ls o None) (sym is) refl })
+      by : (b : Bool) → FindsAsked P b m ls o None
+      by true = none
+      by false = refl
 
   -- where no case waits nothing is near
   module _ (none : m.waiting ≡ []) where
     nothing_numbered : ys ≡ []
-    nothing_numbered = let n = as_many P t a start m ls ys comes in no_more ys (n.1 ∙ ap (λ (Cs : List Case). length Cs) none)
+    nothing_numbered = let n = as_many P t a start m ls ys comes in empty_list ys (n.1 ∙ ap (λ (Cs : List Case). length Cs) none)
 
     pub never_near : StopsNear P t a m ys → ⊥
     never_near s = by a.gap (subst (λ (l : List (Option Ratio)). IsNearEnough P a.gap m l) nothing_numbered s.near)
@@ -77,7 +80,7 @@ module _ (P : Problem) (t : Terms) (a : Asked) (start : Option Found) (m : Searc
     pub level_on : (n : SearchMoment) → IsNextInSearch P t m (To n) → ComesAsked P t a start n (None ∷ []) (None ∷ [])
     level_on n next =
         let both = as_many P t a start m ls ys comes in
-        let nothing = no_more ls (both.0 ∙ ap (λ (Cs : List Case). length Cs) none) in
+        let nothing = empty_list ls (both.0 ∙ ap (λ (Cs : List Case). length Cs) none) in
         asked_level (subst (λ (l : List Carried). ComesAsked P t a start m l []) nothing (subst (λ (l : List (Option Ratio)). ComesAsked P t a start m ls l) nothing_numbered comes)) none next
 
 -- at which a case waits
@@ -140,12 +143,6 @@ module _ (P : Problem) (t : Terms) (a : Asked) (start : Option Found) (m : Searc
         pub run_ends : (o : Outcome) → GoesFrom P t C rest (record m { clock = clock }) (looked_once m.clock) e (Out o clock) → EndsAsked P t a m ys o clock
         run_ends o goes = ends far (inr (inr (visit_on (Out o clock) goes)))
 
-        -- nothing is carried along a direction
-        pub none_carried : IsProblem P → (gs : Option (List (Option Ratio))) → IsFirstBest P gs start → (k : Carried) (ks : List Carried) → ls ≡ k ∷ ks → CarriesNothing C.ray e k
-        none_carried good gs first k ks is_ls =
-            let here = subst (λ (l : List Carried). ComesAsked P t a start m l ys) is_ls comes in
-            TODO
-
         -- the cases that come in its place carry what the run leaves
         module _ (n : SearchMoment) (goes : GoesFrom P t C rest (record m { clock = clock }) (looked_once m.clock) e (To n)) where
           abbrev pub new : List Case
@@ -182,16 +179,16 @@ never_endless D cs zeroed t c d x r good run = let s = run_true (cut D cs) zeroe
 -- the code goes on from each moment at which it stands
 module _ {L : _} {G : _} (p : Parts) (l : Limits) where
   -- what comes of the end of a case's run
-  pub comes_through : (t : Terms) (start : Option Found) (s : Relaxation L G) (u : Level) (x : Walk) (c : Clock) (result : Result (Unit {0}) Ended) → IfOk result (λ _. StandsIn p t start s u x c) → IfErr result (λ ended. IsAnswerFrom (problem p) t start (outcome_of (Means.certificates u.certs) ended) c) → ComesThrough p t start s u x c result
-  comes_through t start s u x c (Ok y) f h = f
-  comes_through t start s u x c (Err ended) f h = h
+  pub comes_through : (t : Terms) (a : Asked) (start : Option Found) (s : Relaxation L G) (u : Level) (x : Walk) (c : Clock) (result : Result (Unit {0}) Ended) → IfOk result (λ _. StandsIn p t a start s u x c) → IfErr result (λ ended. AnswersSo p t a start s u x ended c) → ComesThrough p t a start s u x c result
+  comes_through t a start s u x c (Ok y) f h = f
+  comes_through t a start s u x c (Err ended) f h = h
 
   -- and goes on from there
   pub carried : (r : Relaxation L G) (v : Level) (w : Walk) (q : Relaxation L G) (y : Level) (z : Walk) (s : Relaxation L G) (u : Level) (x : Walk) (n k : ℕ) (b : Bool) (a : Unit {0}) (result : Result (Unit {0}) Ended) → CarriesOn p l r v w q y z n false (Ok a) → CarriesOn p l q y z s u x k b result → CarriesOn p l r v w s u x (n + k) b result
   carried r v w q y z s u x n k b a result first second = λ start looks stop at tells.
-      subst (λ (i : ℕ). ComesThrough p (terms l stop) start s u x (clock_at s i) result) (after_more looks n k b)
+      subst (λ (i : ℕ). ComesThrough p (terms l stop) (Kept.asked l) start s u x (clock_at s i) result) (after_more looks n k b)
       (second start (looks + n) stop (first start looks stop at (after_less looks n k b stop tells)) (tells_less looks n k b stop tells))
 
   -- or stays where it was
   pub carried_none : (r : Relaxation L G) (v : Level) (w : Walk) (a : Unit {0}) → CarriesOn p l r v w r v w 0 false (Ok a)
-  carried_none r v w a = λ start looks stop at tells. subst (λ (i : ℕ). StandsIn p (terms l stop) start r v w (clock_at r i)) (omega arith) at
+  carried_none r v w a = λ start looks stop at tells. subst (λ (i : ℕ). StandsIn p (terms l stop) (Kept.asked l) start r v w (clock_at r i)) (omega arith) at

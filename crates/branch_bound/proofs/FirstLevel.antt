@@ -6,15 +6,15 @@ use Rattle.instance.specs.Parts.{Parts}
 use Rattle.instance.specs.Program.{program, problem}
 use Rattle.instance.proofs.Numbers.{program-instance}
 use Rattle.cert_checker.specs.Programs.{with_rows}
+use Rattle.rational.specs.Ratio.{Ratio}
 use Rattle.simplex_rules.specs.Ends.{Terms}
 use Rattle.simplex.specs.declared.cuts.Added.{Added}
 use Rattle.simplex.specs.declared.answer.Turns.{Turns}
 use Rattle.simplex.specs.Cuts.{Cutting}
 use Rattle.search_rules.specs.Search.{begun_at}
-use Rattle.search_rules.specs.Beginnings.{first_with}
+use Rattle.search_rules.specs.Beginnings.{IsFirstBest, first_with}
 use Rattle.search_rules.specs.Asked.{Asked, asked_first}
-use Rattle.branch_bound.specs.declared.carried.Carried.{Carried}
-use Rattle.branch_bound.specs.Bounds.{CarriesNone, kept_next, multipliers_of, number_of}
+use Rattle.branch_bound.specs.Bounds.{CarriesNone}
 use Rattle.branch_bound.specs.declared.found.Found as Best
 use Rattle.branch_bound.specs.declared.level.Level.{Level}
 use Rattle.branch_bound.specs.declared.relaxation.Relaxation.{Relaxation}
@@ -27,7 +27,7 @@ use Rattle.branch_bound.specs.Trials.{IsFreshWalk}
 use Rattle.branch_bound.specs.Cases.{HasSize, SuitsLevel, HaveValues, StandsIn, clock_at}
 use Rattle.branch_bound.specs.States.{IsUnderWay, IsBegun}
 use Rattle.branch_bound.proofs.GivenRows.{given_first}
-use Rattle.branch_bound.proofs.NextGoal.{fresh_moment}
+use Rattle.branch_bound.proofs.NextGoal.{fresh_moment, kept_fresh}
 
 -- no row beside the instance's, and the first goal
 given_begun : (p : Parts) (k : Cutting) → k.rows ≡ [] → k.goal ≡ 0 → IsGiven p k (program p)
@@ -67,18 +67,15 @@ module _ {M : _} {G : _} (p : Parts) (r : Relaxation M G) (ks : List Cert) (rs :
         ∙ ap₂ (λ (cs : List Cert) (n : ℕ). begun_at (level p (program p) (begun_level cs rs)) (record { turns = n; looks = 0 }) (best w.best)) certs turns
         )
 
-    pub begun_stands : (a : Asked) → CarriesNone w → StandsIn p t a (best w.best) r (begun_level ks rs) w (clock_at r 0)
-    begun_stands a none = record {
+    pub begun_stands : (a : Asked) → CarriesNone w → ((gs : Option (List (Option Ratio))) × IsFirstBest (problem p) gs (best w.best)) → StandsIn p t a (best w.best) r (begun_level ks rs) w (clock_at r 0)
+    begun_stands a none is = record {
+      first = is;
       at = first_with (problem p) (best w.best);
       carried = None ∷ [];
       numbers = None ∷ [];
       comes = asked_first;
       stands = record { program = program p; cut = program p; at = begun_at_level; is = is_first };
-      kept = λ keeps.
-          let h = none keeps in (
-            sym (ap (λ o. map multipliers_of (kept_next w.carried.items w.branches.items o)) fresh.next ∙ ap (λ (k : Option Carried). multipliers_of k ∷ []) h.1),
-            sym (ap (λ o. map number_of (kept_next w.carried.items w.branches.items o)) fresh.next ∙ ap (λ (k : Option Carried). number_of k ∷ []) h.1),
-          );
+      kept = kept_fresh p w fresh none;
     }
 
 -- of the state before the first step, with this best point, if any
@@ -101,7 +98,7 @@ module _ {M : _} {G : _} (p : Parts) (l : Limits) (s : SearchState M G) (begun :
     carried = λ keeps. let h = begun.carried keeps in subst (λ (o : Option ℕ). IfSome o (λ d. d < length s.walk.carried.items)) (sym begun.fresh.next) h.0;
   }
 
-  pub begun_comes : (t : Terms) (a : Asked) → StandsIn p t a (best b) s.relaxation s.level walk (clock_at s.relaxation 0)
-  begun_comes t a =
+  pub begun_comes : (t : Terms) (a : Asked) → ((gs : Option (List (Option Ratio))) × IsFirstBest (problem p) gs (best b)) → StandsIn p t a (best b) s.relaxation s.level walk (clock_at s.relaxation 0)
+  begun_comes t a is =
       subst (λ (v : Level). StandsIn p t a (best b) s.relaxation v walk (clock_at s.relaxation 0)) (sym begun.level)
-      (begun_stands p s.relaxation [] [] refl refl begun.beside begun.goal begun.rows t walk fresh begun.ray (ap (λ (t : Turns). t.done) begun.turns) a begun.carried)
+      (begun_stands p s.relaxation [] [] refl refl begun.beside begun.goal begun.rows t walk fresh begun.ray (ap (λ (t : Turns). t.done) begun.turns) a begun.carried is)

@@ -10,6 +10,7 @@ mod Places
 mod PendingCases
 mod Kept
 mod KeptAfter
+mod LeftCases
 mod Gaps
 mod OpenBounds
 mod GivenUp

@@ -137,15 +137,15 @@ abbrev pub is_killed_by : Result (Unit {0}) Ended → Bool
 is_killed_by (Ok x) = false
 is_killed_by (Err ended) = was_killed ended
 
--- the moments of a search have come to one at which the code stands, and what its open cases carry is kept, where it is asked for
+-- the moments of a search from a first point on have come to one at which the code stands, and what its open cases carry is kept, where it is asked for
 pub record StandsIn {L : _} {G : _} (p : Parts) (t : Terms) (a : Asked) (start : Option Found) (r : Relaxation L G) (v : Level) (w : Walk) (c : Clock) : Type 0 where
+  pub first : (gs : Option (List (Option Ratio))) × IsFirstBest (problem p) gs start
   pub at : SearchMoment
   pub carried : List Carries.Carried
   pub numbers : List (Option Ratio)
   pub comes : ComesAsked (problem p) t a start at carried numbers
   pub stands : IsMoment p r v w c at
   pub kept : w.keeps ≡ true → (carried ≡ Kept.carried w) × (numbers ≡ Kept.numbers w)
-  pub first : (gs : Option (List (Option Ratio))) × IsFirstBest (problem p) gs start
 
 -- the walk's open cases may be closed, where a bound is asked for
 pub record MayClose (p : Parts) (a : Asked) (w : Walk) : Type 0 where

@@ -13,6 +13,8 @@ ghost use Rattle.case_tree.specs.Cuts.{cut_variable};
 ghost use Rattle.cert_checker.specs.Programs.{AreUncut};
 ghost use Rattle.simplex_rules.specs.Looks.{answers, AgreesWith, looks_after};
 ghost use Rattle.search_rules.specs.Search.{SearchMoment, Out, nodes_so_far};
+ghost use Rattle.certificate.specs.declared.causes.Cause.{Cause};
+ghost use Rattle.branch_bound.specs.declared.ended.Ended.TheVariants.{Early};
 ghost use Rattle.branch_bound.specs.declared.found.Found as points;
 ghost use Rattle.branch_bound.specs.Walks.{best as best_of, IsWalk};
 ghost use Rattle.branch_bound.specs.Levels.{IsGiven, IsAtLevel};
@@ -162,6 +164,8 @@ fn end_is_wide<W: Watch, L: Ledger>(
 ) -> Ended
     requires few { level.now.before + length walk.old.nodes < 2 ^ 64 }
     requires stops { W.stops watch.old < 2 ^ 64 - 1 }
+    ensures is { (k : Cause) × (result ≡ Early walk.old.best k) }
+    ensures rest { walk.new ≡ record walk.old { best = None } }
     ensures next { (n : ℕ) × (killed : Bool) × (was_killed result ≡ killed) × W.came watch.old watch.new (answers n killed) × ((P : Of.Problem) (m : SearchMoment) (looks : ℕ) (stop : Option ℕ) (cs : List Certificate) → m.clock ≡ clock_at relaxation.now looks → m.best ≡ best_of walk.old.best → nodes_so_far m ≡ level.now.before + length walk.old.nodes → AgreesWith stop looks n killed → EndsWide P (terms limits stop) m (Out (outcome_of cs result) (clock_at relaxation.now (looks_after looks n killed)))) }
 {
     if level.before + walk.nodes.len() >= limits.nodes as usize {

@@ -43,6 +43,7 @@ use dictionary::Steps;
 use fraction::Frac;
 use instance::{Instance, Var};
 use os_io::Watch;
+use search_rules::searches_of_which_nothing_is_asked_are_searches;
 use simplex::{Cuts, LpEnd, Turns};
 use std::alloc::{AllocError, Global};
 use std::marker::Brand;
@@ -426,6 +427,7 @@ pub fn search<W: Watch>(
     ensures answer { (n : ℕ) × (o : Outcome) × ClaimTells result.claim o × W.came watch.old watch.new (answers n (is_killed o)) × ((stop : Option ℕ) → AgreesWith stop 0 n (is_killed o) → IsSearchAnswer (problem instance.now) (record { nodes = nodes; turns = turns; rounds = rounds; stop = stop }) o (record { turns = result.turns; looks = looks_after 0 n (is_killed o) })) }
     ensures enough { length instance.now.goals ≡ 1 → IsPlain (program instance.now) → HaveOneRange (program instance.now) → BeginsFeasible (program instance.now) → 4 ^ (length instance.now.vars + length instance.now.rows) ≤ turns → (n : ℕ) → claimed_cause result.claim ≡ Some (causes.TurnLimit n) → ⊥ }
 {
+    searches_of_which_nothing_is_asked_are_searches();
     let limits = Limits {
         nodes,
         turns,
