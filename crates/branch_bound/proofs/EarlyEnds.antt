@@ -1,5 +1,5 @@
 -- What is claimed of a search that is given up: its bound, where one is asked for.
-use Rattle.std.proofs.Common.{◌≡◌, ◌⊎◌, inl, inr, ℕ, Bool, true, false, Option, None, Some, IfSome, List, [], ◌∷◌, ◌<◌, get_or, length, arith, refl, sym, ◌∙◌, ap, subst}
+use Rattle.std.proofs.Common.{◌≡◌, ◌⊎◌, inl, inr, ℕ, Bool, true, false, not, ◌&&◌, Option, None, Some, IfSome, List, [], ◌∷◌, ◌<◌, get_or, length, arith, refl, sym, ◌∙◌, ap, subst}
 use Rattle.std.proofs.lemmas.Bool.{false≢true}
 use Rattle.rational.specs.Ratio.{Ratio}
 use Rattle.fraction.specs.Frac.{ratio, ratios}
@@ -53,6 +53,23 @@ want_is Memory e = refl
 
 pub other_cause : (k : Cause) → is_want k ≡ false → k ≡ Memory → ⊥
 other_cause k e is = false≢true (sym e ∙ ap is_want is)
+
+-- a bound is told, or not
+pub is_told : (asks : Bool) (k : Cause) → asks && not (is_want k) ≡ true → (asks ≡ true) × (k ≡ Memory → ⊥)
+is_told asks k e = by asks (is_want k) refl refl e
+  where
+    by : (a w : Bool) → asks ≡ a → is_want k ≡ w → a && not w ≡ true → (asks ≡ true) × (k ≡ Memory → ⊥)
+    by true true p q e = absurd (false≢true e)
+    by true false p q e = (p, other_cause k q)
+    by false w p q e = absurd (false≢true e)
+
+pub not_told : (asks : Bool) (k : Cause) → asks && not (is_want k) ≡ false → (asks ≡ false) ⊎ (k ≡ Memory)
+not_told asks k e = by asks (is_want k) refl refl e
+  where
+    by : (a w : Bool) → asks ≡ a → is_want k ≡ w → a && not w ≡ false → (asks ≡ false) ⊎ (k ≡ Memory)
+    by true true p q e = inr (want_is k q)
+    by true false p q e = absurd (false≢true (sym e))
+    by false w p q e = inl p
 
 -- a cause that is told is the search's own
 pub told_stop : (asks : Bool) (b : Option Found) (k : Cause) → TellsStop asks (is_kill k) (early b k)
