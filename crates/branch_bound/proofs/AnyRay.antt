@@ -1,5 +1,5 @@
 -- What a search shows of its open cases is the same whatever their rays.
-use Rattle.std.proofs.Common.{◌≡◌, ◌⊎◌, inl, inr, ℕ, Option, None, Some, IfSome, List, [], ◌∷◌, refl, ap₂, subst}
+use Rattle.std.proofs.Common.{◌≡◌, inl, inr, ℕ, Option, None, Some, IfSome, List, [], ◌∷◌, refl, ap₂, subst}
 use Rattle.rational.specs.Ratio.{Ratio}
 use Rattle.evidence.specs.Instance.{Instance, Problem, minimising}
 use Rattle.evidence.specs.Cases.{Multiplier, AreLegal}

@@ -1,10 +1,9 @@
 -- What is claimed of a search that is given up: its bound, where one is asked for.
 use Rattle.std.proofs.Common.{◌≡◌, ◌⊎◌, inl, inr, ℕ, Bool, true, false, not, ◌&&◌, Option, None, Some, IfSome, List, [], ◌∷◌, ◌<◌, get_or, length, arith, refl, sym, ◌∙◌, ap, subst}
 use Rattle.std.proofs.lemmas.Bool.{false≢true}
-use Rattle.rational.specs.Ratio.{Ratio}
 use Rattle.fraction.specs.Frac.{ratio, ratios}
 use Rattle.fraction.specs.declared.frac.Frac.{Frac}
-use Rattle.evidence.specs.Instance.{Instance, Problem, IsProblem, Goal}
+use Rattle.evidence.specs.Instance.{Instance, Problem}
 use Rattle.evidence.specs.Point.{value_at}
 use Rattle.evidence.specs.Rounds.{Certificate}
 use Rattle.evidence.specs.ProvedBounds as Says
@@ -17,28 +16,28 @@ use Rattle.certificate.specs.declared.causes.Cause.{Cause}
 use Rattle.certificate.specs.declared.causes.Cause.TheVariants.{Killed, NodeLimit, TurnLimit, Gap, TimeLimit, Wide, Length, Memory}
 use Rattle.certificate.specs.declared.claims.ProvedBound.{ProvedBound}
 use Rattle.certificate.specs.declared.nodes.Cert.{Cert}
-use Rattle.cert_checker.specs.declared.at_hand.Added.{Added}
 use Rattle.cert_checker.specs.Programs.{with_rows}
 use Rattle.cert_checker.proofs.HandRows.{rows_goal}
 use Rattle.simplex_rules.specs.Ends.{Terms, Clock}
 use Rattle.search_rules.specs.Branching.{Case}
-use Rattle.search_rules.specs.Search.{Found, SearchMoment, Outcome, BestSoFar, Unsure, early}
+use Rattle.search_rules.specs.Search.{Found, SearchMoment, Outcome, early}
 use Rattle.search_rules.specs.Bounds as Rules
-use Rattle.search_rules.specs.Asked.{Asked, FindsBound, FindsAsked, EndsAsked, IsAskedAnswer, asked, gave_up_closing}
+use Rattle.search_rules.specs.Asked.{Asked, FindsBound, FindsAsked, IsAskedAnswer, asked, gave_up_closing}
 use Rattle.search_rules.proofs.OpenBounds.{AllCarry}
 use Rattle.search_rules.proofs.AskedCases.{carry}
 use Rattle.no_cycles.proofs.OneCaseSearches.{early_is}
 use Rattle.branch_bound.specs.declared.found.Found as Best
+use Rattle.branch_bound.specs.declared.ended.Ended.{Ended}
 use Rattle.branch_bound.specs.declared.ended.Ended.TheVariants.{Early}
 use Rattle.branch_bound.specs.declared.level.Level.{Level}
 use Rattle.branch_bound.specs.declared.relaxation.Relaxation.{Relaxation}
 use Rattle.branch_bound.specs.declared.walk.Walk.{Walk}
-use Rattle.branch_bound.specs.Claims.{TellsStop, cause_of, is_kill, is_killed, is_want}
+use Rattle.branch_bound.specs.Claims.{TellsStop, cause_of, is_kill, is_want}
 use Rattle.branch_bound.specs.Walks.{found, best, waiting, IsWalk}
 use Rattle.branch_bound.specs.Levels.{moment}
 use Rattle.branch_bound.specs.Bounds.{AllBound, HasCarried, FindsBoundAt, ReachesBound, carried}
 use Rattle.branch_bound.specs.Cases.{HaveValues, EndsIn, AnswersSo}
-use Rattle.branch_bound.proofs.AnyRay.{AreAlike, alike_bound, waiting_alike, finds_alike}
+use Rattle.branch_bound.proofs.AnyRay.{alike_bound, waiting_alike, finds_alike}
 
 -- memory was wanting, or not
 pub want_is : (k : Cause) → is_want k ≡ true → k ≡ Memory
@@ -153,7 +152,7 @@ module _ {L : _} {G : _} (p : Parts) (t : Terms) (a : Asked) (start : Option Fou
 
   -- where no bound is asked for
   pub plain_answer : a.bound ≡ false → IsAskedAnswer P t a start o None c
-  plain_answer no = asked (record { last = m; carried = e.last.carried; numbers = e.last.numbers; comes = e.last.comes; ends = e.ends; has = subst (λ (asks : Bool). FindsAsked P asks m e.last.carried o None) (sym no) refl })
+  plain_answer unasked = asked (record { last = m; carried = e.last.carried; numbers = e.last.numbers; comes = e.last.comes; ends = e.ends; has = subst (λ (asks : Bool). FindsAsked P asks m e.last.carried o None) (sym unasked) refl })
 
   module _ (asks : a.bound ≡ true) where
     pub closing_keeps : closing.keeps ≡ true
@@ -189,12 +188,15 @@ module _ {L : _} {G : _} (p : Parts) (t : Terms) (a : Asked) (start : Option Fou
     never_first : m.level.shown ≡ [] → ⊥
     never_first is = some_shown v.certs v.goal closing_shown later (sym (ap (λ (n : SearchMoment). n.level.shown) e.last.stands.is) ∙ is)
 
+    none_there : (x : Says.ProvedBound) → b ≡ None → Rules.IsBoundOf P m e.last.carried x → ⊥
+    none_there x is (inl q) = never_first q.first_level
+    none_there x is (inr q) = let l : Some q.found ≡ None = sym q.best ∙ best_is ∙ ap best is in absurd (cc)
+
     finds_later : 0 < length p.goals → (d : Option ProvedBound) → ReachesBound v b d → FindsBound P m e.last.carried (Means.bound d)
     finds_later some d h = by b d refl h
       where
         by : (f : Option Best.Found) (d : Option ProvedBound) → b ≡ f → ReachesBound v f d → FindsBound P m e.last.carried (Means.bound d)
-        by None None is h x (inl q) fit = never_first q.first_level
-        by None None is h x (inr q) fit = let l : Some q.found ≡ None = sym q.best ∙ best_is ∙ ap best is in absurd (cc)
+        by None None is h = λ x found_so fit. none_there x is found_so
         by None (Some d) is h = absurd (cc)
         by (Some f) None is h = absurd h
         by (Some f) (Some d) is h =
@@ -216,13 +218,21 @@ module _ {L : _} {G : _} (p : Parts) (a : Asked) (r : Relaxation L G) (v : Level
   Q = problem p
 
   pub without_bound : (a.bound ≡ false) ⊎ (k ≡ Memory) → (t : Terms) (start : Option Found) (c : Clock) → AnswersSo p t a start r v w (Early b k) c → IsAskedAnswer Q t a start (early (best b) k) None c
-  without_bound no t start c (inl (is, answer)) = subst (λ (k : Cause). IsAskedAnswer Q t a start (early (best b) k) None c) (sym is) answer
-  without_bound (inl no) t start c (inr e) = plain_answer p t a start r v w (early (best b) k) b c e no
+  without_bound why t start c (inl (is, answer)) = subst (λ (k : Cause). IsAskedAnswer Q t a start (early (best b) k) None c) (sym is) answer
+  without_bound (inl unasked) t start c (inr e) = plain_answer p t a start r v w (early (best b) k) b c e unasked
   without_bound (inr is) t start c (inr e) = by a.bound refl
     where
       by : (asks : Bool) → a.bound ≡ asks → IsAskedAnswer Q t a start (early (best b) k) None c
       by true asks = subst (λ (k : Cause). IsAskedAnswer Q t a start (early (best b) k) None c) (sym is) (want_answer p t a start r v w (early (best b) k) b c e asks)
-      by false no = plain_answer p t a start r v w (early (best b) k) b c e no
+      by false unasked = plain_answer p t a start r v w (early (best b) k) b c e unasked
+
+  -- there is such an end
+  pub an_end : (ended : Ended) → ended ≡ Early b k → (k ≡ Memory → ⊥) → (t : Terms) × (start : Option Found) × (c : Clock) × AnswersSo p t a start r v w ended c → (t : Terms) × (start : Option Found) × (c : Clock) × EndsIn p t a start r v w (early (best b) k) b c
+  an_end ended is other (t, start, c, answer) = (t, start, c, by (subst (λ (e : Ended). AnswersSo p t a start r v w e c) is answer))
+    where
+      by : AnswersSo p t a start r v w (Early b k) c → EndsIn p t a start r v w (early (best b) k) b c
+      by (inl (is, answer)) = absurd (other is)
+      by (inr e) = e
 
   module _ (asks : a.bound ≡ true) where
     pub wanting : (t : Terms) (start : Option Found) (c : Clock) → AnswersSo p t a start r v w (Early b k) c → IsAskedAnswer Q t a start (early (best b) Memory) None c
@@ -247,8 +257,3 @@ module _ {L : _} {G : _} (p : Parts) (a : Asked) (r : Relaxation L G) (v : Level
             by_eq v.goal 0
             (λ zero. finds_first p t a start r v w (early (best b) k) b c e asks zero d (first zero))
             (λ past. finds_later p t a start r v w (early (best b) k) b c e past some d (later past))
-
-    -- there is such an end
-    pub early_end : (k ≡ Memory → ⊥) → (t : Terms) (start : Option Found) (c : Clock) → AnswersSo p t a start r v w (Early b k) c → EndsIn p t a start r v w (early (best b) k) b c
-    early_end other t start c (inl (is, answer)) = absurd (other is)
-    early_end other t start c (inr e) = e
