@@ -405,8 +405,8 @@ name_asks_nothing (name ∷ word ∷ rest) few = absurd (omega (arith, few))
 
 pub asks_call : (words : List Text) (it : Command) → asks words ≡ Some it → AreWordsOf it words
 unfolding clap_on_literals
-asks_call [] it asked = absurd (none-some it (sym (name_asks_nothing [] arith) ∙ asked))
-asks_call (name ∷ []) it asked = absurd (none-some it (sym (name_asks_nothing (name ∷ []) arith) ∙ asked))
+asks_call [] it asked = absurd (none-some it (sym (name_asks_nothing [] (omega arith)) ∙ asked))
+asks_call (name ∷ []) it asked = absurd (none-some it (sym (name_asks_nothing (name ∷ []) (omega arith)) ∙ asked))
 asks_call (name ∷ word ∷ rest) it asked =
     let first = first_word word rest no_form (none_refused _ _ it (sym (asks_is (name ∷ word ∷ rest)) ∙ asked)) in
     let f = get_or forms first.0 no_form in

@@ -1,4 +1,4 @@
-use Rattle.std.proofs.Common.{◌∙◌, sym}
+use Rattle.std.proofs.Common.{◌∙◌, sym, arith}
 use Rattle.std.proofs.lemmas.List.{length-map}
 use Rattle.std.specs.String.{string_bytes}
 use Rattle.command_line.proofs.Commands.{name_asks_nothing}
@@ -6,7 +6,7 @@ use Rattle.command_line.proofs.Meanings.{asks_by_subcommand, asks_nothing}
 use Rattle.command_line.proofs.words.read_words.Goals as goal
 
 pub returns-then-words-le1-clause-asked : goal.returns-then-words-le1-clause-asked
-returns-then-words-le1-clause-asked c = sym (name_asks_nothing _ (omega (length-map c.args.words.now string_bytes, c.if-words-le1.true)))
+returns-then-words-le1-clause-asked c = sym (name_asks_nothing _ (omega (arith, length-map c.args.words.now string_bytes, c.if-words-le1.true)))
 
 pub returns-in-Ok-clause-asked : goal.returns-in-Ok-clause-asked
 returns-in-Ok-clause-asked c =
