@@ -237,6 +237,13 @@ class Solved(unittest.TestCase):
                 room.run("-AMPL", "nodelimit=1")
                 self.assertEqual((room.sol()[5], room.sol()[4]), (400, wanted))
 
+    def test_a_gap_ends_a_search(self):
+        for word, wanted in (("absmipgap=10", 3), ("mipgap=0.3", 3), ("gap=0", 0), ("absmipgap=1e-6", 0)):
+            with Room(knapsack().text()) as room:  # its first case is worth 44
+                room.run("-AMPL", word, "suffixes=bound")
+                self.assertEqual(room.sol()[5], wanted, word)
+                self.assertIn("bound", room.sol()[6])
+
     def test_the_time_is_kept(self):
         rows = [[(j, str(2 * (1 + (j * (k + 3) + k) % 7))) for j in range(60)] for k in range(40, 44)]
         sides = [(str(2 * k + 1), str(2 * k + 1)) for k in range(40, 44)]

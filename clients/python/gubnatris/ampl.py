@@ -43,7 +43,7 @@ KEYS = {
 ALIASES = {"timelim": "timelimit", "maxtime": "timelimit", "gap": "mipgap", "mip_gap": "mipgap", "mipgapabs": "absmipgap", "threads": "threads"}
 LIMITED = ("nodeLimit", "turnLimit", "timeLimit", "killed", "length")
 CODES = {"optimal": 0, "infeasible": 200, "unbounded": 300}
-LIMIT, FAILURE = 400, 500
+WITHIN_GAP, LIMIT, FAILURE = 3, 400, 500
 
 
 class BadWords(Error):
@@ -174,7 +174,7 @@ def read_names(stub: str, program: NlProgram) -> tuple[list[str], list[str]]:
 def answer_of(result: Result, program: NlProgram, asked: set[str]) -> Answer:
     """What a result is to AMPL."""
     cause = (result.cause or "").partition(" ")[0]
-    code = CODES.get(result.status, LIMIT if cause in LIMITED else FAILURE)
+    code = CODES.get(result.status, WITHIN_GAP if cause == "gap" else LIMIT if cause in LIMITED else FAILURE)
     told = f"{result.status}{f', for {result.cause}' if result.cause else ''}"
     worth = ""
     if result.objective is not None:
