@@ -14,7 +14,7 @@ use Rattle.certificate.specs.declared.causes.Cause.TheVariants as causes
 use Rattle.certificate.specs.declared.claims.Claim.{Claim}
 use Rattle.certificate.specs.declared.claims.Claim.TheVariants as Has
 use Rattle.search_rules.specs.Search.{early}
-use Rattle.search_rules.specs.Asked.{asked, gave_up as gave_up_at}
+use Rattle.search_rules.specs.Asked.{asked as searched, gave_up as gave_up_at}
 use Rattle.osol_grammar.specs.declared.options.Options.{Options}
 use Rattle.osol_grammar.specs.Meaning.{IsOptionsText}
 use Rattle.osol_grammar.specs.Back.{IsNameOrNone}
@@ -160,8 +160,8 @@ module _ (names : (bytes : List ℕ) (o : Options) → IsOptionsText bytes o →
   solved_good : (osil osol : List ℕ) (stop : Option ℕ) (timed : Option Frac) (looks : ℕ) (r : Report) → SolvedBeside beside osil osol stop timed looks r → IsGoodReport osil r
   solved_good osil osol stop timed looks r s =
       let g = s.given in
-      let shown = shows.outcome (problem g.parts) (job_terms g.options stop) (job_asked g.options) _ s.start s.outcome s.bound _ (numbers g.parts) s.first (asked s.ends) in
-      let bounded = bound_shown shows (problem g.parts) (job_terms g.options stop) (job_asked g.options) _ s.start s.outcome s.bound _ (numbers g.parts) s.first (asked s.ends) in
+      let shown = shows.outcome (problem g.parts) (job_terms g.options stop) (job_asked g.options) _ s.start s.outcome s.bound _ (numbers g.parts) s.first (searched s.ends) in
+      let bounded = bound_shown shows (problem g.parts) (job_terms g.options stop) (job_asked g.options) _ s.start s.outcome s.bound _ (numbers g.parts) s.first (searched s.ends) in
       let good = closed_good g.parts g.options.job g.valid (short_name g.options.job (names osol g.options g.options_text)) g.options.form s.turns s.found s.told (record { outcome = renamed timed s.outcome; bound = s.bound; tells = s.tells; shown = renamed_shown (problem g.parts) timed s.outcome shown; bounded = bounded }) s.closed in
       record {
         job = g.options.job;

@@ -15,7 +15,7 @@ use Rattle.search_rules.specs.Branching.{Case}
 use Rattle.search_rules.specs.Cuts.{Trial, NoCut, WideCut, Cut}
 use Rattle.search_rules.specs.Search.{Found, Outcome, Optimal, Infeasible, Unbounded, BestSoFar, Unsure, SearchMoment, NextOfSearch, To, Out, early, shown_at, StopsBefore, Branches, MayCut, TakesFound, TakesPoint, MeetsPoint, GoesFromTrial, GoesFromBest, GoesFrom, ClosesLevel, IsNextInSearch}
 use Rattle.search_rules.specs.Bounds.{Carried, IsBoundOf, claimed}
-use Rattle.search_rules.specs.Asked.{Asked, ComesAsked, asked_first, asked_on, asked_level, EndsAsked, near, ends, FindsBound, FindsAsked, IsAskedAnswer, asked, gave_up, gave_up_after, gave_up_closing}
+use Rattle.search_rules.specs.Asked.{Asked, ComesAsked, asked_first, asked_on, asked_level, EndsAsked, near as stops_near, ends as ends_so, FindsBound, FindsAsked, IsAskedAnswer, asked as searched, gave_up, gave_up_after, gave_up_closing}
 use Rattle.solve_run.proofs.ClaimNodes.{said_certificates, bound_certificates}
 
 module _ (P : Problem) (t : Terms) where
@@ -105,7 +105,7 @@ module _ (P : Problem) (t : Terms) where
 
   -- a bound's are those of the level at hand, or of the first one
   bound_few : (m : SearchMoment) (ks : List Carried) (b : ProvedBound) → AreFew m → IsBoundOf P m ks b → HasFew b.certificate
-  bound_few m ks b few (inl open) = subst (λ (x : Certificate). length x.rounds ≤ t.rounds) (sym open.certificate) few.1
+  bound_few m ks b few (inl here) = subst (λ (x : Certificate). length x.rounds ≤ t.rounds) (sym here.certificate) few.1
   bound_few m ks b few (inr reached) = All-head HasFew b.certificate reached.others (subst (All HasFew) reached.shown few.0)
 
   -- with its bound, if it has one
@@ -131,11 +131,11 @@ module _ (P : Problem) (t : Terms) where
     comes_few m ks xs (asked_level {m = before} c none next) = next_few before (To m) (comes_few before [] [] c) next
 
     ends_few : (m : SearchMoment) (xs : List (Option Ratio)) (o : Outcome) (c : Clock) → AreFew m → EndsAsked P t a m xs o c → CarriesFew o
-    ends_few m xs o c few (near s) = early_few m.best _
-    ends_few m xs o c few (ends far next) = next_few m (Out o c) few next
+    ends_few m xs o c few (stops_near s) = early_few m.best _
+    ends_few m xs o c few (ends_so far next) = next_few m (Out o c) few next
 
     pub answer_few : (o : Outcome) (b : Option ProvedBound) (c : Clock) → IsAskedAnswer P t a start o b c → CarriesFewWith o b
-    answer_few o b c (asked s) = let few = comes_few s.last s.carried s.numbers s.comes in with_few a.bound s.last s.carried o b few (ends_few s.last s.numbers o c few s.ends) s.has
+    answer_few o b c (searched s) = let few = comes_few s.last s.carried s.numbers s.comes in with_few a.bound s.last s.carried o b few (ends_few s.last s.numbers o c few s.ends) s.has
     answer_few o b c (gave_up {m} h) = early_few m.best _
     answer_few o b c (gave_up_after {m} h r) = early_few m.best _
     answer_few o b c (gave_up_closing {m} asks h over) = early_few m.best _

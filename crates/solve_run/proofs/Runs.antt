@@ -22,7 +22,7 @@ use Rattle.simplex_rules.specs.Ends.{Terms, Clock}
 use Rattle.simplex_rules.specs.Looks.{answers, went_on, looks_after, stop_after}
 use Rattle.search_rules.specs.Search.{Found, Outcome, SearchMoment, early}
 use Rattle.search_rules.specs.Bounds.{Carried, claimed}
-use Rattle.search_rules.specs.Asked.{ComesAsked, AskedSearch, IsAskedAnswer, asked, gave_up as gave_up_at, gave_up_after, gave_up_closing}
+use Rattle.search_rules.specs.Asked.{ComesAsked, AskedSearch, IsAskedAnswer, asked as searched, gave_up as gave_up_at, gave_up_after, gave_up_closing}
 use Rattle.rational.specs.Ratio.{Ratio}
 use Rattle.solve_run.specs.Firsts.{IsFirstOf, IsNoteFrom}
 use Rattle.search_rules.specs.Outcomes.{IsShown}
@@ -166,7 +166,7 @@ module _ (beside : Option (List ℕ)) (osil osol : List ℕ) (o : Options) (p : 
       }
 
       answered : (oc : Outcome) (b : Option ProvedBound) (c : Clock) → c ≡ clock_after turns (looks_by n killed timed) → ClaimTellsWith found (renamed timed oc) b → IsShown (problem p) oc → IsAskedAnswer (problem p) (job_terms o (stop_by n killed timed)) (job_asked o) start oc b c → ClosesClaim p ns note o.job o.form turns found doc → OutcomeBeside beside osil osol n killed doc
-      answered oc b c at tells shown (asked s) closes = ended oc b c at tells s closes
+      answered oc b c at tells shown (searched s) closes = ended oc b c at tells s closes
       answered oc b c at tells shown (gave_up_at {m} {ks} {xs} h) closes = wanted timed m ks xs tells shown h closes
       answered oc b c at tells shown (gave_up_after {m} {ks} {xs} h r) closes = wanted timed m ks xs tells shown h closes
       answered oc b c at tells shown (gave_up_closing {m} {ks} {xs} asks h over) closes = wanted timed m ks xs tells shown h closes

@@ -14,7 +14,7 @@ use Rattle.certificate.specs.declared.claims.Claim.TheVariants as Has
 use Rattle.search_rules.specs.Search.{SearchMoment, Outcome, Optimal, Infeasible, Unbounded, BestSoFar, Unsure}
 use Rattle.search_rules.specs.Outcomes.{IsShown}
 use Rattle.search_rules.specs.Bounds.{Carried, claimed}
-use Rattle.search_rules.specs.Asked.{FindsAsked, asked}
+use Rattle.search_rules.specs.Asked.{FindsAsked, asked as searched}
 use Rattle.osrl_writing.specs.declared.report.Report.{Report}
 use Rattle.solve_run.specs.declared.closing.Judged.{Judged}
 use Rattle.solve_run.specs.declared.closing.Judged.TheVariants.{Width, Bound}
@@ -72,7 +72,7 @@ pub told_bounds : AskedAreShown → ((p : Parts) → IsProblem (problem p)) → 
     → Means.claim s.told ≡ claimed (renamed timed s.outcome) (Some b)
 told_bounds shows numbers beside osil osol stop timed looks r s b is proved short =
     let p = s.given.parts in
-    let shown = shows.outcome (problem p) (job_terms s.given.options stop) (job_asked s.given.options) _ s.start s.outcome s.bound _ (numbers p) s.first (asked s.ends) in
+    let shown = shows.outcome (problem p) (job_terms s.given.options stop) (job_asked s.given.options) _ s.start s.outcome s.bound _ (numbers p) s.first (searched s.ends) in
     let has : bound_said (claimed s.outcome (Some b)) ≡ Some b = bound_is (problem p) (nat_eq s.given.options.bound 1) s.ends.last s.ends.carried s.outcome b (subst (FindsAsked (problem p) (nat_eq s.given.options.bound 1) s.ends.last s.ends.carried s.outcome) is s.ends.has) in
     let says : Means.claim s.found ≡ claimed (renamed timed s.outcome) (Some b) = s.tells.says ∙ ap (claimed (renamed timed s.outcome)) is in
     let plainly : Means.claim s.found ≡ claimed s.outcome (Some b) = says ∙ renamed_says timed s.outcome (Some b) in

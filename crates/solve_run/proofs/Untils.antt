@@ -1,11 +1,14 @@
 -- What a search found whose watch was wrapped in one that a time may stop.
-use Rattle.std.proofs.Common.{◌≡◌, ◌≢◌, ◌∙◌, ℕ, zero, suc, ◌+◌, ◌⊎◌, inl, inr, Bool, true, false, Option, None, Some, List, [], ◌∷◌, map, refl, sym, ap, subst, nat_lt, arith}
+use Rattle.std.proofs.Common.{◌≡◌, ◌≢◌, ◌∙◌, ℕ, zero, suc, ◌+◌, ◌⊎◌, inl, inr, Bool, true, false, Option, None, Some, List, [], ◌∷◌, map, refl, sym, ap, subst, nat_eq, nat_lt, arith}
 use Rattle.fraction.specs.declared.frac.Frac.{Frac}
 use Rattle.os_io.specs.Looks.{stops_of}
 use Rattle.stop_reasons.specs.Reasons.{CameUntil, says_stop, says_killed, says_time}
 use Rattle.stop_reasons.specs.declared.until.Reason.{Reason}
 use Rattle.stop_reasons.specs.declared.until.Reason.TheVariants.{Killed, Time}
+use Rattle.evidence.specs.Instance.{Problem}
 use Rattle.evidence.specs.ProvedBounds.{ProvedBound}
+use Rattle.simplex_rules.specs.Ends.{Terms, Clock}
+use Rattle.search_rules.specs.Gaps as gaps
 use Rattle.instance.specs.Parts.{Parts}
 use Rattle.instance.specs.Program.{problem}
 use Rattle.certificate.specs.declared.claims.Claim.{Claim}
@@ -15,7 +18,7 @@ use Rattle.search_rules.specs.Search.{Found, Outcome}
 use Rattle.search_rules.specs.Asked.{IsAskedAnswer}
 use Rattle.branch_bound.specs.Claims.{ClaimTellsWith}
 use Rattle.osol_grammar.specs.declared.options.Options.{Options}
-use Rattle.solve_run.specs.Asking.{job_asked}
+use Rattle.solve_run.specs.Asking.{search_gap, job_asked}
 use Rattle.solve_run.specs.Untils.{job_terms, named, timed_claim, FindsUntil}
 use Rattle.solve_run.proofs.PartialClaims.{timed_tells}
 
@@ -53,6 +56,11 @@ last_told (None ∷ told) (suc n) e =
     let rest : map says_stop told ≡ answers n true = cc in
     one_more told n (last_told told n rest)
 last_told (Some why ∷ told) (suc n) e = absurd (cc)
+
+-- ---- what is asked
+
+pub gap_asked : (P : Problem) (t : Terms) (o : Options) (start : Option Found) (oc : Outcome) (bound : Option ProvedBound) (c : Clock) (gap : Option gaps.Gap) → gap ≡ search_gap o.gap → IsAskedAnswer P t (record { bound = nat_eq o.bound 1; gap = gap }) start oc bound c → IsAskedAnswer P t (job_asked o) start oc bound c
+gap_asked P t o start oc bound c gap is answer = subst (λ (x : Option gaps.Gap). IsAskedAnswer P t (record { bound = nat_eq o.bound 1; gap = x }) start oc bound c) is answer
 
 -- ---- what was found
 

@@ -87,27 +87,15 @@ fn by_time(seconds: Frac, cause: Cause) -> Cause
 }
 
 /// A claim of a search that was stopped for a time: its cause is the time, and its bound stays.
-fn timed_claim(seconds: Frac, claim: Claim) -> Claim
+fn timed_claim(seconds: Frac, mut claim: Claim) -> Claim
     ensures { result ≡ timed_claim seconds claim }
 {
-    match claim {
-        Claim::BestSoFar {
-            point,
-            values,
-            cause,
-            bound,
-        } => Claim::BestSoFar {
-            point,
-            values,
-            cause: by_time(seconds, cause),
-            bound,
-        },
-        Claim::Unsure { cause, bound } => Claim::Unsure {
-            cause: by_time(seconds, cause),
-            bound,
-        },
-        claim => claim,
+    match &mut claim {
+        Claim::BestSoFar { cause, .. } => *cause = by_time(seconds, *cause),
+        Claim::Unsure { cause, .. } => *cause = by_time(seconds, *cause),
+        _ => {}
     }
+    claim
 }
 
 /// A claim that a search found, with the time that was over as its cause, where it was the time that stopped it.
