@@ -143,6 +143,7 @@ fn lessened(
     note: Option<Text>,
     report: Report,
 ) -> Result<Document, Memory>
+    requires { (job : Option (List ℕ)) × (c : OneClaim) × (report ≡ specs.claim_report job c) }
     ensures { (job : Option (List ℕ)) (c : OneClaim) → report ≡ specs.claim_report job c → (specs.IsShort job c → ⊥) → IfOk result (IsFittedDocument names.now note job c) }
 {
     let mut report = without_bound(report);

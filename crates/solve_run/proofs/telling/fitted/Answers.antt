@@ -23,3 +23,6 @@ pub returns-then-is_none-2 : goal.returns-then-is_none-2
 returns-then-is_none-2 c =
     fitted_short _ _ _ _ _ _ (c.is_none.ensures.0 c.if-is_none.true) (is_silent c.args.note c.is_none-then-is_none.result c.is_none-then-is_none.ensures c.if-is_none-2.true) c.claim_report-report.ensures (record { text = c.in-Ok.ensures; error = sym (ap (λ (r : Report). r.error) c.claim_report-report.ensures) })
     (omega (arith, c.if-len-gt-MOST_BYTES.false, c.len.ensures))
+
+pub lessened-requires : goal.lessened-requires
+lessened-requires c = (c.args.job, c.args.claim, c.claim_report-report.ensures)

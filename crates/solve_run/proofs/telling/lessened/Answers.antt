@@ -21,3 +21,9 @@ pub returns : goal.returns
 returns c = λ job claim is long.
     IfOk-weaker c.noted_or_memory-2.result _ _ (λ doc told. fitted_without _ _ _ _ _ c.in-Ok.text doc long (c.without_bound-report.ensures job claim is) c.in-Ok.ensures
     (omega (arith, c.if-len-gt-MOST_BYTES.false, c.len.ensures)) told) c.noted_or_memory-2.ensures
+
+pub noted_or_memory-requires : goal.noted_or_memory-requires
+noted_or_memory-requires c = let (job, claim, is) = c.requires in ap (λ (r : Report). r.message) (c.shortened.ensures job (unbounded claim) (c.without_bound-report.ensures job claim is))
+
+pub noted_or_memory-requires-2 : goal.noted_or_memory-requires-2
+noted_or_memory-requires-2 c = let (job, claim, is) = c.requires in ap (λ (r : Report). r.message) (c.without_bound-report.ensures job claim is)
