@@ -20,7 +20,8 @@ use Rattle.search_rules.proofs.OpenBounds.{AllCarry, bound_shown}
 use Rattle.search_rules.proofs.BoundLaws.{is_one, has_values, Steps, visits, climbs, step_once}
 use Rattle.search_rules.proofs.FirstPoints.{first_holds, first_once}
 use Rattle.search_rules.proofs.AskedSearches.{asked_hold, answer_shown}
-use Rattle.search_rules.proofs.NearSearches.{AllNumbered, to_carry, all_numbered, visit_numbered, level_numbered}
+use Rattle.search_rules.proofs.NearSearches.{AllNumbered, to_carry, visit_numbered, level_numbered}
+use Rattle.search_rules.proofs.AskedCases.{carry}
 
 -- what is told is proved
 told_proved : (P : Problem) (b d : Option ProvedBound) → TellsOf P b d → IfSome d (λ d. IsProvedBound P d)
@@ -29,15 +30,12 @@ told_proved P None (Some d) tells = absurd (cc)
 told_proved P (Some b) (Some d) tells = subst (IsProvedBound P) (sym tells.0) tells.1
 
 module _ (P : Problem) (t : Terms) (a : Asked) (good : IsProblem P) (gs : Option (List (Option Ratio))) (start : Option Found) (is_first : IsFirstBest P gs start) where
-  carry : (m : SearchMoment) (ks : List Carried) (xs : List (Option Ratio)) → ComesAsked P t a start m ks xs → AllCarry m.waiting ks
-  carry m ks xs c = to_carry m.waiting ks xs (all_numbered P t a good gs start is_first m ks xs c)
-
   -- a bound that is found is shown
   pub found_shown : (o : Outcome) (d : Option ProvedBound) (b : ProvedBound) (c : Clock) → d ≡ Some b → IsAskedAnswer P t a start o d c → IsShownBound P b
   found_shown o d b c e (asked s) = by a.bound o d e s.has
     where
       shown : IsBoundOf P s.last s.carried b → IsShownBound P b
-      shown is = bound_shown P s.last s.carried (asked_hold P t a good gs start is_first s.last s.carried s.numbers s.comes) (carry s.last s.carried s.numbers s.comes) b is
+      shown is = bound_shown P s.last s.carried (asked_hold P t a good gs start is_first s.last s.carried s.numbers s.comes) (carry P t a good gs start is_first s.last s.carried s.numbers s.comes) b is
 
       by : (asks : Bool) (o : Outcome) (d : Option ProvedBound) → d ≡ Some b → FindsAsked P asks s.last s.carried o d → IsShownBound P b
       by asks o None e h = absurd (cc)
