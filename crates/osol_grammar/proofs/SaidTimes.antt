@@ -1,4 +1,4 @@
--- A text says one time, and the time that was written of seconds is read as these.
+-- A text says one number and one time, and the number that was written, or the time that was written of seconds, is read as these.
 use Rattle.std.proofs.Common.{◌≡◌, ◌*◌, ◌<◌, inl, inr, ℕ, ℤ, pos, Ok, List, refl, ap, sym, subst, arith}
 use Rattle.rational.specs.Ratio.{Ratio, whole, product, IsSame}
 use Rattle.rational.specs.Width.{IsReduced, IsWithin, ReducedFits}
@@ -41,6 +41,10 @@ pub no_amount : (text : List ℕ) (fault other : DecimalFault) → RefusesRatio 
 no_amount text fault other refuses refuses_too y (inl form) = no_ratio text fault refuses y form
 no_amount text fault other refuses refuses_too y (inr is) = decimal_refused (ratio y) text other is.1 refuses_too
 
+-- a number that was written is read
+pub amount_read : (x : Frac) → IsAmount (ratio_text (ratio x)) x
+amount_read x = inl (written_ratio (ratio x) (x.above, x.reduced) (x.numer_within, x.denom_within))
+
 -- ---- times
 
 pub time_once : (unit : ℕ) (text : List ℕ) (s t : Frac) → SaysTime unit text s → SaysTime unit text t → s ≡ t
@@ -80,4 +84,4 @@ by_one n d =
     rw (times_one n, below) refl
 
 pub time_read : (s : Frac) → IsTime s → SaysTime 1 (ratio_text (ratio s)) s
-time_read s is = record { amount = s; written = inl (written_ratio (ratio s) (s.above, s.reduced) (s.numer_within, s.denom_within)); times = by_one s.numer s.denom; is = is }
+time_read s is = record { amount = s; written = amount_read s; times = by_one s.numer s.denom; is = is }
