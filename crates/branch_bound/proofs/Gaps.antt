@@ -1,10 +1,10 @@
 -- How far a best point may be, and which open cases are bounded.
-use Rattle.std.proofs.Common.{◌≡◌, ◌↔◌, ℕ, zero, suc, ◌+◌, ◌<◌, Bool, true, false, cond, unsigned_abs, pos, Option, None, Some, IsSomeAnd, List, [], ◌∷◌, map, length, get_or, arith, lit<, refl, sym, ◌∙◌, ap, subst}
+use Rattle.std.proofs.Common.{◌≡◌, ℕ, zero, suc, ◌+◌, ◌<◌, Bool, true, false, cond, Option, None, Some, IsSomeAnd, List, [], ◌∷◌, map, length, get_or, arith, lit<, refl, sym, ◌∙◌, ap, subst}
 use Rattle.std.specs.List.{All}
 use Rattle.std.proofs.lemmas.List.{length-map, get_or-map}
 use Rattle.std.proofs.lemmas.List.Elements.{All-nil, All-cons, All-head, All-tail, All-map}
 use Rattle.rational.specs.Ratio.{Ratio, sum, product, negative, IsNumber, IsSame, IsAtMost}
-use Rattle.rational.specs.Width.{ReducedFits, SumFits}
+use Rattle.rational.specs.Width.{ReducedFits}
 use Rattle.fraction.specs.Frac.{ratio, ratios}
 use Rattle.fraction.specs.declared.frac.Frac.{Frac}
 use Rattle.std.proofs.lemmas.Bool.{false≢true}

@@ -28,6 +28,8 @@ mod ClaimsAtEnd
 mod NextGoal
 mod CaseMoments
 mod FirstLevel
+mod AnyRay
+mod EarlyEnds
 mod Looks
 mod Changes
 mod FirstValues

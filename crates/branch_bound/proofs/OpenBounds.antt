@@ -1,6 +1,5 @@
 -- The least number of the cases that are closed one after the other.
-use Rattle.std.proofs.Common.{◌≡◌, ◌⊎◌, inl, inr, ℕ, zero, suc, ◌+◌, ◌<◌, ◌≤◌, pos, ◌*ℤ◌, true, Option, None, Some, IfSome, List, [], ◌∷◌, ◌++◌, length, map, option_map, arith, refl, sym, ◌∙◌, ap, ap₂, append_assoc, append-nil, lit<, subst}
-use Rattle.std.specs.List.{All}
+use Rattle.std.proofs.Common.{◌≡◌, ◌⊎◌, inl, inr, ℕ, zero, suc, ◌+◌, ◌<◌, pos, ◌*ℤ◌, true, Option, None, Some, IfSome, List, [], ◌∷◌, ◌++◌, length, map, option_map, arith, refl, sym, ◌∙◌, ap, ap₂, append_assoc, append-nil, lit<, subst}
 use Rattle.std.proofs.Math.ListN.{get_or-append, length-append}
 use Rattle.std.proofs.lemmas.Int.{ints, by_lt_z}
 use Rattle.std.proofs.lemmas.List.{get_or-append-add}
@@ -36,7 +35,7 @@ use Rattle.branch_bound.specs.declared.carried.Carried.{Carried}
 use Rattle.branch_bound.specs.declared.walk.Walk.{Walk}
 use Rattle.branch_bound.specs.Walks.{best, waiting, case, rest}
 use Rattle.branch_bound.specs.Levels.{moment}
-use Rattle.branch_bound.specs.Bounds.{carried_at, kept_after, kept_by, kept_next, carried, multipliers_of, numbers_before, case_program, start_of, AllBound, IsBestNumber, HasClosed, ClosesCase, ClosesAll}
+use Rattle.branch_bound.specs.Bounds.{carried_at, kept_after, kept_next, carried, multipliers_of, numbers_before, case_program, start_of, AllBound, IsBestNumber, HasClosed, ClosesCase, ClosesAll}
 
 at_most-trans : (x y z : Ratio) → IsNumber y → IsAtMost x y → IsAtMost y z → IsAtMost x z
 at_most-trans x y z n p q =

@@ -1,5 +1,5 @@
 //! The search, case by case.
-ghost use Rattle.std.specs.Prelude.{◌≡◌, ◌⊎◌, ℕ, ◌+◌, ◌-◌, ◌^◌, ◌<◌, ◌≤◌, Bool, Option, None, Some, List, [], true, length, map, IfOk};
+ghost use Rattle.std.specs.Prelude.{◌≡◌, ◌⊎◌, ℕ, ◌+◌, ◌-◌, ◌^◌, ◌<◌, ◌≤◌, Bool, not, ◌&&◌, Option, None, Some, List, [], true, length, map, IfOk};
 ghost use Rattle.rational.specs.Ratio.{Ratio};
 ghost use Rattle.fraction.specs.Frac.{ratio, ratios};
 ghost use Rattle.evidence.specs.Point.{value_at};
@@ -213,6 +213,13 @@ fn is_memory(cause: &Cause) -> bool
     matches!(cause, Cause::Memory)
 }
 
+/// Whether a bound is told of a search that is given up for this cause: where one is asked for, and memory wasn't wanting.
+fn tells_bound(limits: Limits, cause: &Cause) -> bool
+    ensures { result ≡ limits.bound && not (is_want cause.now) }
+{
+    limits.bound && !is_memory(cause)
+}
+
 /// The claim of a search that ends before all its cases are closed: where a bound is asked for, and memory wasn't wanting, with that of
 /// its last moment. Where memory for the bound is wanting, that is the cause.
 fn end_early<L: Ledger>(
@@ -230,9 +237,10 @@ fn end_early<L: Ledger>(
     match ended {
         Ended::Unbounded { found, ray } => claim_endless(found, ray, level.certs),
         Ended::Early { best, cause } => {
-            if !limits.bound || is_memory(&cause) {
+            if !tells_bound(limits, &cause) {
                 return claim_early(best, cause, None);
             }
+            let _some = instance.goals();
             walk.ray = None;
             let rows = relaxation.rows.as_slice();
             match bound_of(alloc, instance, rows, level, walk, &best) {

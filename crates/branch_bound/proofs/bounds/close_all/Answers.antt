@@ -1,8 +1,7 @@
-use Rattle.std.proofs.Common.{◌≡◌, ◌<◌, ◌≤◌, ℕ, true, None, Some, IfSome, List, Option, [], ◌∷◌, map, length, refl, sym, ◌∙◌, ap, subst, arith}
-use Rattle.std.proofs.lemmas.List.{length-map}
-use Rattle.case_tree.specs.Cuts.{pending_places, AreBranches}
+use Rattle.std.proofs.Common.{◌≤◌, ℕ, None, IfSome, List, Option, length, ◌∙◌, ap, subst, arith}
+use Rattle.case_tree.specs.Cuts.{AreBranches}
 use Rattle.branch_bound.specs.declared.carried.Carried.{Carried}
-use Rattle.branch_bound.specs.Bounds.{kept_next, kept_by, kept_after}
+use Rattle.branch_bound.specs.Bounds.{kept_next}
 use Rattle.branch_bound.proofs.Kept.{some_below}
 use Rattle.branch_bound.proofs.OpenBounds.{all_closed, not_closed, closes_on, bounds_left, bound_here}
 use Rattle.branch_bound.proofs.bounds.close_all.Goals as goal

@@ -1,4 +1,4 @@
-use Rattle.std.proofs.Common.{Option, [], ◌∷◌, false, IsTrue, refl, sym, subst}
+use Rattle.std.proofs.Common.{Option, [], ◌∷◌, false, IsTrue, sym, subst}
 use Rattle.fraction.specs.Frac.{ratio}
 use Rattle.fraction.specs.declared.frac.Frac.{Frac}
 use Rattle.search_rules.specs.Bounds.{IsLeast}

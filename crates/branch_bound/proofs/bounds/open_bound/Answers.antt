@@ -1,11 +1,8 @@
-use Rattle.std.proofs.Common.{◌≡◌, Option, List, [], length, sym, ◌∙◌, ap, subst}
+use Rattle.std.proofs.Common.{sym, ◌∙◌, ap}
 use Rattle.fraction.specs.Frac.{ratio}
-use Rattle.fraction.specs.declared.frac.Frac.{Frac}
 use Rattle.evidence.specs.Instance.{minimising_by}
-use Rattle.certificate.specs.declared.nodes.Cert.{Cert}
 use Rattle.instance.specs.declared.parts.Goal.{Goal}
 use Rattle.instance.specs.Program.{goal as meaning}
-use Rattle.branch_bound.specs.Bounds.{ClosesAll}
 use Rattle.branch_bound.proofs.Gaps.{less_is}
 use Rattle.branch_bound.proofs.OpenBounds.{finds, finds_none, empty_list}
 use Rattle.branch_bound.proofs.bounds.open_bound.Goals as goal

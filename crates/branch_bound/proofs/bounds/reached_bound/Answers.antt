@@ -1,4 +1,4 @@
-use Rattle.std.proofs.Common.{List, length, sym, ap, subst, ◌<◌}
+use Rattle.std.proofs.Common.{List, length, sym, subst, ◌<◌}
 use Rattle.fraction.specs.declared.frac.Frac.{Frac}
 use Rattle.branch_bound.proofs.bounds.reached_bound.Goals as goal
 
