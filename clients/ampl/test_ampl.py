@@ -217,9 +217,9 @@ class Solved(unittest.TestCase):
             told = room.run(environment={f"{DRIVER.name}_options": "outlev=0 nodelimit=5"})
             self.assertEqual((told.stdout, told.returncode), ("", 0))
             self.assertFalse(Path(room.folder, "p.sol").exists())
-            self.assertEqual(room.run("wantsol=1", "gap=0", "fast=0", "threads=4").returncode, 0)
+            self.assertEqual(room.run("wantsol=1", "mipgap=0", "gap=0.0", "absmipgap=0", "fast=0", "threads=4").returncode, 0)
             self.assertIn("threads is passed over", room.sol()[0])
-            for word, wanted in (("gap=0.1", "gap=0.1 is refused"), ("fast=1", "fast=1 is refused"), ("cuts=2", "no option 'cuts'"),
+            for word, wanted in (("gap=x", "mipgap is 'x', which is no number"), ("absmipgap=-1", "absmipgap is '-1'"), ("fast=1", "fast=1 is refused"), ("cuts=2", "no option 'cuts'"),
                                  ("timelimit=x", "no number of seconds"), ("nodelimit=-1", "no count"), ("nodelimit=0", "osol BadLimit"), ("-x", "is no option")):  # fmt: skip
                 told = room.run("-AMPL", word)
                 self.assertEqual((told.returncode, told.stderr.count("\n")), (1, 1))

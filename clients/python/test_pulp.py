@@ -205,7 +205,8 @@ class Bad(unittest.TestCase):
 
     def test_options(self):
         problem, _ = first_problem()
-        self.refuses("no option gapRel", problem, gapRel=0.1)
+        self.refuses("gapRel and gapAbs are two gaps", problem, gapRel=0.1, gapAbs=1)
+        self.refuses("osol BadGap", problem, gapRel=-0.1)
         self.refuses("no option cuts", problem, cuts=True)
         self.refuses("no options as '-x'", problem, options=["-x"])
         self.refuses("osol BadLimit", problem, maxNodes=0)

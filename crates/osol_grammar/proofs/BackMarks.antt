@@ -69,6 +69,7 @@ amount_said limits.Nodes n few count = count
 amount_said limits.Turns n few count = count
 amount_said Rounds n few count = count
 amount_said Names n few count = count
+amount_said Bound n few count = count
 
 amount_is : (l : Limit) (n : ℕ) → (limit_row l).least ≤ n → n ≤ (limit_row l).most → SaysAmount l (option_of l n) n
 amount_is l n above below =

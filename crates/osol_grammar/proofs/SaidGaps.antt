@@ -1,7 +1,8 @@
 -- A text says one gap, and the gap that was written is read.
-use Rattle.std.proofs.Common.{◌≡◌, ◌≢◌, ◌∙◌, ℕ, ◌+◌, ◌<◌, ◌==◌, pos, Bool, true, false, cond, List, [], ◌∷◌, ◌++◌, append-nil, refl, ap₂, sym, subst, arith}
-use Rattle.std.specs.Prelude.{◌≤ℤ◌, ◌<ℤ◌, codes, decimal}
+use Rattle.std.proofs.Common.{◌≡◌, ◌≢◌, ◌∙◌, ℕ, ◌==◌, ℤ, pos, Bool, true, false, cond, List, [], ◌∷◌, ◌++◌, append-nil, refl, ap₂, sym, subst, arith}
+use Rattle.std.specs.Prelude.{◌≤ℤ◌, int_lt, codes, decimal}
 use Rattle.std.specs.Fmt.{signed_decimal}
+use Rattle.std.proofs.lemmas.Int.{ints}
 use Rattle.std.proofs.lemmas.List.{append_cancel_right}
 use Rattle.tree_grammar.specs.Characters.{Each}
 use Rattle.tree_grammar.specs.Elements.{Attribute}
@@ -38,16 +39,21 @@ text_once text g h a b =
 pub gap_once : (as' : List Attribute) (g h : Gap) → SaysGap as' g → SaysGap as' h → g ≡ h
 gap_once as' = some_once IsGapText text_once (value_of (codes "value") as')
 
+-- a number is below 0, or from 0 on
+never_both : (z : ℤ) → int_lt z (pos 0) ≡ true → pos 0 ≤ℤ z → ⊥
+never_both z below above = grind (arith, ints)
+
+pub from_0 : (z : ℤ) → int_lt z (pos 0) ≡ false → pos 0 ≤ℤ z
+from_0 z other = grind (arith, ints)
+
 -- the text says no gap: what stands before the sign is no number, or one below 0
 pub no_gap : (b : Bool) (digits text : List ℕ) → IsBeforePercent b digits text → ((x : Frac) → IsAmount digits x → ⊥) → (g : Gap) → IsGapText text g → ⊥
 no_gap b digits text before none g is = none g.number (number_there b digits text before g is)
 
-pub below_0 : (b : Bool) (digits text : List ℕ) (x : Frac) → IsBeforePercent b digits text → IsAmount digits x → x.numer <ℤ pos 0 → (g : Gap) → IsGapText text g → ⊥
+pub below_0 : (b : Bool) (digits text : List ℕ) (x : Frac) → IsBeforePercent b digits text → IsAmount digits x → int_lt x.numer (pos 0) ≡ true → (g : Gap) → IsGapText text g → ⊥
 below_0 b digits text x before written below g is =
     let same = amount_once digits x g.number written (number_there b digits text before g is) in
-    let under : g.number.numer <ℤ pos 0 = subst (λ (y : Frac). y.numer <ℤ pos 0) same below in
-    let above = is.above in
-    omega (arith, under, above)
+    never_both g.number.numer (subst (λ (y : Frac). int_lt y.numer (pos 0) ≡ true) same below) is.above
 
 -- ---- what is written
 

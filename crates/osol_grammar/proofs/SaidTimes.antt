@@ -1,5 +1,5 @@
 -- A text says one number and one time, and the number that was written, or the time that was written of seconds, is read as these.
-use Rattle.std.proofs.Common.{◌≡◌, ◌*◌, ◌<◌, inl, inr, ℕ, ℤ, pos, Ok, List, refl, ap, sym, subst, arith}
+use Rattle.std.proofs.Common.{◌≡◌, ◌*◌, ◌<◌, inl, inr, ℕ, ℤ, pos, Ok, List, refl, sym, subst, arith}
 use Rattle.rational.specs.Ratio.{Ratio, whole, product, IsSame}
 use Rattle.rational.specs.Width.{IsReduced, IsWithin, ReducedFits}
 use Rattle.rational.proofs.Scaling.{IsSame-trans}
@@ -8,7 +8,7 @@ use Rattle.fraction.specs.declared.frac.Frac.{Frac}
 use Rattle.fraction.proofs.Order.{same_fraction}
 use Rattle.decimal_text.specs.declared.fault.DecimalFault.{DecimalFault}
 use Rattle.decimal_text.specs.declared.fault.DecimalFault.TheVariants.{NotNumber, Wide, NotDecimal, Memory}
-use Rattle.decimal_text.specs.Decimal.{DecimalGrammar, IsDecimal, IsWideDecimal}
+use Rattle.decimal_text.specs.Decimal.{DecimalGrammar, IsWideDecimal}
 use Rattle.decimal_text.specs.Exact.{RatioText, ratio_text}
 use Rattle.decimal_text.specs.Fault.{RefusesText, RefusesRatio}
 use Rattle.decimal_text.specs.Space.{trimmed}

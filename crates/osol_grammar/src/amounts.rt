@@ -51,8 +51,11 @@ pub(crate) fn limit_of(attributes: &Attributes<'_>) -> Option<Limit>
 pub(crate) fn is_gap(attributes: &Attributes<'_>) -> bool
     ensures { IsTrue result ↔ IsGapOption attributes.now }
 {
+    if !is_meant(attributes) {
+        return false;
+    }
     match value(attributes, b"name") {
-        Some(name) => name == b"gap".as_slice() && is_meant(attributes),
+        Some(name) => name == b"gap".as_slice(),
         None => false,
     }
 }

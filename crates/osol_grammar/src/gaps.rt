@@ -34,7 +34,9 @@ fn read_gap(text: &[u8]) -> Option<Gap>
     ensures { MatchOption result ((g : kinds.Gap) → said.IsGapText text.now g → ⊥) (λ g. said.IsGapText text.now g) }
 {
     let (is_percent, digits) = before_percent(text);
-    let number = read_amount(digits)?;
+    let Some(number) = read_amount(digits) else {
+        return None;
+    };
     if number.numer < 0 {
         return None;
     }
