@@ -111,7 +111,7 @@ module _ (p : Parts) (job : Option (List ℕ)) (valid : IsValid p) (name : IsSho
   rows_good c told s final fine (inr (inr (long, longer, same))) = subst (IsGood p job) (sym (same ∙ rows_given (length p.vars) c causes.Length)) (given_good c causes.Length s)
 
   formed_good : (form : ℕ) (c formed told : Claim) → IsShownClaim p c → ((k : Kind) → kind c ≡ Some k → Accepts (problem p) (Means.claim c)) → IsFormed p job form c formed → IsFitted job formed told → IsGood p job told
-  formed_good form c formed told s accepted (inl (one, fine, same)) fitted = rows_good c told s fine.0 fine.1.0 (subst (λ (d : Claim). IsFitted job d told) same fitted)
+  formed_good form c formed told s accepted (inl (one, fine, same)) fitted = rows_good c told s fine.0 fine.1 (subst (λ (d : Claim). IsFitted job d told) same fitted)
   formed_good form c formed told s accepted (inr (other_form, same)) fitted = fitted_good c told s accepted (subst (λ (d : Claim). IsFitted job d told) same fitted)
 
   pub closed_good : (form turns : ℕ) (found told : Claim) → IsShownClaim p found → IsToldOf p job form turns found told → IsGood p job told

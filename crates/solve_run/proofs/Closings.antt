@@ -32,7 +32,7 @@ without_back : (c : Claim) → ClaimComesBack (Some c) → ClaimComesBack (Some 
 without_back (Optimal x vs cs) back = back
 without_back (Infeasible cert) back = back
 without_back (Unbounded x vs cs r) back = back
-without_back (BestSoFar x vs c b) back = (back.0, back.1.0, tt)
+without_back (BestSoFar x vs c b) back = (back.0, back.1, tt)
 without_back (Unsure c b) back = (back.0, tt)
 
 checked_back : (c : Claim) (turns : ℕ) (verdict : Judged) → turns < 2 ^ 64 → HasSmallNode verdict → ClaimComesBack (Some c) → ClaimComesBack (Some (checked c turns verdict))

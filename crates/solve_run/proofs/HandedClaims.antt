@@ -32,7 +32,7 @@ without_accepted P (Has.Optimal x vs cs) k a says = a
 without_accepted P (Has.Infeasible c) k a says = a
 without_accepted P (Has.Unbounded x vs cs r) k a says = a
 without_accepted P (Has.BestSoFar x vs cause None) k a says = a
-without_accepted P (Has.BestSoFar x vs cause (Some b)) k a says = (a.0, a.1.0, tt)
+without_accepted P (Has.BestSoFar x vs cause (Some b)) k a says = (a.0, a.1, tt)
 without_accepted P (Has.Unsure cause b) k a says = absurd (cc)
 
 -- a point with its values has a number for each variable, and a value for each goal

@@ -82,8 +82,8 @@ told_bounds shows numbers beside osil osol stop timed looks r s b is proved shor
 
 -- of which none is asked
 pub none_unasked : (beside : Option (List ℕ)) (osil osol : List ℕ) (stop : Option ℕ) (timed : Option Frac) (looks : ℕ) (r : Report) (s : SolvedBeside beside osil osol stop timed looks r) → (s.given.options.bound ≡ 1 → ⊥) → s.bound ≡ None
-none_unasked beside osil osol stop timed looks r s no = by (nat_eq s.given.options.bound 1) refl s.ends.has
+none_unasked beside osil osol stop timed looks r s unasked = by (nat_eq s.given.options.bound 1) refl s.ends.has
   where
     by : (asks : Bool) → nat_eq s.given.options.bound 1 ≡ asks → FindsAsked (problem s.given.parts) asks s.ends.last s.ends.carried s.outcome s.bound → s.bound ≡ None
     by false e none = none
-    by true e found = absurd (no (eqb-true s.given.options.bound 1 e))
+    by true e found = absurd (unasked (eqb-true s.given.options.bound 1 e))

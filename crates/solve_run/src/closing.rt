@@ -7,6 +7,7 @@ ghost use Rattle.certificate.specs.Meanings as Means;
 ghost use Rattle.certificate.specs.Nodes.{nodes_of, IsInRange};
 ghost use Rattle.instance.specs.Parts.{IsValid};
 ghost use Rattle.cert_checker.specs.Cuts.{HasRoom};
+ghost use Rattle.solve_run.specs.declared.closing.Judged.TheVariants.{Width};
 ghost use Rattle.solve_run.specs.Judging as specs;
 ghost use Rattle.solve_run.specs.Closings.{IsFormed, IsShortOrNone, claim_report};
 
@@ -42,7 +43,7 @@ fn judge_in(instance: &Instance, claim: &Claim, scratch: &mut Scratch) -> Option
     requires few { specs.HasFewRounds claim.now }
     requires is_final { specs.IsFinal claim.now }
     requires room { HasRoom instance.now claim.now scratch.old }
-    ensures judged { specs.IsJudged instance.now claim.now result }
+    ensures judged { specs.IsJudged instance.now claim.now (Width result) }
     ensures few { IfSome result (λ n. n < 2 ^ 32) }
 {
     shown_is_refused_for_width_alone();
