@@ -27,7 +27,6 @@ use Rattle.simplex.specs.Memory.{ended_with, statuses_in, entries_in, IsAtBasis}
 use Rattle.search_rules.specs.Branching.{Case}
 use Rattle.search_rules.specs.Search as Rules
 use Rattle.search_rules.specs.Search.{SearchMoment, To, Out, Found, Outcome, early, nodes_so_far}
-use Rattle.search_rules.specs.Beginnings.{IsFirstBest}
 use Rattle.search_rules.specs.Bounds.{Carried, carried_after}
 use Rattle.search_rules.specs.Gaps.{number_after, IsNearEnough}
 use Rattle.search_rules.specs.Asked.{Asked, StopsNear, EndsAsked, ComesAsked, IsAskedAnswer}

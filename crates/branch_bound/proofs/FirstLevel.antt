@@ -1,5 +1,5 @@
 -- Where a search begins.
-use Rattle.std.proofs.Common.{◌≡◌, ◌<◌, ℕ, None, Option, IfSome, List, [], ◌∷◌, map, length, arith, refl, sym, ◌∙◌, ap, ap₂, subst}
+use Rattle.std.proofs.Common.{◌≡◌, ◌<◌, ℕ, None, Option, IfSome, List, [], ◌∷◌, length, arith, refl, sym, ◌∙◌, ap, ap₂, subst}
 use Rattle.certificate.specs.declared.nodes.Cert.{Cert}
 use Rattle.certificate.specs.declared.nodes.Round.{Round}
 use Rattle.instance.specs.Parts.{Parts}

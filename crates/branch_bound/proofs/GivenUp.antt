@@ -1,7 +1,6 @@
 -- What stays of a walk that is given up.
-use Rattle.std.proofs.Common.{◌≡◌, inl, inr, Option, None, List, refl, sym, ◌∙◌, ap, subst}
+use Rattle.std.proofs.Common.{◌≡◌, inl, inr, Option, None, refl, sym, ◌∙◌, ap, subst}
 use Rattle.certificate.specs.declared.causes.Cause.{Cause}
-use Rattle.certificate.specs.declared.causes.Cause.TheVariants.{Memory}
 use Rattle.branch_bound.specs.declared.ended.Ended.{Ended}
 use Rattle.branch_bound.specs.declared.ended.Ended.TheVariants.{Unbounded, Early}
 use Rattle.branch_bound.specs.declared.level.Level.{Level}

@@ -6,7 +6,6 @@ use Rattle.rational.specs.Ratio.{Ratio, sum, negative, IsSame}
 use Rattle.rational.specs.Width.{SumFits}
 use Rattle.fraction.specs.Frac.{ratio}
 use Rattle.fraction.specs.declared.frac.Frac.{Frac}
-use Rattle.evidence.specs.ProvedBounds as Says
 use Rattle.fraction.specs.Frac.{ratios}
 use Rattle.evidence.specs.Instance.{Instance, minimising}
 use Rattle.evidence.specs.Point.{value_at}

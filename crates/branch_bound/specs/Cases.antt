@@ -30,7 +30,6 @@ use Rattle.branch_bound.specs.Levels.{moment, IsGiven, IsAtLevel}
 use Rattle.branch_bound.specs.Trials.{IsFreshWalk}
 use Rattle.branch_bound.specs.declared.walk.RayAt.{RayAt}
 use Rattle.branch_bound.specs.Bounds as Kept
-use Rattle.evidence.specs.ProvedBounds as Says
 use Rattle.search_rules.specs.Bounds as Carries
 use Rattle.search_rules.specs.Asked.{Asked, ComesAsked, EndsAsked, IsAskedAnswer}
 

@@ -1,5 +1,5 @@
 -- The state of a search: what holds of it between two steps, and what a step changes.
-use Rattle.std.specs.Prelude.{◌≡◌, ℕ, Bool, Option, None, Result, List, [], length}
+use Rattle.std.specs.Prelude.{◌≡◌, ℕ, Bool, None, Result, List, [], length}
 use Rattle.instance.specs.Parts.{Parts}
 use Rattle.simplex_rules.specs.Looks.{answers}
 use Rattle.branch_bound.specs.declared.ended.Ended.{Ended}

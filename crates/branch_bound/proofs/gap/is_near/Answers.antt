@@ -1,4 +1,4 @@
-use Rattle.std.proofs.Common.{◌≡◌, ◌<◌, ◌↔◌, IsTrue, IsSomeAnd, Option, Some, List, [], ◌∷◌, map, length, arith, sym, ◌∙◌, ap, ap₂, subst}
+use Rattle.std.proofs.Common.{◌≡◌, ◌<◌, ◌↔◌, IsTrue, IsSomeAnd, Option, Some, List, map, length, arith, sym, ◌∙◌, ap, subst}
 use Rattle.std.proofs.lemmas.List.{length-map}
 use Rattle.std.specs.List.{All}
 use Rattle.rational.specs.Ratio.{Ratio, IsAtMost}
@@ -14,7 +14,7 @@ use Rattle.search_rules.specs.Gaps as gaps
 use Rattle.branch_bound.specs.declared.carried.Carried.{Carried}
 use Rattle.branch_bound.specs.Walks.{best, found}
 use Rattle.branch_bound.specs.Levels.{moment}
-use Rattle.branch_bound.specs.Bounds.{gap_of, gap_or_none, number_of, kept_at, kept_next, IsThreshold}
+use Rattle.branch_bound.specs.Bounds.{gap_of, number_of, kept_at, kept_next, IsThreshold}
 use Rattle.branch_bound.proofs.Gaps.{value_reached, less_is, is_near, was_near}
 use Rattle.branch_bound.proofs.gap.is_near.Goals as goal
 

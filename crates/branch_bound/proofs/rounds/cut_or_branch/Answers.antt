@@ -1,4 +1,4 @@
-use Rattle.std.proofs.Common.{ℕ, List, inl, sym, ap, subst}
+use Rattle.std.proofs.Common.{ℕ, List, inl, arith, sym, ap, subst}
 use Rattle.rational.specs.Ratio.{Ratio}
 use Rattle.evidence.specs.Instance.{Instance}
 use Rattle.certificate.specs.Meanings as Means

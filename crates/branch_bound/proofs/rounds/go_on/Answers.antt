@@ -22,7 +22,6 @@ use Rattle.branch_bound.specs.declared.carried.Carried.{Carried}
 use Rattle.std.proofs.lemmas.List.Elements.{All-nil, All-cons}
 use Rattle.branch_bound.proofs.Kept.{anew_kept}
 use Rattle.branch_bound.proofs.KeptAfter.{both_are}
-use Rattle.certificate.specs.declared.causes.Cause.TheVariants.{Memory}
 use Rattle.branch_bound.proofs.GivenUp.{given_up, for_memory_at, stays_at}
 use Rattle.branch_bound.proofs.rounds.go_on.Goals as goal
 

@@ -57,12 +57,15 @@ end_early-requires g c =
     let a = c.args in
     let m = c.in-Err.ensures.moments in
     let stop = stop_after m.looks m.killed in
-    let u = c.search_levels.new.self in (
-      terms a.limits stop,
-      best a.first,
-      clock_at u.relaxation (looks_after 0 m.looks m.killed),
-      m.carries (best a.first) 0 stop (begun_comes a.instance.now a.limits a.state c.requires.begun a.first (terms a.limits stop) (asked a.limits) c.requires.first) (agrees m.looks m.killed),
-    )
+    let u = c.search_levels.new.self in
+    record {
+      ended = (
+        terms a.limits stop,
+        best a.first,
+        clock_at u.relaxation (looks_after 0 m.looks m.killed),
+        m.carries (best a.first) 0 stop (begun_comes a.instance.now a.limits a.state c.requires.begun a.first (terms a.limits stop) (asked a.limits) c.requires.first) (agrees m.looks m.killed),
+      );
+    }
 
 pub returns-in-Err : goal.returns-in-Err
 returns-in-Err g c =

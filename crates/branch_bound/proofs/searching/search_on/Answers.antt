@@ -1,4 +1,4 @@
-use Rattle.std.proofs.Common.{◌≡◌, inl, false, None, sym}
+use Rattle.std.proofs.Common.{inl, false, None, sym}
 use Rattle.certificate.specs.declared.causes.Cause.TheVariants.{Memory}
 use Rattle.search_rules.specs.Search.{early}
 use Rattle.search_rules.specs.Asked.{asked_first, gave_up}

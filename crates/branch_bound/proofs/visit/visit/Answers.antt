@@ -8,7 +8,7 @@ use Rattle.branch_bound.proofs.Moments.{closes}
 use Rattle.branch_bound.proofs.Ready.{gone_on, if_ok₃}
 use Rattle.branch_bound.proofs.PointSteps.{if_err, or_memory, kept_values}
 use Rattle.branch_bound.proofs.KeptAfter.{none_left}
-use Rattle.certificate.specs.declared.causes.Cause.TheVariants.{TurnLimit, Killed}
+use Rattle.certificate.specs.declared.causes.Cause.TheVariants.{TurnLimit}
 use Rattle.branch_bound.proofs.GivenUp.{given_up, for_memory_at, stays_at}
 use Rattle.branch_bound.proofs.visit.visit.Goals as goal
 

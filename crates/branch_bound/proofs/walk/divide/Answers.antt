@@ -1,10 +1,9 @@
-use Rattle.std.proofs.Common.{◌≡◌, ◌<◌, List, length, Some, ◌∷◌, ◌+◌, refl, sym, ◌∙◌, ap, ap₂, arith}
+use Rattle.std.proofs.Common.{List, length, Some, ◌∷◌, ◌+◌, refl, ◌∙◌, ap, ap₂, arith}
 use Rattle.std.proofs.lemmas.List.{with_items_is}
 use Rattle.case_tree.specs.declared.cuts.Cut.{Cut}
 use Rattle.case_tree.specs.declared.path.Branch.{Branch}
 use Rattle.branch_bound.specs.Walks.{waiting_by}
 use Rattle.branch_bound.proofs.PendingCases.{divided_waiting}
-use Rattle.case_tree.specs.Cuts.{pending_places}
 use Rattle.branch_bound.specs.Bounds.{kept_at}
 use Rattle.branch_bound.proofs.Kept.{divided_kept, some_below}
 use Rattle.branch_bound.proofs.walk.divide.Goals as goal
