@@ -43,7 +43,7 @@ use Rattle.solve_run.proofs.Closings.{fitted_back}
 use Rattle.solve_run.proofs.InkedTexts.{IsMessage}
 use Rattle.solve_run.proofs.FaultMessages.{options_message, instance_message}
 use Rattle.solve_run.proofs.Names.{short_name, bare_name}
-use Rattle.solve_run.proofs.PartialClaims.{AskedAreShown, bound_shown, given_other, given_plain, given_shown, without_shown, without_given, final_whole, bounded_other, renamed_shown, with_none}
+use Rattle.solve_run.proofs.PartialClaims.{AskedAreShown, bound_shown, given_other, given_plain, given_shown, without_shown, final_whole, bounded_other, renamed_shown, with_none}
 use Rattle.solve_run.proofs.WidthRefusals.{best_accepted}
 use Rattle.solve_run.proofs.RoundTrips.{shown_back, wanting_causes}
 use Rattle.solve_run.proofs.Runs.{claim_short, wanting, wanting_plain}

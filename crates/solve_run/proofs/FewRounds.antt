@@ -6,7 +6,7 @@ use Rattle.std.proofs.lemmas.List.Elements.{All-nil, All-cons, All-head, All-pus
 use Rattle.rational.specs.Ratio.{Ratio}
 use Rattle.evidence.specs.Instance.{Goal, Problem}
 use Rattle.evidence.specs.Cases.{Multiplier}
-use Rattle.evidence.specs.Rounds.{Certificate, Round, RoundBy}
+use Rattle.evidence.specs.Rounds.{Certificate, RoundBy}
 use Rattle.evidence.specs.ProvedBounds.{ProvedBound}
 use Rattle.certificate.specs.declared.causes.Cause.{Cause}
 use Rattle.simplex_rules.specs.Ends.{Terms, Clock, End, Clash, Empty, Best, Endless, TurnsOut, TooWide, Stopped}

@@ -1,5 +1,5 @@
 -- A job is answered by one report, but for want of memory and for the look that stops it.
-use Rattle.std.proofs.Common.{◌≡◌, ◌≢◌, ◌∙◌, ℕ, ◌⊎◌, inl, inr, Bool, true, false, Option, None, Some, List, refl, ap, ap₂, sym, subst}
+use Rattle.std.proofs.Common.{◌≡◌, ◌≢◌, ◌∙◌, ℕ, ◌⊎◌, inl, inr, true, false, Option, None, Some, List, refl, ap, ap₂, sym, subst}
 use Rattle.fraction.specs.declared.frac.Frac.{Frac}
 use Rattle.evidence.specs.ProvedBounds.{ProvedBound}
 use Rattle.evidence.specs.Claim.{Accepts}

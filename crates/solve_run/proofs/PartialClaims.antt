@@ -1,5 +1,5 @@
 -- What is left of a claim that is given up, or told without its bound, or with another cause, is shown too.
-use Rattle.std.proofs.Common.{◌≡◌, ◌∙◌, Bool, true, false, Option, None, Some, List, refl, ap, sym}
+use Rattle.std.proofs.Common.{◌≡◌, ◌∙◌, true, false, Option, None, Some, List, refl, ap, sym}
 use Rattle.std.specs.Prelude.{IfSome, option_map}
 use Rattle.rational.specs.Ratio.{Ratio}
 use Rattle.fraction.specs.declared.frac.Frac.{Frac}

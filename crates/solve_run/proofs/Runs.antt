@@ -2,7 +2,6 @@
 use Rattle.std.proofs.Common.{◌≡◌, ◌∙◌, ℕ, zero, suc, ◌+◌, ◌≤◌, inl, inr, Bool, true, false, Option, None, Some, Result, Ok, List, [], ◌∷◌, ◌++◌, length, slice_index_or, arith, refl, ap, sym, subst}
 use Rattle.std.specs.Prelude.{IfOk}
 use Rattle.std.specs.List.{All}
-use Rattle.std.proofs.lemmas.List.Elements.{All-nil}
 use Rattle.std.proofs.lemmas.Result.{IfOk-weaker}
 use Rattle.std.proofs.lemmas.List.{length-map, get_or-map}
 use Rattle.os_io.specs.Looks.{stops_of}
@@ -18,10 +17,10 @@ use Rattle.certificate.specs.Meanings as Means
 use Rattle.certificate.specs.declared.causes.Cause.TheVariants.{Memory}
 use Rattle.certificate.specs.declared.claims.Claim.{Claim}
 use Rattle.certificate.specs.declared.claims.Claim.TheVariants as Has
-use Rattle.simplex_rules.specs.Ends.{Terms, Clock}
+use Rattle.simplex_rules.specs.Ends.{Clock}
 use Rattle.simplex_rules.specs.Looks.{answers, went_on, looks_after, stop_after}
 use Rattle.search_rules.specs.Search.{Found, Outcome, SearchMoment, early}
-use Rattle.search_rules.specs.Bounds.{Carried, claimed}
+use Rattle.search_rules.specs.Bounds.{Carried}
 use Rattle.search_rules.specs.Asked.{ComesAsked, AskedSearch, IsAskedAnswer, asked as searched, gave_up as gave_up_at, gave_up_after, gave_up_closing}
 use Rattle.rational.specs.Ratio.{Ratio}
 use Rattle.solve_run.specs.Firsts.{IsFirstOf, IsNoteFrom}

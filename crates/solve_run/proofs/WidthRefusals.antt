@@ -1,6 +1,6 @@
 -- What a search has shown is refused for width alone.
 use Rattle.std.specs.Prelude.{IfSome}
-use Rattle.std.proofs.Common.{◌≡◌, ◌∙◌, ℕ, ◌+◌, ◌≤◌, inl, inr, refl, Option, None, Some, List, [], ◌∷◌, length, arith, ap, sym, subst}
+use Rattle.std.proofs.Common.{◌≡◌, ◌∙◌, ℕ, ◌+◌, ◌≤◌, inl, inr, refl, Option, None, List, [], ◌∷◌, length, arith, ap, sym, subst}
 use Rattle.std.proofs.lemmas.List.{length-map, length-drop, get_or_default}
 use Rattle.rational.specs.Ratio.{Ratio, IsNumber}
 use Rattle.fraction.specs.Frac.{ratio, ratios}
