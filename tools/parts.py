@@ -72,11 +72,16 @@ def with_branch(variables, branch, side):
     return [*variables[: branch.column], new, *variables[branch.column + 1 :]]
 
 
-def relaxed(variables):
-    """The variables without their wholeness, those that may be 0 besides between their relaxed ends."""
-    return [
-        Column("", it.low and min(it.low, ZERO), it.high and max(it.high, ZERO)) if it.zero else Column("", it.low, it.high) for it in variables
-    ]
+def with_branches(variables, branches):
+    """The variables behind branches, each with its case."""
+    for branch, side in branches:
+        variables = with_branch(variables, branch, side)
+    return variables
+
+
+def relaxed(it):
+    """A variable without its wholeness, one that may be 0 besides between its relaxed ends."""
+    return Column("", it.low and min(it.low, ZERO), it.high and max(it.high, ZERO)) if it.zero else Column("", it.low, it.high)
 
 
 def is_own(column, value):
@@ -136,9 +141,11 @@ def goal_text(goal):
 
 
 class Writer:
-    """Writes the instances of parts. What all have in common is made once."""
+    """Writes the instances of parts. What all have in common is made once, and so are the variables that a part has from the whole."""
 
     def __init__(self, instance: Instance):
+        self.variables = instance.variables
+        self.texts = {False: list(map(variable_text, self.variables)), True: [variable_text(relaxed(it)) for it in self.variables]}
         ends = [f'<con lb="{end_text(row.low, "-INF")}" ub="{end_text(row.high, "INF")}"/>' for row in instance.rows]
         starts, columns, values = [0], [], []
         for factors in instance.factors:
@@ -150,11 +157,12 @@ class Writer:
         self.rest = f"<constraints>{''.join(ends)}</constraints><linearConstraintCoefficients>{matrix}</linearConstraintCoefficients>"
         self.goals = [goal_text(goal) for goal in instance.goals]
 
-    def text(self, variables, goals=None):
-        """The instance with these variables, and with its first so many goals where not with all."""
+    def text(self, variables, is_relaxed=False, goals=None):
+        """The instance with these variables, as they are or relaxed, and with its first so many goals where not with all."""
+        kept = zip(variables, self.variables, self.texts[is_relaxed])
         return (
             '<osil xmlns="os.optimizationservices.org"><instanceData><variables>'
-            + "".join(map(variable_text, variables))
+            + "".join([text if it is of_whole else variable_text(relaxed(it) if is_relaxed else it) for it, of_whole, text in kept])
             + f"</variables><objectives>{''.join(self.goals[:goals])}</objectives>{self.rest}</instanceData></osil>"
         )
 

@@ -96,6 +96,10 @@ class Still:
     def give(self, task):
         self.task = task
 
+    def stop(self):
+        if self.task:
+            self.task.is_stopped = True
+
     def write(self, _):
         pass
 
@@ -113,7 +117,7 @@ def rules(_):
     for _ in range(400):
         part = it.next_open()
         if part:
-            it.keep_branch(part, apart.middle_branch(part.variables))
+            it.keep_branch(part, apart.middle_branch(parts.with_branches(it.instance.variables, part.branches)))
     is_so(f"of {len(it.open)} parts that are held {len(it.heap)} and {len(it.deep)} wait, behind 400 looks", 6 <= len(it.open) <= 8 and len(it.heap) + len(it.deep) < 40)
     two = programs.Program("two", True, [(0, 1, True)] * 2, [(None, 1, {0: 1, 1: 1})], [1, 1])
     it = division(two)
@@ -122,7 +126,7 @@ def rules(_):
     it.root.raise_bound(Fraction(-1), ("bound 2:1",))
     tasks = [seat.task for seat in it.seats]
     it.offer((1, 0))
-    is_so("a point that closes a part stops who searches it, and who bounds it", {task.kind for task in tasks} == {"search", "bound"} and all(task.stop.is_set() for task in tasks))
+    is_so("a point that closes a part stops who searches it, and who bounds it", {task.kind for task in tasks} == {"search", "bound"} and all(task.is_stopped for task in tasks))
     it = division(two)
     it.resume(it.root)
     it.next_open()
