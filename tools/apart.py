@@ -244,7 +244,7 @@ class Division:
     def next_task(self, seat):
         if "search" in seat.kinds and not self.coarse and not self.root.is_searched and not self.is_settled(self.root):
             self.root.is_searched = True  # what is small is solved sooner so than by its parts
-            return Task("search", self.root, self.root.branches)
+            return self.search_of(self.root)
         if "bound" in seat.kinds:
             part = self.next_open()
             if part:
@@ -254,8 +254,12 @@ class Division:
             part = self.next_search(seat)
             if part:
                 part.is_searched = True
-                return Task("search", part, part.branches)
+                return self.search_of(part)
         return self.task_again()
+
+    def search_of(self, part):
+        """A search of a part, for what isn't worse than the best point."""
+        return Task("search", part, (part.branches, self.best and self.best[0]))
 
     def task_again(self):
         """The bounding that has taken longest, once more, where its seat may be slow."""

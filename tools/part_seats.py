@@ -16,7 +16,7 @@ import time
 from typing import NamedTuple, Optional
 
 import parts
-from part_workers import WITH_PARENT, Failed
+from part_workers import WITH_PARENT, Failed, Outcome
 
 SCRIPT = os.path.join(os.path.dirname(os.path.abspath(__file__)), "part_room.py")
 LONGEST_CLOSE = 10  # seconds that a room may take to end what it began
@@ -67,8 +67,34 @@ class Answerer:
         branch = outcome and outcome.point and parts.branch_at(variables, outcome.point)
         return outcome._replace(branch=branch, point=None) if branch else outcome
 
-    def search(self, branches, stop):
-        return self.outcome(self.writer.text(parts.with_branches(self.instance.variables, branches)), stop)
+    def search(self, asked, stop):
+        """Of a part, by its branches and the value of the best point that is known, less being better, or none: what is worse isn't looked for."""
+        branches, value = asked
+        variables = parts.with_branches(self.instance.variables, branches)
+        row = None if value is None else parts.cutoff_row(self.instance, value)
+        outcome = self.outcome(self.writer.text(variables, row=row), stop)
+        return self.of_part(variables, outcome, value, row) if outcome and row else outcome
+
+    def of_part(self, variables, outcome, value, row):
+        """What an outcome of a part with one row more shows of the part: up to the row's end all of it, by multipliers without the row. It is
+        checked, since sums that fit with the row may not fit without it; then nothing is left but the point."""
+        goal, column = self.instance.goals[0], len(self.instance.variables) + len(self.instance.rows)
+        size = max(abs(factor) for factor in row[1].values()) / max(abs(cost) for cost in goal.costs.values())
+        unshown = Outcome("unsure", outcome.point, cause=outcome.cause or "cutoff")
+        if outcome.status == "unbounded" or not outcome.trees:
+            return outcome
+        bounds = [value] if outcome.status == "infeasible" else [value, parts.turned(goal, outcome.bound or outcome.values[0])]
+        bound = parts.turned(goal, min(bounds))
+        try:
+            tree = tuple(parts.without_cutoff(node, column, size) for node in outcome.trees[0])
+        except parts.Wide:
+            return unshown
+        status = "bestSoFar" if outcome.point else "unsure"
+        claim = parts.Claim(status, outcome.point, bound=bound, trees=(tree,), cause="killed")
+        if None in tree or not self.checker.line(self.writer.text(variables), parts.result_text(self.instance, claim)).startswith(f"accepted {status} within"):
+            return unshown
+        is_optimal = outcome.status == "optimal"
+        return outcome._replace(status=outcome.status if is_optimal else status, trees=(tree,), bound=None if is_optimal else bound)
 
     def outcome(self, osil, stop):
         result = self.worker.solve(osil, stop)

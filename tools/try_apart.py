@@ -390,8 +390,8 @@ def refused(folder):
 
 
 def within(case, most):
-    """A run for which a result has at most so many bytes."""
-    code = f"import sys; sys.path[:0] = ['tools', 'clients/python']; import solve_apart_command as it; it.MOST_RESULT = {most}; sys.exit(it.main(['{case.osil}', '--output', '{case.osrl}', '--quiet', '--share', '1']))"
+    """A run for which a result has at most so many bytes, and whose tree is always the one of a whole search: one worker begins with it."""
+    code = f"import sys; sys.path[:0] = ['tools', 'clients/python']; import solve_apart_command as it; it.MOST_RESULT = {most}; sys.exit(it.main(['{case.osil}', '--output', '{case.osrl}', '--quiet', '--workers', '1', '--share', '1000']))"
     return subprocess.run([sys.executable, "-c", code], capture_output=True, text=True, timeout=LONGEST, check=False)
 
 
