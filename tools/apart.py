@@ -1,8 +1,8 @@
 """Solves a program by its parts, best bound first (Land and Doig 1960), each part by whoever is free, and joins what shows the whole.
 
 A part is *bounded* by its instance without wholeness: the multipliers of that one leaf bound it, and its point says where it is divided.
-It may also be *searched* whole: where a seat has nothing else to do, where it can't be bounded or divided, or, for a cluster, once there
-are enough parts. Whatever is known first closes it, and what runs for it or below it is stopped: a better point that its bound doesn't
+It may also be *searched* whole, for what isn't worse than the best point: where a seat has nothing else to do, where it can't be bounded or
+divided, as long as searches that came to nothing took less time than bounding, or, for a cluster, once there are enough parts. Whatever is known first closes it, and what runs for it or below it is stopped: a better point that its bound doesn't
 pass, a search, or the cases below it.
 """
 
@@ -22,6 +22,7 @@ from part_workers import Failed, Outcome, Wrong
 
 PLUNGE_WITHOUT, PLUNGE_WITH = 2, 8  # each so many-th part is the deepest one, without and with a point
 MOST_FAILURES = 5
+MOST_LOST = 0.5  # of the time that bounding took, how much searches may take that came to nothing
 LONGEST_WAIT = 10.0  # seconds for which a seat that failed isn't asked
 TELL_EVERY = 10.0  # seconds between two lines that say how far it is
 
@@ -129,6 +130,7 @@ class Division:
         self.is_endless_later = False
         self.heap, self.deep, self.whole, self.order = [], [], [], itertools.count()
         self.open: dict = {}
+        self.spent, self.lost = 0.0, 0.0  # seconds of seats that bounded, and of those that searched and found no end
         self.picks, self.counts, self.told = 0, {"bound": 0, "search": 0, "divided": 0}, time.monotonic()
 
     # ---- what is known
@@ -212,7 +214,7 @@ class Division:
                 self.open.pop(part.name)
             elif part.branch is None:
                 found = part
-            elif self.coarse and self.is_held(part):
+            elif self.is_held(part):
                 held.append((heap, entry))
             else:
                 self.divide(part)
@@ -221,12 +223,20 @@ class Division:
         return found
 
     def is_held(self, part):
-        """Whether a part of a program that is divided coarsely isn't divided for now: it is searched just now, or there are enough that wait."""
-        running = sum(bool(seat.task) and seat.task.kind == "search" for seat in self.seats)
-        is_running = any(seat.task and seat.task.kind == "search" and seat.task.part is part for seat in self.seats)
-        return is_running or (not part.is_searched and len(self.open) - running >= self.coarse)
+        """Whether a part isn't divided for now: it is searched just now, and others wait; or, where the program is divided coarsely, it is searched,
+        or there are enough that wait."""
+        tasks = [seat.task for seat in self.seats if seat.task]
+        searched = [task.part for task in tasks if task.kind == "search"]
+        if self.coarse:
+            return part in searched or (not part.is_searched and len(self.open) - len(searched) >= self.coarse)
+        return part in searched and part is not self.root and len(self.open) > sum(task.part.name in self.open for task in tasks)
 
-    def next_search(self, seat):
+    def is_search_due(self):
+        """Whether there is time for a search where parts wait to be bounded: a point excludes much, and those that came to nothing took little."""
+        running = sum(bool(seat.task) and seat.task.kind == "search" for seat in self.seats)
+        return self.best is not None and not self.coarse and self.lost + self.share * (running + 1) <= MOST_LOST * self.spent
+
+    def next_search(self):
         """A part to search: one that can't be divided, or else the best one that wasn't searched."""
         while self.whole:
             part = self.whole.pop()
@@ -245,13 +255,18 @@ class Division:
         if "search" in seat.kinds and not self.coarse and not self.root.is_searched and not self.is_settled(self.root):
             self.root.is_searched = True  # what is small is solved sooner so than by its parts
             return self.search_of(self.root)
+        if "search" in seat.kinds and self.is_search_due():
+            part = self.next_search()
+            if part:
+                part.is_searched = True
+                return self.search_of(part)
         if "bound" in seat.kinds:
             part = self.next_open()
             if part:
                 part.is_bounding = True
                 return Task("bound", part, part.branches)
         if "search" in seat.kinds:
-            part = self.next_search(seat)
+            part = self.next_search()
             if part:
                 part.is_searched = True
                 return self.search_of(part)
@@ -299,7 +314,12 @@ class Division:
 
     def take(self, seat, task, answer):
         seat.task = None
-        seat.worked += time.monotonic() - task.begun
+        took = time.monotonic() - task.begun
+        seat.worked += took
+        if task.kind == "bound":
+            self.spent += took
+        elif not isinstance(answer, Outcome) or answer.status in ("bestSoFar", "unsure"):
+            self.lost += took
         if task.kind == "bound":
             task.part.is_bounding = any(it.task and it.task.part is task.part and it.task.kind == "bound" for it in self.seats)
         if isinstance(answer, Failed):

@@ -71,30 +71,28 @@ class Answerer:
         """Of a part, by its branches and the value of the best point that is known, less being better, or none: what is worse isn't looked for."""
         branches, value = asked
         variables = parts.with_branches(self.instance.variables, branches)
-        row = None if value is None else parts.cutoff_row(self.instance, value)
-        outcome = self.outcome(self.writer.text(variables, row=row), stop)
-        return self.of_part(variables, outcome, value, row) if outcome and row else outcome
+        cutoff = None if value is None else parts.cutoff_of(self.instance, value)
+        outcome = self.outcome(self.writer.text(variables, cutoff=cutoff), stop)
+        has_tree = cutoff and outcome and outcome.trees and outcome.status != "unbounded"
+        return self.without_cutoff(variables, outcome, value, cutoff.size) if has_tree else outcome
 
-    def of_part(self, variables, outcome, value, row):
-        """What an outcome of a part with one row more shows of the part: up to the row's end all of it, by multipliers without the row. It is
-        checked, since sums that fit with the row may not fit without it; then nothing is left but the point."""
+    def without_cutoff(self, variables, outcome, value, size):
+        """What an outcome of a part with a cutoff shows of the part. That is checked, since sums that fit with the row may not fit without it; where
+        it isn't shown nothing is left but the point."""
         goal, column = self.instance.goals[0], len(self.instance.variables) + len(self.instance.rows)
-        size = max(abs(factor) for factor in row[1].values()) / max(abs(cost) for cost in goal.costs.values())
-        unshown = Outcome("unsure", outcome.point, cause=outcome.cause or "cutoff")
-        if outcome.status == "unbounded" or not outcome.trees:
-            return outcome
-        bounds = [value] if outcome.status == "infeasible" else [value, parts.turned(goal, outcome.bound or outcome.values[0])]
-        bound = parts.turned(goal, min(bounds))
+        found = outcome.values[0] if outcome.status == "optimal" else outcome.bound
+        bound = parts.turned(goal, value if found is None else min(value, parts.turned(goal, found)))
+        status = "bestSoFar" if outcome.point else "unsure"
         try:
             tree = tuple(parts.without_cutoff(node, column, size) for node in outcome.trees[0])
         except parts.Wide:
-            return unshown
-        status = "bestSoFar" if outcome.point else "unsure"
-        claim = parts.Claim(status, outcome.point, bound=bound, trees=(tree,), cause="killed")
-        if None in tree or not self.checker.line(self.writer.text(variables), parts.result_text(self.instance, claim)).startswith(f"accepted {status} within"):
-            return unshown
-        is_optimal = outcome.status == "optimal"
-        return outcome._replace(status=outcome.status if is_optimal else status, trees=(tree,), bound=None if is_optimal else bound)
+            tree = (None,)
+        claim = parts.Claim(status, outcome.point, None, bound, (tree,), "killed")
+        if None in tree or self.checker.line(self.writer.text(variables), parts.result_text(self.instance, claim)) != f"accepted {status} within {bound}":
+            return Outcome("unsure", outcome.point, cause=outcome.cause or "cutoff")
+        if outcome.status == "optimal":
+            return outcome._replace(trees=(tree,))
+        return outcome._replace(status=status, trees=(tree,), bound=bound, cause=outcome.cause or "cutoff")
 
     def outcome(self, osil, stop):
         result = self.worker.solve(osil, stop)

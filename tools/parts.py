@@ -164,11 +164,11 @@ class Writer:
         self.rows = list(zip(instance.rows, instance.factors))
         self.rest = rows_text(self.rows)
 
-    def text(self, variables, is_relaxed=False, goals=None, row=None):
-        """The instance with these variables, as they are or relaxed, with its first so many goals where not with all, and one row more where one is
-        given."""
+    def text(self, variables, is_relaxed=False, goals=None, cutoff=None):
+        """The instance with these variables, as they are or relaxed, with its first so many goals where not with all, and with a cutoff where there
+        is one."""
         kept = zip(variables, self.variables, self.texts[is_relaxed])
-        rest = rows_text([*self.rows, row]) if row else self.rest
+        rest = rows_text([*self.rows, cutoff[:2]]) if cutoff else self.rest
         return (
             '<osil xmlns="os.optimizationservices.org"><instanceData><variables>'
             + "".join([text if it is of_whole else variable_text(relaxed(it) if is_relaxed else it) for it, of_whole, text in kept])
@@ -212,19 +212,26 @@ def of_rows_alone(node, variables):
 # ---- a part of which nothing is asked but what is no worse than a point
 
 
-def cutoff_row(instance, value):
+class Cutoff(NamedTuple):
+    """A row that excludes points by their goal: its end, its factors, and how many times the costs these are."""
+
+    row: Column
+    factors: dict
+    size: int
+
+
+def cutoff_of(instance, value):
     """The row that excludes what is worse than a value, less being better, of an instance with one goal; none where no row says it or it needs long
     numbers."""
     goal = instance.goals[0]
     end, costs = value - turned(goal, goal.constant), {j: turned(goal, cost) for j, cost in goal.costs.items() if cost}
     if len(instance.goals) > 1 or not costs or abs(end.numerator) > MOST_END or end.denominator > MOST_END:
         return None
-    return Column("", None, fractions.Fraction(end.numerator)), {j: cost * end.denominator for j, cost in costs.items()}
+    return Cutoff(Column("", None, fractions.Fraction(end.numerator)), {j: cost * end.denominator for j, cost in costs.items()}, end.denominator)
 
 
 def without_cutoff(node, column, size):
-    """A node of a program with such a row, its costs times a size, as one without it, that shows no less up to the row's end; none where there is
-    no such.
+    """A node of a program with such a row as this column, as one without it, that shows no less up to the row's end; none where there is no such.
 
     A leaf's form is that of its other multipliers, less k times the costs, where k is the size times the row's own multiplier, turned. So the
     others have a form of k times the costs where the leaf is a Farkas, and of 1 + k times the costs where it is a Bound or a Grid. Divided by
