@@ -5,11 +5,11 @@ import random
 
 class Program:
     """Variables (lower end, upper end, whole), rows (lower end, upper end, entries by column) and costs; None is no end. The variables
-    among `zeros` may be 0 besides; `later` has the costs of the goals behind the first."""
+    among `zeros` may be 0 besides; `later` has the costs of the goals behind the first, and `constant` is added to each."""
 
-    def __init__(self, name, maximise, variables, rows, costs, zeros=(), later=()):
+    def __init__(self, name, maximise, variables, rows, costs, zeros=(), later=(), constant=0):
         self.name, self.maximise, self.variables, self.rows, self.costs = name, maximise, variables, rows, costs
-        self.zeros, self.later = zeros, later
+        self.zeros, self.later, self.constant = zeros, later, constant
 
     def is_whole(self):
         return any(whole for _, _, whole in self.variables)
@@ -30,7 +30,7 @@ def osil(program):
         for j, (low, high, whole) in enumerate(program.variables)
     )
     goals = "".join(
-        f'<obj maxOrMin="{"max" if program.maximise else "min"}">'
+        f'<obj maxOrMin="{"max" if program.maximise else "min"}"' + f' constant="{program.constant}"' * bool(program.constant) + ">"
         + "".join(f'<coef idx="{j}">{cost}</coef>' for j, cost in enumerate(costs) if cost)
         + "</obj>"
         for costs in (program.costs, *program.later)

@@ -89,10 +89,10 @@ class Answerer:
             tree = (None,)
         claim = parts.Claim(status, outcome.point, None, bound, (tree,), "killed")
         if None in tree or self.checker.line(self.writer.text(variables), parts.result_text(self.instance, claim)) != f"accepted {status} within {bound}":
-            return Outcome("unsure", outcome.point, cause=outcome.cause or "cutoff")
+            return Outcome("unsure", outcome.point, cause=outcome.cause or "killed")
         if outcome.status == "optimal":
             return outcome._replace(trees=(tree,))
-        return outcome._replace(status=status, trees=(tree,), bound=bound, cause=outcome.cause or "cutoff")
+        return outcome._replace(status=status, trees=(tree,), bound=bound, cause=outcome.cause or "killed")
 
     def outcome(self, osil, stop):
         result = self.worker.solve(osil, stop)
