@@ -210,7 +210,7 @@ class Solving:
         found = self.division.counts
         values = "" if claim.point is None else " " + ", ".join(map(str, parts.values_at(self.instance, claim.point)))
         bound = "" if claim.bound is None else f", none better than {claim.bound} by the parts' bounds"
-        return f"{values}{bound}; {found['divided']} divided, {found['bound']} bounded, {found['search']} searched, seats busy {self.division.busy():.2f}"
+        return f"{values}{bound}; {found['divided']} divided, {found['bound']} bounded, {found['search']} searched, seats busy {self.division.busy():.2f}, own work {time.process_time():.1f} s"
 
     def tell(self, text, is_ended):
         """The last line. The folder goes where all is known and nobody named it."""
