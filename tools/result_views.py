@@ -9,6 +9,7 @@ CUT = 12  # decimals shown, as the server's own result has them
 CAUSES = {
     "nodeLimit": ("it began as many cases as the option nodeLimit allows", "give a greater limit"),
     "turnLimit": ("it made as many turns of the simplex method as the option pivotLimit allows, or --safe", "give a greater limit, without --safe"),
+    "gap": ("the best point is as near to the bound as the option gap asks", "give a lesser gap"),
     "timeLimit": ("it took as long as the option maxTime or --seconds allows", "give a longer time"),
     "wide": ("a number passes 128 bits", "use smaller numbers: whole units in place of decimals, other units where sizes differ much"),
     "length": ("the document would be longer than 4,194,304 bytes", "set tighter bounds on the whole variables, so that fewer cases are needed"),

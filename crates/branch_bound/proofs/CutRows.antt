@@ -82,5 +82,5 @@ module _ {M : _} {G : _} (p : Parts) (r s : Relaxation M G) (v : Level) (cs : Li
     shown = ap (λ (ks : List Cert). length ks) certs ∙ at.shown ∙ sym goal;
     counted = λ n. rw (certs, before) (at.counted n);
     several = λ h. absurd (omega arith);
-    one = λ e. ap (λ (I : Instance). derive I cs k) (at.one e) ∙ cut_is;
+    first = λ e. ap (λ (I : Instance). derive I cs k) (at.first (sym goal ∙ e)) ∙ cut_is;
   }

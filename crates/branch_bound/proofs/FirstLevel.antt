@@ -1,17 +1,20 @@
 -- Where a search begins.
-use Rattle.std.proofs.Common.{◌≡◌, ℕ, None, Option, List, [], length, arith, refl, sym, ◌∙◌, ap, ap₂, subst}
+use Rattle.std.proofs.Common.{◌≡◌, ◌<◌, ℕ, None, Option, IfSome, List, [], ◌∷◌, length, arith, refl, sym, ◌∙◌, ap, ap₂, subst}
 use Rattle.certificate.specs.declared.nodes.Cert.{Cert}
 use Rattle.certificate.specs.declared.nodes.Round.{Round}
 use Rattle.instance.specs.Parts.{Parts}
 use Rattle.instance.specs.Program.{program, problem}
 use Rattle.instance.proofs.Numbers.{program-instance}
 use Rattle.cert_checker.specs.Programs.{with_rows}
+use Rattle.rational.specs.Ratio.{Ratio}
 use Rattle.simplex_rules.specs.Ends.{Terms}
 use Rattle.simplex.specs.declared.cuts.Added.{Added}
 use Rattle.simplex.specs.declared.answer.Turns.{Turns}
 use Rattle.simplex.specs.Cuts.{Cutting}
 use Rattle.search_rules.specs.Search.{begun_at}
-use Rattle.search_rules.specs.Beginnings.{begins, first_with}
+use Rattle.search_rules.specs.Beginnings.{IsFirstBest, first_with}
+use Rattle.search_rules.specs.Asked.{Asked, asked_first}
+use Rattle.branch_bound.specs.Bounds.{CarriesNone}
 use Rattle.branch_bound.specs.declared.found.Found as Best
 use Rattle.branch_bound.specs.declared.level.Level.{Level}
 use Rattle.branch_bound.specs.declared.relaxation.Relaxation.{Relaxation}
@@ -24,7 +27,7 @@ use Rattle.branch_bound.specs.Trials.{IsFreshWalk}
 use Rattle.branch_bound.specs.Cases.{HasSize, SuitsLevel, HaveValues, StandsIn, clock_at}
 use Rattle.branch_bound.specs.States.{IsUnderWay, IsBegun}
 use Rattle.branch_bound.proofs.GivenRows.{given_first}
-use Rattle.branch_bound.proofs.NextGoal.{fresh_moment}
+use Rattle.branch_bound.proofs.NextGoal.{fresh_moment, kept_fresh}
 
 -- no row beside the instance's, and the first goal
 given_begun : (p : Parts) (k : Cutting) → k.rows ≡ [] → k.goal ≡ 0 → IsGiven p k (program p)
@@ -54,7 +57,7 @@ module _ {M : _} {G : _} (p : Parts) (r : Relaxation M G) (ks : List Cert) (rs :
     shown = ap (λ (cs : List Cert). length cs) certs;
     counted = λ n. rw certs (omega arith);
     several = λ h. refl;
-    one = λ e. is_rows;
+    first = λ e. is_rows;
   }
 
   module _ (t : Terms) (w : Walk) (fresh : IsFreshWalk p w) (no_ray : w.ray ≡ None) (turns : r.turns.done ≡ 0) where
@@ -64,11 +67,15 @@ module _ {M : _} {G : _} (p : Parts) (r : Relaxation M G) (ks : List Cert) (rs :
         ∙ ap₂ (λ (cs : List Cert) (n : ℕ). begun_at (level p (program p) (begun_level cs rs)) (record { turns = n; looks = 0 }) (best w.best)) certs turns
         )
 
-    pub begun_stands : StandsIn p t (best w.best) r (begun_level ks rs) w (clock_at r 0)
-    begun_stands = record {
+    pub begun_stands : (a : Asked) → CarriesNone w → ((gs : Option (List (Option Ratio))) × IsFirstBest (problem p) gs (best w.best)) → StandsIn p t a (best w.best) r (begun_level ks rs) w (clock_at r 0)
+    begun_stands a none is = record {
+      first = is;
       at = first_with (problem p) (best w.best);
-      comes = begins;
+      carried = None ∷ [];
+      numbers = None ∷ [];
+      comes = asked_first;
       stands = record { program = program p; cut = program p; at = begun_at_level; is = is_first };
+      kept = kept_fresh p w fresh none;
     }
 
 -- of the state before the first step, with this best point, if any
@@ -87,9 +94,11 @@ module _ {M : _} {G : _} (p : Parts) (l : Limits) (s : SearchState M G) (begun :
     fresh = λ e. fresh;
     within = let n = ap length begun.fresh.nodes in let v = ap (λ (v : Level). v.before) begun.level in omega arith;
     values = values;
+    keeps = begun.keeps;
+    carried = λ keeps. let h = begun.carried keeps in subst (λ (o : Option ℕ). IfSome o (λ d. d < length s.walk.carried.items)) (sym begun.fresh.next) h.0;
   }
 
-  pub begun_comes : (t : Terms) → StandsIn p t (best b) s.relaxation s.level walk (clock_at s.relaxation 0)
-  begun_comes t =
-      subst (λ (v : Level). StandsIn p t (best b) s.relaxation v walk (clock_at s.relaxation 0)) (sym begun.level)
-      (begun_stands p s.relaxation [] [] refl refl begun.beside begun.goal begun.rows t walk fresh begun.ray (ap (λ (t : Turns). t.done) begun.turns))
+  pub begun_comes : (t : Terms) (a : Asked) → ((gs : Option (List (Option Ratio))) × IsFirstBest (problem p) gs (best b)) → StandsIn p t a (best b) s.relaxation s.level walk (clock_at s.relaxation 0)
+  begun_comes t a is =
+      subst (λ (v : Level). StandsIn p t a (best b) s.relaxation v walk (clock_at s.relaxation 0)) (sym begun.level)
+      (begun_stands p s.relaxation [] [] refl refl begun.beside begun.goal begun.rows t walk fresh begun.ray (ap (λ (t : Turns). t.done) begun.turns) a begun.carried is)

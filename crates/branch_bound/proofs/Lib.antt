@@ -8,6 +8,12 @@ mod Leftovers
 mod Factors
 mod Places
 mod PendingCases
+mod Kept
+mod KeptAfter
+mod LeftCases
+mod Gaps
+mod OpenBounds
+mod GivenUp
 mod ZeroBranches
 mod Sides
 mod Splits
@@ -22,6 +28,8 @@ mod ClaimsAtEnd
 mod NextGoal
 mod CaseMoments
 mod FirstLevel
+mod AnyRay
+mod EarlyEnds
 mod Looks
 mod Changes
 mod FirstValues

@@ -1,5 +1,5 @@
 -- From a level whose cases are closed to the next goal.
-use Rattle.std.proofs.Common.{◌≡◌, inl, inr, ℕ, zero, suc, ◌+◌, ◌<◌, ◌≤◌, false, Option, Some, None, Result, Ok, Err, IfOk, IfSome, OnErr, List, [], ◌∷◌, ◌++◌, length, map, get_or, drop, arith, refl, sym, ◌∙◌, ap, ap₂, subst}
+use Rattle.std.proofs.Common.{◌≡◌, inl, inr, ℕ, zero, suc, ◌+◌, ◌<◌, ◌≤◌, true, false, Option, Some, None, Result, Ok, Err, IfOk, IfSome, OnErr, List, [], ◌∷◌, ◌++◌, length, map, get_or, drop, arith, refl, sym, ◌∙◌, ap, ap₂, subst}
 use Rattle.std.proofs.lemmas.List.{length-map, at_drop_more}
 use Rattle.std.proofs.lemmas.List.Elements.{All-nil}
 use Rattle.rational.specs.Ratio.{Ratio, sum, negative, IsNumber, IsSame}
@@ -28,7 +28,11 @@ use Rattle.instance.specs.declared.parts.Goal.{Goal as Own}
 use Rattle.instance.specs.declared.parts.Sense.{Sense}
 use Rattle.search_rules.specs.Branching.{Case}
 use Rattle.search_rules.specs.Search.{Found, SearchMoment, Outcome, NextOfSearch, Out, undivided, begun_at, shown_at, reached, nodes_with, nodes_so_far, early, IsStop, StopsBefore, ClosesLevel, AsksNext, IsNextInSearch}
-use Rattle.search_rules.specs.Beginnings.{ComesFrom, IsAnswerFrom, given_up}
+use Rattle.search_rules.specs.Bounds.{Carried}
+use Rattle.search_rules.specs.Asked.{Asked, ComesAsked, IsAskedAnswer, gave_up}
+use Rattle.branch_bound.specs.declared.carried.Carried as own
+use Rattle.branch_bound.specs.Bounds as Kept
+use Rattle.branch_bound.specs.Bounds.{CarriesNone, kept_next, multipliers_of, number_of}
 use Rattle.simplex_rules.specs.Ends.{Terms, Clock}
 use Rattle.simplex_rules.specs.Looks.{AgreesWith}
 use Rattle.simplex_rules.specs.Runs.{looked_once}
@@ -176,5 +180,13 @@ next-instance L e g good q =
     (instance_added L (record { lb = Some (ratio e); ub = Some (ratio e) }) (λ j. minimising L (cost_at L j)) good (e.above, e.above) (λ j. minimising-number L (cost_at L j) (value-number L.goal.costs good.costs j))) q
 
 -- where there is no memory, the search is given up at its moment
-pub gives_up : (P : Problem) (t : Terms) (start : Option Found) (m : SearchMoment) (o : Outcome) (c : Clock) → ComesFrom P t start m → o ≡ early m.best Memory → c ≡ m.clock → IsAnswerFrom P t start o c
-gives_up P t start m o c comes is at = subst (λ (k : Clock). IsAnswerFrom P t start o k) (sym at) (subst (λ (q : Outcome). IsAnswerFrom P t start q m.clock) (sym is) (given_up comes))
+pub gives_up : (P : Problem) (t : Terms) (a : Asked) (start : Option Found) (m : SearchMoment) (ks : List Carried) (xs : List (Option Ratio)) (o : Outcome) (c : Clock) → ComesAsked P t a start m ks xs → o ≡ early m.best Memory → c ≡ m.clock → IsAskedAnswer P t a start o None c
+gives_up P t a start m ks xs o c comes is at = subst (λ (k : Clock). IsAskedAnswer P t a start o None k) (sym at) (subst (λ (q : Outcome). IsAskedAnswer P t a start q None m.clock) (sym is) (gave_up comes))
+
+-- before its first case a level's walk keeps nothing
+pub kept_fresh : (p : Parts) (w : Walk) → IsFreshWalk p w → CarriesNone w → w.keeps ≡ true → (None ∷ [] ≡ Kept.carried w) × (None ∷ [] ≡ Kept.numbers w)
+kept_fresh p w fresh none keeps =
+    let h = none keeps in (
+      sym (ap (λ o. map multipliers_of (kept_next w.carried.items w.branches.items o)) fresh.next ∙ ap (λ (k : Option own.Carried). multipliers_of k ∷ []) h.1),
+      sym (ap (λ o. map number_of (kept_next w.carried.items w.branches.items o)) fresh.next ∙ ap (λ (k : Option own.Carried). number_of k ∷ []) h.1),
+    )

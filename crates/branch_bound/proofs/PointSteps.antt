@@ -34,6 +34,10 @@ pub if_err : {T E : Type 0} {P Q : E → Type 0} (r : Result T E) → ((x : E) �
 if_err (Ok x) f h = h
 if_err (Err y) f h = f y h
 
+pub if_err₂ : {T E : Type 0} {P Q R : E → Type 0} (r : Result T E) → ((x : E) → P x → Q x → R x) → IfErr r P → IfErr r Q → IfErr r R
+if_err₂ (Ok x) f p q = p
+if_err₂ (Err y) f p q = f y p q
+
 pub or_memory : {P Q : Type 0} (w : Walk) (ended : Ended) → (P → Q) → OrMemory w ended P → OrMemory w ended Q
 or_memory w ended f (inl e) = inl e
 or_memory w ended f (inr h) = inr (f h)

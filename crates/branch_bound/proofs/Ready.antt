@@ -49,6 +49,10 @@ gone_on p l r v w x d ready walk values one = record {
   further = record { level = (refl, refl); within = ready.within; one = inl (one, refl) };
 }
 
+pub if_ok₂ : {T E : Type 0} {P Q R : T → Type 0} (r : Result T E) → ((x : T) → P x → Q x → R x) → IfOk r P → IfOk r Q → IfOk r R
+if_ok₂ (Ok x) f p q = f x p q
+if_ok₂ (Err e) f p q = p
+
 pub if_ok₃ : {T E : Type 0} {P Q R S : T → Type 0} (r : Result T E) → ((x : T) → P x → Q x → R x → S x) → IfOk r P → IfOk r Q → IfOk r R → IfOk r S
 if_ok₃ (Ok x) f p q r = f x p q r
 if_ok₃ (Err e) f p q r = p
@@ -74,7 +78,7 @@ module _ {M : _} {G : _} (p : Parts) (r s : Relaxation M G) (es : List Ends) (en
     shown = at.shown;
     counted = at.counted;
     several = at.several;
-    one = λ e. at.one e ∙ ap (with_rows (program p)) (sym rows);
+    first = λ e. at.first e ∙ ap (with_rows (program p)) (sym rows);
   }
 
   pub suits_as : HasSize p s → SuitsLevel p r v → SuitsLevel p s v

@@ -1,5 +1,5 @@
 -- What the code makes of a case, as the rules of a search say it.
-use Rattle.std.specs.Prelude.{◌≡◌, ◌⊎◌, ℕ, ◌+◌, ◌^◌, ◌<◌, ◌≤◌, Bool, false, Option, None, Some, Result, Ok, Err, List, [], ◌∷◌, ◌++◌, length}
+use Rattle.std.specs.Prelude.{◌≡◌, ◌⊎◌, ℕ, ◌+◌, ◌^◌, ◌<◌, ◌≤◌, Bool, true, false, Option, None, Some, Result, Ok, Err, List, [], ◌∷◌, ◌++◌, length}
 use Rattle.rational.specs.Ratio.{Ratio}
 use Rattle.fraction.specs.Frac.{ratios}
 use Rattle.evidence.specs.Instance.{Instance}
@@ -16,7 +16,7 @@ use Rattle.simplex.specs.Cuts.{Suits}
 use Rattle.simplex.specs.Memory.{width_in, height_in}
 use Rattle.search_rules.specs.Search as Rules
 use Rattle.search_rules.specs.Search.{Found, SearchMoment, Outcome, NextOfSearch, Optimal, Infeasible, TakesPoint, MeetsPoint, GoesFrom, ImprovesBest, early}
-use Rattle.search_rules.specs.Beginnings.{ComesFrom, IsAnswerFrom}
+use Rattle.search_rules.specs.Beginnings.{IsFirstBest}
 use Rattle.branch_bound.specs.declared.found.Found as Best
 use Rattle.branch_bound.specs.declared.ended.Ended.{Ended}
 use Rattle.branch_bound.specs.declared.ended.Ended.TheVariants.{Unbounded, Early}
@@ -28,6 +28,10 @@ use Rattle.branch_bound.specs.Claims.{is_kill}
 use Rattle.branch_bound.specs.Walks.{best, case, rest, IsWalk, IsAt}
 use Rattle.branch_bound.specs.Levels.{moment, IsGiven, IsAtLevel}
 use Rattle.branch_bound.specs.Trials.{IsFreshWalk}
+use Rattle.branch_bound.specs.declared.walk.RayAt.{RayAt}
+use Rattle.branch_bound.specs.Bounds as Kept
+use Rattle.search_rules.specs.Bounds as Carries
+use Rattle.search_rules.specs.Asked.{Asked, ComesAsked, EndsAsked, IsAskedAnswer}
 
 abbrev pub terms : Limits → Option ℕ → Terms
 terms l stop = record { nodes = l.nodes; turns = l.turns; rounds = l.rounds; stop = stop }
@@ -91,6 +95,20 @@ EndsForMemory w ended = (cs : List Certificate) → outcome_of cs ended ≡ earl
 abbrev pub OrMemory : Walk → Ended → Type 0 → Type 0
 OrMemory w ended P = EndsForMemory w ended ⊎ P
 
+-- it is so, with that point itself
+abbrev pub IsForMemory : Walk → Ended → Type 0
+IsForMemory w ended = ended ≡ Early w.best Memory
+
+-- a walk that is given up stays as it was but for its best point, which is told, and for its ray; unless memory was wanting
+abbrev pub StaysIn : Walk → Walk → Ended → Type 0
+StaysIn w x (Unbounded f z) = Unit {0}
+StaysIn w x (Early b k) = (b ≡ w.best) × ((k ≡ Memory) ⊎ (record x { best = w.best; ray = w.ray } ≡ w))
+
+-- and so do the level and what runs are given
+abbrev pub StaysAt : {L : _} {G : _} → Relaxation L G → Level → Walk → Relaxation L G → Level → Walk → Ended → Type 0
+StaysAt r v w s u x (Unbounded f z) = Unit {0}
+StaysAt r v w s u x (Early b k) = (b ≡ w.best) × ((k ≡ Memory) ⊎ ((record x { best = w.best; ray = w.ray } ≡ w) × (u ≡ v) × (s.ends ≡ r.ends) × (s.rows.items ≡ r.rows.items)))
+
 -- from this point of the case at hand on, where the level has program L and the cases come of D
 abbrev pub MeetsAt : Parts → Instance → Instance → Level → Walk → ℕ → Terms → Clock → List Ratio → List Multiplier → NextOfSearch → Type 0
 MeetsAt p L D v w d t c x ms next = MeetsPoint (problem p) t (case D w d) (rest D w d) (moment p L D v w c) x ms next
@@ -118,21 +136,45 @@ abbrev pub is_killed_by : Result (Unit {0}) Ended → Bool
 is_killed_by (Ok x) = false
 is_killed_by (Err ended) = was_killed ended
 
--- the moments of a search from this best point, if any, have come to one at which the code stands
-pub record StandsIn {L : _} {G : _} (p : Parts) (t : Terms) (start : Option Found) (r : Relaxation L G) (v : Level) (w : Walk) (c : Clock) : Type 0 where
+-- the moments of a search from a first point on have come to one at which the code stands, and what its open cases carry is kept, where it is asked for
+pub record StandsIn {L : _} {G : _} (p : Parts) (t : Terms) (a : Asked) (start : Option Found) (r : Relaxation L G) (v : Level) (w : Walk) (c : Clock) : Type 0 where
+  pub first : (gs : Option (List (Option Ratio))) × IsFirstBest (problem p) gs start
   pub at : SearchMoment
-  pub comes : ComesFrom (problem p) t start at
+  pub carried : List Carries.Carried
+  pub numbers : List (Option Ratio)
+  pub comes : ComesAsked (problem p) t a start at carried numbers
   pub stands : IsMoment p r v w c at
+  pub kept : w.keeps ≡ true → (carried ≡ Kept.carried w) × (numbers ≡ Kept.numbers w)
+
+-- the walk's open cases may be closed, where a bound is asked for
+pub record MayClose (p : Parts) (a : Asked) (w : Walk) : Type 0 where
+  pub walk : IsWalk (length p.vars) w
+  pub keeps : a.bound ≡ true → w.keeps ≡ true
+  pub carried : Kept.HasCarried w
+  pub values : HaveValues p w.best
+
+-- the walk is that of the search's last moment, but for the best point, which was given up, and for the ray: where there is one its case carries nothing
+pub record EndsIn {L : _} {G : _} (p : Parts) (t : Terms) (a : Asked) (start : Option Found) (r : Relaxation L G) (v : Level) (w : Walk) (o : Outcome) (best : Option Best.Found) (c : Clock) : Type 0 where
+  pub before : Clock
+  pub old_ray : Option RayAt
+  pub last : StandsIn p t a start r v (record w { best = best; ray = old_ray }) before
+  pub ready : MayClose p a (record w { best = best; ray = old_ray })
+  pub ends : EndsAsked (problem p) t a last.at last.numbers o c
+
+-- how a search that ended so may be answered: for want of memory, with the best point of some moment; or as its last moment ends it
+abbrev pub AnswersSo : {L : _} {G : _} → Parts → Terms → Asked → Option Found → Relaxation L G → Level → Walk → Ended → Clock → Type 0
+AnswersSo p t a start r v w (Unbounded f z) c = IsAskedAnswer (problem p) t a start (outcome_of (Means.certificates v.certs) (Unbounded f z)) None c
+AnswersSo p t a start r v w (Early b k) c = (k ≡ Memory) × IsAskedAnswer (problem p) t a start (early (best b) Memory) None c ⊎ EndsIn p t a start r v w (early (best b) k) b c
 
 -- what comes then of the search: one more such moment, or an answer
-abbrev pub ComesThrough : {L : _} {G : _} → Parts → Terms → Option Found → Relaxation L G → Level → Walk → Clock → Result (Unit {0}) Ended → Type 0
-ComesThrough p t start r v w c (Ok x) = StandsIn p t start r v w c
-ComesThrough p t start r v w c (Err ended) = IsAnswerFrom (problem p) t start (outcome_of (Means.certificates v.certs) ended) c
+abbrev pub ComesThrough : {L : _} {G : _} → Parts → Terms → Asked → Option Found → Relaxation L G → Level → Walk → Clock → Result (Unit {0}) Ended → Type 0
+ComesThrough p t a start r v w c (Ok x) = StandsIn p t a start r v w c
+ComesThrough p t a start r v w c (Err ended) = AnswersSo p t a start r v w ended c
 
 -- after looks of which n went on, and one more may have stopped, the code went from one of them on so
 abbrev pub CarriesOn : {L : _} {G : _} → Parts → Limits → Relaxation L G → Level → Walk → Relaxation L G → Level → Walk → ℕ → Bool → Result (Unit {0}) Ended → Type 0
 CarriesOn p l r v w s u x n killed result =
-    (start : Option Found) (looks : ℕ) (stop : Option ℕ) → StandsIn p (terms l stop) start r v w (clock_at r looks) → AgreesWith stop looks n killed → ComesThrough p (terms l stop) start s u x (clock_at s (looks_after looks n killed)) result
+    (start : Option Found) (looks : ℕ) (stop : Option ℕ) → let a = Kept.asked l in StandsIn p (terms l stop) a start r v w (clock_at r looks) → AgreesWith stop looks n killed → ComesThrough p (terms l stop) a start s u x (clock_at s (looks_after looks n killed)) result
 
 -- one node more stands, or one cut more where there were fewer than the most
 pub record GoesFurther (l : Limits) (v u : Level) (w x : Walk) : Type 0 where

@@ -39,7 +39,7 @@ pub record IsGiven (p : Parts) (k : Cutting) (D : Instance) : Type 0 where
   pub cut : (cs : List Cut) → length cs ≡ length p.vars → IsCutBy p (record k { ends = map ends_in cs }) (cut D cs)
   pub variables : D.variables ≡ (program p).variables
 
--- and L is that of the level: with the rows of the goals before, each of which has a certificate, and without those of cuts, which instances of several goals don't have; of one goal D is the program that cuts are checked by
+-- and L is that of the level: with the rows of the goals before, each of which has a certificate, and without those of cuts, which instances of several goals don't have; at the first goal D is the program that cuts are checked by
 pub record IsAtLevel {M : _} {G : _} (p : Parts) (r : Relaxation M G) (l : Level) (L D : Instance) : Type 0 where
   pub good : IsInstance D
   pub given : IsGiven p r.ends D
@@ -48,4 +48,4 @@ pub record IsAtLevel {M : _} {G : _} (p : Parts) (r : Relaxation M G) (l : Level
   pub shown : length l.certs ≡ l.goal
   pub counted : (n : ℕ) → nodes_with (Means.certificates l.certs) n ≡ l.before + n
   pub several : 1 < length p.goals → D ≡ L
-  pub one : length p.goals ≡ 1 → D ≡ with_rows (program p) r.rows.items
+  pub first : l.goal ≡ 0 → D ≡ with_rows (program p) r.rows.items

@@ -5,11 +5,13 @@ pub use Rattle.certificate.specs.Meanings
 pub use Rattle.simplex_rules.specs.Ends
 pub use Rattle.simplex_rules.specs.Looks
 pub use Rattle.search_rules.specs.Search
+pub use Rattle.search_rules.specs.Asked
 pub mod Claims
 pub mod Walks
 pub mod Divisions
 pub mod Levels
 pub mod Trials
+pub mod Bounds
 pub mod Beginnings
 pub mod Cases
 pub mod States

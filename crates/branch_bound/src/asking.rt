@@ -13,14 +13,18 @@ ghost use Rattle.case_tree.specs.Cuts.{cut_variable};
 ghost use Rattle.cert_checker.specs.Programs.{AreUncut};
 ghost use Rattle.simplex_rules.specs.Looks.{answers, AgreesWith, looks_after};
 ghost use Rattle.search_rules.specs.Search.{SearchMoment, Out, nodes_so_far};
+ghost use Rattle.certificate.specs.declared.causes.Cause.{Cause};
+ghost use Rattle.branch_bound.specs.declared.ended.Ended.TheVariants.{Early};
 ghost use Rattle.branch_bound.specs.declared.found.Found as points;
 ghost use Rattle.branch_bound.specs.Walks.{best as best_of, IsWalk};
 ghost use Rattle.branch_bound.specs.Levels.{IsGiven, IsAtLevel};
+ghost use Rattle.branch_bound.specs.Bounds.{CarriesNone};
 ghost use Rattle.branch_bound.specs.Trials.{IsFreshWalk};
 ghost use Rattle.branch_bound.specs.Cases.{terms, HasSize, SuitsLevel, outcome_of, was_killed, clock_at, HaveValues};
 ghost use Rattle.branch_bound.specs.States.{IsUnderWay, Changes};
 ghost use Rattle.branch_bound.specs.Asking.{turned_by, EndsWide, HasBegunLevel};
 
+use crate::carried::carry;
 use crate::claims::give_up;
 use crate::ended::Ended;
 use crate::found::Found;
@@ -93,7 +97,7 @@ fn uncut_each(cuts: &mut [Cut], vars: &[Var])
     }
 }
 
-/// Begins the walk anew, with its best point.
+/// Begins the walk anew, with its best point and with what is carried.
 fn begin_again(instance: &Instance, walk: &mut Walk)
     requires { length walk.old.cuts.items ≡ length instance.now.vars }
     ensures uncut { AreUncut (program instance.now) walk.new.cuts.items }
@@ -101,6 +105,8 @@ fn begin_again(instance: &Instance, walk: &mut Walk)
     ensures ray { walk.new.ray ≡ None }
     ensures nodes { walk.new.nodes ≡ walk.old.nodes }
     ensures best { walk.new.best ≡ walk.old.best }
+    ensures keeps { walk.new.keeps ≡ walk.old.keeps }
+    ensures carried { walk.new.carried ≡ walk.old.carried }
 {
     uncut_each(walk.cuts.as_mut_slice(), instance.vars());
     walk.next = Some(0);
@@ -127,12 +133,15 @@ fn ask_next<L: Ledger>(
     ensures suits { IfOk result (λ _. SuitsLevel instance.now relaxation.new level.new) }
     ensures fresh { IfOk result (λ _. IsFreshWalk instance.now walk.new) }
     ensures walk { IfOk result (λ _. IsWalk (length instance.now.vars) walk.new) }
+    ensures keeps { IfOk result (λ _. walk.new.keeps ≡ walk.old.keeps) }
+    ensures carried { IfOk result (λ _. CarriesNone walk.new) }
     ensures goal { IfOk result (λ _. level.new.goal ≡ level.old.goal + 1) }
     ensures before { IfOk result (λ _. level.new.before ≡ level.old.before + length walk.old.nodes) }
     ensures begun { IfOk result (λ _. (L D : Of.Instance) → IsAtLevel instance.now relaxation.old level.old L D → HasBegunLevel instance.now level.old walk.old (next_level L (ratio end) (get_or (goals instance.now.goals) level.new.goal Of.no_goal)) relaxation.new level.new walk.new) }
     ensures best { walk.new.best ≡ walk.old.best }
     ensures turns { relaxation.new.turns ≡ relaxation.old.turns }
 {
+    carry(walk.keeps, &mut walk.carried, 0, None)?;
     add_goal_row(alloc, instance, relaxation, goal, end)?;
     level.before += walk.nodes.len();
     let nodes = mem::replace(&mut walk.nodes, Nodes::new(alloc));
@@ -155,6 +164,8 @@ fn end_is_wide<W: Watch, L: Ledger>(
 ) -> Ended
     requires few { level.now.before + length walk.old.nodes < 2 ^ 64 }
     requires stops { W.stops watch.old < 2 ^ 64 - 1 }
+    ensures is { (k : Cause) × (result ≡ Early walk.old.best k) }
+    ensures rest { walk.new ≡ record walk.old { best = None } }
     ensures next { (n : ℕ) × (killed : Bool) × (was_killed result ≡ killed) × W.came watch.old watch.new (answers n killed) × ((P : Of.Problem) (m : SearchMoment) (looks : ℕ) (stop : Option ℕ) (cs : List Certificate) → m.clock ≡ clock_at relaxation.now looks → m.best ≡ best_of walk.old.best → nodes_so_far m ≡ level.now.before + length walk.old.nodes → AgreesWith stop looks n killed → EndsWide P (terms limits stop) m (Out (outcome_of cs result) (clock_at relaxation.now (looks_after looks n killed)))) }
 {
     if level.before + walk.nodes.len() >= limits.nodes as usize {

@@ -15,10 +15,13 @@
 
 mod along;
 mod asking;
+mod bounds;
+mod carried;
 mod claims;
 mod cutting;
 mod ended;
 mod found;
+mod gap;
 mod level;
 mod limits;
 mod meeting;
@@ -35,6 +38,7 @@ mod visit;
 mod walk;
 
 pub use found::Found;
+pub use gap::Gap;
 pub use limits::Limits;
 pub use searching::{Searched, search, search_from};
 pub use start::first_point;

@@ -1,5 +1,5 @@
 //! A rounding cut before the first branch.
-ghost use Rattle.std.specs.Prelude.{◌≡◌, ◌↔◌, ℕ, ◌+◌, ◌-◌, ◌^◌, ◌<◌, ◌≤◌, ◌++◌, pos, neg_ℤ, ◌≤ℤ◌, false, None, Some, [], ◌∷◌, length, IsTrue, IfOk, IfErr};
+ghost use Rattle.std.specs.Prelude.{◌≡◌, ◌↔◌, ℕ, ◌+◌, ◌-◌, ◌^◌, ◌<◌, ◌≤◌, ◌++◌, pos, neg_ℤ, ◌≤ℤ◌, false, Option, None, Some, List, [], ◌∷◌, length, IsTrue, IfOk, IfErr};
 ghost use Rattle.std.specs.List.{All};
 ghost use Rattle.rational.specs.Ratio.{Ratio, whole as whole_of};
 ghost use Rattle.rational.specs.Width.{most};
@@ -29,8 +29,11 @@ ghost use Rattle.branch_bound.specs.Walks.{case, rest, IsAt};
 ghost use Rattle.branch_bound.specs.Divisions.{IsOpenAt};
 ghost use Rattle.branch_bound.specs.Levels.{moment, IsGiven, IsAtLevel};
 ghost use Rattle.branch_bound.specs.Trials.{tried, HoldsCut, RanTo, IsFreshWalk, TriesAt};
-ghost use Rattle.branch_bound.specs.Cases.{outcome_of, was_killed, HasSize, SuitsLevel, IsWalkReady, HasGoneOn, clock_at, OrMemory, ImprovesAt, HaveValues};
+ghost use Rattle.branch_bound.specs.Cases.{outcome_of, was_killed, HasSize, SuitsLevel, IsWalkReady, HasGoneOn, clock_at, OrMemory, StaysAt, ImprovesAt, HaveValues};
+ghost use Rattle.branch_bound.specs.declared.carried.Carried as kept;
+ghost use Rattle.branch_bound.specs.Bounds.{HasCarried, Leaves};
 
+use crate::carried::{Carried, carry};
 use crate::claims::{branch, give_up, too_wide};
 use crate::cutting::{Trial, try_cut};
 use crate::ended::Ended;
@@ -188,6 +191,7 @@ fn go_on<L: Ledger>(
     walk: &mut Walk,
     depth: usize,
     at: Open,
+    carried: Carried,
     trial: Trial,
 ) -> Result<(), Ended>
     requires suits { SuitsLevel instance.now relaxation.old level.old }
@@ -198,18 +202,26 @@ fn go_on<L: Ledger>(
     requires divides { (D : Of.Instance) → IsOpenAt (cut D walk.old.cuts.items) (point_of relaxation.old.work) at.col at.by }
     requires holds { HoldsCut (length instance.now.vars) trial relaxation.old.slots.items }
     requires values { HaveValues instance.now walk.old.best }
+    requires carried { HasCarried walk.old }
+    ensures carried { IfOk result (λ _. HasCarried walk.new) }
+    ensures leaves { IfOk result (λ _. (new : List (Option kept.Carried)) × All (λ y. y ≡ Some carried) new × Leaves walk.old walk.new depth new) }
     ensures on { IfOk result (λ _. (l : limits.Limits) → IsWalkReady instance.now l relaxation.old level.old walk.old depth → length level.old.rounds < l.rounds → HasGoneOn instance.now l level.old walk.old relaxation.new level.new walk.new) }
     ensures turns { relaxation.new.turns ≡ relaxation.old.turns }
     ensures ok { IfOk result (λ _. (L D : Of.Instance) (t : Terms) (c : Clock) → IsAtLevel instance.now relaxation.old level.old L D → (E : Of.Instance) × IsAtLevel instance.now relaxation.new level.new L E × GoesFromTrial (problem instance.now) t (case D walk.old depth) (rest D walk.old depth) (moment instance.now L D level.old walk.old c) (point_of relaxation.old.work) (tried trial relaxation.old.slots.items) (To (moment instance.now L E level.new walk.new c))) }
     ensures err { IfErr result (λ ended. OrMemory walk.old ended ((L D : Of.Instance) (t : Terms) (looks : ℕ) → let c = clock_at relaxation.old looks in GoesFromTrial (problem instance.now) t (case D walk.old depth) (rest D walk.old depth) (moment instance.now L D level.old walk.old c) (point_of relaxation.old.work) (tried trial relaxation.old.slots.items) (Out (outcome_of (Means.certificates level.old.certs) ended) c))) }
     ensures certs { level.new.certs ≡ level.old.certs }
+    ensures stays { IfErr result (StaysAt relaxation.old level.old walk.old relaxation.new level.new walk.new) }
     ensures went_on { IfErr result (λ ended. was_killed ended ≡ false) }
 {
     match trial {
-        Trial::NoCut => branch(walk, depth, at),
+        Trial::NoCut => branch(walk, depth, at, Some(carried)),
         Trial::WideCut => Err(too_wide(walk, relaxation.turns.done, Step::Round)),
         Trial::Cut { mults, low } => {
             match add_cut(alloc, instance, relaxation, level, mults, low) {
+                Ok(()) => {}
+                Err(_) => return Err(give_up(walk, Cause::Memory)),
+            }
+            match carry(walk.keeps, &mut walk.carried, depth, Some(carried)) {
                 Ok(()) => Ok(()),
                 Err(_) => Err(give_up(walk, Cause::Memory)),
             }
@@ -226,6 +238,7 @@ fn cut_or_branch<L: Ledger>(
     walk: &mut Walk,
     depth: usize,
     at: Open,
+    carried: Carried,
 ) -> Result<(), Ended>
     requires suits { SuitsLevel instance.now relaxation.old level.old }
     requires at { IsAt (length instance.now.vars) walk.old depth }
@@ -236,15 +249,21 @@ fn cut_or_branch<L: Ledger>(
     requires stands { IsAtBasis relaxation.old.work }
     requires ran { (e : runs.End) × ((D : Of.Instance) → IsGiven instance.now relaxation.old.ends D → RanTo (cut D walk.old.cuts.items) e relaxation.old.work) }
     requires values { HaveValues instance.now walk.old.best }
+    requires carried { HasCarried walk.old }
+    ensures carried { IfOk result (λ _. HasCarried walk.new) }
+    ensures leaves { IfOk result (λ _. (new : List (Option kept.Carried)) × All (λ y. y ≡ Some carried) new × Leaves walk.old walk.new depth new) }
     ensures on { IfOk result (λ _. (l : limits.Limits) → IsWalkReady instance.now l relaxation.old level.old walk.old depth → length level.old.rounds < l.rounds → HasGoneOn instance.now l level.old walk.old relaxation.new level.new walk.new) }
     ensures turns { relaxation.new.turns ≡ relaxation.old.turns }
     ensures ok { IfOk result (λ _. (L D : Of.Instance) (t : Terms) (c : Clock) → IsAtLevel instance.now relaxation.old level.old L D → (E : Of.Instance) × IsAtLevel instance.now relaxation.new level.new L E × TriesAt instance.now L D level.old walk.old depth t c (point_of relaxation.old.work) (statuses_in relaxation.old.work) (To (moment instance.now L E level.new walk.new c))) }
     ensures err { IfErr result (λ ended. OrMemory walk.old ended ((L D : Of.Instance) (t : Terms) (looks : ℕ) → let c = clock_at relaxation.old looks in IsAtLevel instance.now relaxation.old level.old L D → TriesAt instance.now L D level.old walk.old depth t c (point_of relaxation.old.work) (statuses_in relaxation.old.work) (Out (outcome_of (Means.certificates level.old.certs) ended) c))) }
     ensures certs { level.new.certs ≡ level.old.certs }
+    ensures stays { IfErr result (StaysAt relaxation.old level.old walk.old relaxation.new level.new walk.new) }
     ensures went_on { IfErr result (λ ended. was_killed ended ≡ false) }
 {
     match try_at(alloc, instance, relaxation, walk) {
-        Ok(trial) => go_on(alloc, instance, relaxation, level, walk, depth, at, trial),
+        Ok(trial) => go_on(
+            alloc, instance, relaxation, level, walk, depth, at, carried, trial,
+        ),
         Err(_) => Err(give_up(walk, Cause::Memory)),
     }
 }
@@ -256,6 +275,7 @@ pub fn improve<L: Ledger>(
     relaxation: &mut Relaxation<L>,
     level: &mut Level,
     mults: Mults,
+    bound: Frac,
     walk: &mut Walk,
     depth: usize,
 ) -> Result<(), Ended>
@@ -268,16 +288,23 @@ pub fn improve<L: Ledger>(
     requires stands { IsAtBasis relaxation.old.work }
     requires ran { (b : Ratio) × ((D : Of.Instance) → IsGiven instance.now relaxation.old.ends D → RanTo (cut D walk.old.cuts.items) (Best b (point_of relaxation.old.work) (Means.multipliers mults)) relaxation.old.work) }
     requires values { HaveValues instance.now walk.old.best }
+    requires carried { HasCarried walk.old }
+    ensures carried { IfOk result (λ _. HasCarried walk.new) }
+    ensures leaves { IfOk result (λ _. (new : List (Option kept.Carried)) × All (λ y. y ≡ Some (record { bound = bound; mults = mults })) new × Leaves walk.old walk.new depth new) }
     ensures on { IfOk result (λ _. (l : limits.Limits) → IsWalkReady instance.now l relaxation.old level.old walk.old depth → length level.old.rounds < l.rounds → HasGoneOn instance.now l level.old walk.old relaxation.new level.new walk.new) }
     ensures turns { relaxation.new.turns ≡ relaxation.old.turns }
     ensures ok { IfOk result (λ _. (L D : Of.Instance) (t : Terms) (before c : Clock) (b : Ratio) → IsAtLevel instance.now relaxation.old level.old L D → length level.old.rounds < t.rounds → EndsAtBasis (cut D walk.old.cuts.items) false t before (Best b (point_of relaxation.old.work) (Means.multipliers mults)) c (statuses_in relaxation.old.work) → (E : Of.Instance) × IsAtLevel instance.now relaxation.new level.new L E × ImprovesAt instance.now L D level.old walk.old depth t before c b (point_of relaxation.old.work) (Means.multipliers mults) (To (moment instance.now L E level.new walk.new c))) }
     ensures err { IfErr result (λ ended. OrMemory walk.old ended ((L D : Of.Instance) (t : Terms) (before : Clock) (looks : ℕ) (b : Ratio) → let c = clock_at relaxation.old looks in IsAtLevel instance.now relaxation.old level.old L D → length level.old.rounds < t.rounds → EndsAtBasis (cut D walk.old.cuts.items) false t before (Best b (point_of relaxation.old.work) (Means.multipliers mults)) c (statuses_in relaxation.old.work) → ImprovesAt instance.now L D level.old walk.old depth t before c b (point_of relaxation.old.work) (Means.multipliers mults) (Out (outcome_of (Means.certificates level.old.certs) ended) c))) }
     ensures certs { level.new.certs ≡ level.old.certs }
+    ensures stays { IfErr result (StaysAt relaxation.old level.old walk.old relaxation.new level.new walk.new) }
     ensures went_on { IfErr result (λ ended. was_killed ended ≡ false) }
 {
     let _few = instance.vars();
     match first_open(&relaxation.work, walk.cuts.as_slice()) {
-        Some(at) => cut_or_branch(alloc, instance, relaxation, level, walk, depth, at),
+        Some(at) => {
+            let carried = Carried { bound, mults };
+            cut_or_branch(alloc, instance, relaxation, level, walk, depth, at, carried)
+        }
         None => take_point(alloc, instance, relaxation, mults, walk, depth),
     }
 }

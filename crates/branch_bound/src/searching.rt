@@ -1,27 +1,36 @@
 //! The search, case by case.
-ghost use Rattle.std.specs.Prelude.{◌≡◌, ◌⊎◌, ℕ, ◌+◌, ◌-◌, ◌^◌, ◌<◌, ◌≤◌, Option, None, Some, [], length, map, IfOk};
+ghost use Rattle.std.specs.Prelude.{◌≡◌, ◌⊎◌, ℕ, ◌+◌, ◌-◌, ◌^◌, ◌<◌, ◌≤◌, Bool, not, ◌&&◌, Option, None, Some, List, [], true, length, map, IfOk};
+ghost use Rattle.rational.specs.Ratio.{Ratio};
 ghost use Rattle.fraction.specs.Frac.{ratio, ratios};
 ghost use Rattle.evidence.specs.Point.{value_at};
+ghost use Rattle.evidence.specs.ProvedBounds as says;
 ghost use Rattle.instance.specs.Program.{program, problem, variable};
 ghost use Rattle.certificate.specs.declared.causes.Cause.TheVariants as causes;
 ghost use Rattle.case_tree.specs.Cuts.{cut_variable};
 ghost use Rattle.simplex.specs.Answers.{was_stopped};
 ghost use Rattle.simplex_rules.specs.Looks.{answers, AgreesWith, looks_after};
+ghost use Rattle.simplex_rules.specs.Ends.{Terms, Clock};
+ghost use Rattle.search_rules.specs.Search as rules;
 ghost use Rattle.search_rules.specs.Search.{Outcome, IsSearchAnswer};
-ghost use Rattle.search_rules.specs.Beginnings.{IsAnswerFrom};
+ghost use Rattle.search_rules.specs.Asked.{IsAskedAnswer};
+ghost use Rattle.search_rules.specs.Beginnings.{IsFirstBest};
 ghost use Rattle.search_rules.specs.Outcomes.{IsPlain, HaveOneRange};
 ghost use Rattle.no_cycles.specs.Beginning.{BeginsFeasible};
-ghost use Rattle.branch_bound.specs.Claims.{ClaimTells, claimed_cause, is_killed};
+ghost use Rattle.branch_bound.specs.Claims.{ClaimTells, ClaimTellsWith, TellsStop, claimed_cause, is_killed, is_want};
+ghost use Rattle.branch_bound.specs.Bounds.{asked, HoldsAt, CarriesNone};
 ghost use Rattle.branch_bound.specs.Walks.{best as best_of, IsWalk};
 ghost use Rattle.branch_bound.specs.Trials.{IsFreshWalk};
 ghost use Rattle.branch_bound.specs.declared.found.Found as points;
-ghost use Rattle.branch_bound.specs.Cases.{terms, HasSize, HaveValues, GoesFurther};
+ghost use Rattle.branch_bound.specs.Cases.{terms, HasSize, HaveValues, GoesFurther, AnswersSo, was_killed};
 ghost use Rattle.branch_bound.specs.States.{IsUnderWay, IsBegun, Changes};
 
 use crate::asking::value_to_reach;
-use crate::claims::{all_closed, claim_of, give_up};
+use crate::bounds::bound_of;
+use crate::carried::{CarriedList, keep};
+use crate::claims::{all_closed, claim_early, claim_endless, give_up};
 use crate::ended::Ended;
 use crate::found::Found;
+use crate::gap::is_near;
 use crate::level::Level;
 use crate::limits::Limits;
 use crate::relaxation::{Relaxation, make_work, run_case};
@@ -34,6 +43,7 @@ use dictionary::Steps;
 use fraction::Frac;
 use instance::{Instance, Var};
 use os_io::Watch;
+use search_rules::searches_of_which_nothing_is_asked_are_searches;
 use simplex::{Cuts, LpEnd, Turns};
 use std::alloc::{AllocError, Global};
 use std::marker::Brand;
@@ -72,6 +82,9 @@ impl<L: Ledger> SearchState<L> {
     {
         if self.level.before + self.walk.nodes.len() >= limits.nodes as usize {
             return Err(give_up(&mut self.walk, Cause::NodeLimit(limits.nodes)));
+        }
+        if is_near(instance, limits, &self.level, &self.walk, depth) {
+            return Err(give_up(&mut self.walk, Cause::Gap));
         }
         if watch.look() {
             return Err(give_up(&mut self.walk, Cause::Killed));
@@ -193,6 +206,51 @@ impl<L: Ledger> SearchState<L> {
     }
 }
 
+/// Whether memory was wanting.
+fn is_memory(cause: &Cause) -> bool
+    ensures { result ≡ is_want cause.now }
+{
+    matches!(cause, Cause::Memory)
+}
+
+/// Whether a bound is told of a search that is given up for this cause: where one is asked for, and memory wasn't wanting.
+fn tells_bound(limits: Limits, cause: &Cause) -> bool
+    ensures { result ≡ limits.bound && not (is_want cause.now) }
+{
+    limits.bound && !is_memory(cause)
+}
+
+/// The claim of a search that ends before all its cases are closed: where a bound is asked for, and memory wasn't wanting, with that of
+/// its last moment. Where memory for the bound is wanting, that is the cause.
+fn end_early<L: Ledger>(
+    alloc: Global,
+    instance: &Instance,
+    limits: Limits,
+    relaxation: &Relaxation<L>,
+    level: Level,
+    mut walk: Walk,
+    ended: Ended,
+) -> Claim
+    requires ended { (t : Terms) × (start : Option rules.Found) × (c : Clock) × AnswersSo instance.now t (asked limits) start relaxation.now level walk ended c }
+    ensures { (o : Outcome) × (b : Option says.ProvedBound) × ClaimTellsWith result o b × TellsStop limits.bound (was_killed ended) o × ((t : Terms) (start : Option rules.Found) (c : Clock) → AnswersSo instance.now t (asked limits) start relaxation.now level walk ended c → IsAskedAnswer (problem instance.now) t (asked limits) start o b c) }
+{
+    match ended {
+        Ended::Unbounded { found, ray } => claim_endless(found, ray, level.certs),
+        Ended::Early { best, cause } => {
+            if !tells_bound(limits, &cause) {
+                return claim_early(best, cause, None);
+            }
+            let _some = instance.goals();
+            walk.ray = None;
+            let rows = relaxation.rows.as_slice();
+            match bound_of(alloc, instance, rows, level, walk, &best) {
+                Ok(bound) => claim_early(best, cause, bound),
+                Err(_) => claim_early(best, Cause::Memory, None),
+            }
+        }
+    }
+}
+
 /// Searches an instance's levels from this best point on, if any, and claims what that shows.
 fn explore<W: Watch, L: Ledger>(
     alloc: Global,
@@ -204,8 +262,9 @@ fn explore<W: Watch, L: Ledger>(
 ) -> Searched
     requires begun { IsBegun instance.now limits state }
     requires values { HaveValues instance.now first }
+    requires first { (gs : Option (List (Option Ratio))) × IsFirstBest (problem instance.now) gs (best_of first) }
     requires stops { W.stops watch.old < 2 ^ 64 - 1 }
-    ensures { (n : ℕ) × (o : Outcome) × ClaimTells result.claim o × W.came watch.old watch.new (answers n (is_killed o)) × ((stop : Option ℕ) → AgreesWith stop 0 n (is_killed o) → IsAnswerFrom (problem instance.now) (terms limits stop) (best_of first) o (record { turns = result.turns; looks = looks_after 0 n (is_killed o) })) }
+    ensures { (n : ℕ) × (killed : Bool) × (o : Outcome) × (b : Option says.ProvedBound) × ClaimTellsWith result.claim o b × TellsStop limits.bound killed o × W.came watch.old watch.new (answers n killed) × ((stop : Option ℕ) → AgreesWith stop 0 n killed → IsAskedAnswer (problem instance.now) (terms limits stop) (asked limits) (best_of first) o b (record { turns = result.turns; looks = looks_after 0 n killed })) }
 {
     state.walk.best = first;
     match state.search_levels(alloc, instance, limits, watch) {
@@ -224,11 +283,11 @@ fn explore<W: Watch, L: Ledger>(
             let SearchState {
                 relaxation,
                 level,
-                walk: _,
+                walk,
             } = state;
             Searched {
                 turns: relaxation.turns.done,
-                claim: claim_of(ended, level.certs),
+                claim: end_early(alloc, instance, limits, &relaxation, level, walk, ended),
             }
         }
     }
@@ -277,11 +336,24 @@ fn uncut_all(alloc: Global, vars: &[Var]) -> Result<Vec<Cut>, AllocError>
     Ok(cuts)
 }
 
+/// What the first case carries, which is nothing.
+fn first_carried(alloc: Global, keeps: bool) -> Result<CarriedList, AllocError>
+    ensures { IfOk result (λ list. keeps ≡ true → HoldsAt list.items 0 None) }
+{
+    let mut list = Vec::new(alloc);
+    if keeps {
+        keep(&mut list, 0, None)?;
+    }
+    Ok(list)
+}
+
 /// The walk before its first case, which is the instance itself.
-fn first_walk(alloc: Global, instance: &Instance) -> Result<Walk, AllocError>
+fn first_walk(alloc: Global, instance: &Instance, keeps: bool) -> Result<Walk, AllocError>
     ensures walk { IfOk result (λ w. IsWalk (length instance.now.vars) w) }
     ensures fresh { IfOk result (λ w. IsFreshWalk instance.now w) }
     ensures first { IfOk result (λ w. (w.best ≡ None) × (w.ray ≡ None)) }
+    ensures keeps { IfOk result (λ w. w.keeps ≡ keeps) }
+    ensures carried { IfOk result CarriesNone }
 {
     Ok(Walk {
         cuts: uncut_all(alloc, instance.vars())?,
@@ -290,6 +362,8 @@ fn first_walk(alloc: Global, instance: &Instance) -> Result<Walk, AllocError>
         nodes: Nodes::new(alloc),
         best: None,
         ray: None,
+        keeps,
+        carried: first_carried(alloc, keeps)?,
     })
 }
 
@@ -311,7 +385,7 @@ fn begin<L: Ledger>(
     Ok(SearchState {
         relaxation: relax(alloc, instance, limits.turns, steps)?,
         level,
-        walk: first_walk(alloc, instance)?,
+        walk: first_walk(alloc, instance, limits.keeps())?,
     })
 }
 
@@ -328,21 +402,16 @@ fn search_on<W: Watch, L: Ledger>(
     requires parts { blank.parts ≡ L.parts }
     requires some { 0 < blank.parts }
     requires values { HaveValues instance.now first }
+    requires first { (gs : Option (List (Option Ratio))) × IsFirstBest (problem instance.now) gs (best_of first) }
     requires stops { W.stops watch.old < 2 ^ 64 - 1 }
-    ensures { (n : ℕ) × (o : Outcome) × ClaimTells result.claim o × W.came watch.old watch.new (answers n (is_killed o)) × ((stop : Option ℕ) → AgreesWith stop 0 n (is_killed o) → IsAnswerFrom (problem instance.now) (terms limits stop) (best_of first) o (record { turns = result.turns; looks = looks_after 0 n (is_killed o) })) }
+    ensures { (n : ℕ) × (killed : Bool) × (o : Outcome) × (b : Option says.ProvedBound) × ClaimTellsWith result.claim o b × TellsStop limits.bound killed o × W.came watch.old watch.new (answers n killed) × ((stop : Option ℕ) → AgreesWith stop 0 n killed → IsAskedAnswer (problem instance.now) (terms limits stop) (asked limits) (best_of first) o b (record { turns = result.turns; looks = looks_after 0 n killed })) }
 {
     match begin(alloc, instance, limits, Steps::<L>::new(blank)) {
         Ok(state) => explore(alloc, instance, limits, state, first, watch),
-        Err(_) => {
-            let ended = Ended::Early {
-                best: first,
-                cause: Cause::Memory,
-            };
-            Searched {
-                claim: claim_of(ended, Certs::new(alloc)),
-                turns: 0,
-            }
-        }
+        Err(_) => Searched {
+            claim: claim_early(first, Cause::Memory, None),
+            turns: 0,
+        },
     }
 }
 
@@ -365,10 +434,13 @@ pub fn search<W: Watch>(
     ensures answer { (n : ℕ) × (o : Outcome) × ClaimTells result.claim o × W.came watch.old watch.new (answers n (is_killed o)) × ((stop : Option ℕ) → AgreesWith stop 0 n (is_killed o) → IsSearchAnswer (problem instance.now) (record { nodes = nodes; turns = turns; rounds = rounds; stop = stop }) o (record { turns = result.turns; looks = looks_after 0 n (is_killed o) })) }
     ensures enough { length instance.now.goals ≡ 1 → IsPlain (program instance.now) → HaveOneRange (program instance.now) → BeginsFeasible (program instance.now) → 4 ^ (length instance.now.vars + length instance.now.rows) ≤ turns → (n : ℕ) → claimed_cause result.claim ≡ Some (causes.TurnLimit n) → ⊥ }
 {
+    searches_of_which_nothing_is_asked_are_searches();
     let limits = Limits {
         nodes,
         turns,
         rounds,
+        bound: false,
+        gap: None,
     };
     search_on::<W, Brand>(alloc, instance, limits, None, watch, Blank::new(1))
 }
@@ -376,6 +448,9 @@ pub fn search<W: Watch>(
 /// Searches an instance as [`search`] does within these limits, from this best point on, if any.
 ///
 /// The point is one that [`first_point`](crate::first_point) gave: what the search ends with is shown where it is one of the instance.
+/// Where the limits say so, a search that is given up has the bound of its open cases, each closed by the multipliers of the nearest
+/// run above it that had a best point. With a gap the search of an instance with one goal is given up before the first node at which
+/// the best point is within that gap of the values of those runs.
 pub fn search_from<W: Watch>(
     alloc: Global,
     instance: &Instance,
@@ -384,8 +459,9 @@ pub fn search_from<W: Watch>(
     watch: &mut W,
 ) -> Searched
     requires values { HaveValues instance.now first }
+    requires first { (gs : Option (List (Option Ratio))) × IsFirstBest (problem instance.now) gs (best_of first) }
     requires stops { W.stops watch.old < 2 ^ 64 - 1 }
-    ensures { (n : ℕ) × (o : Outcome) × ClaimTells result.claim o × W.came watch.old watch.new (answers n (is_killed o)) × ((stop : Option ℕ) → AgreesWith stop 0 n (is_killed o) → IsAnswerFrom (problem instance.now) (terms limits stop) (best_of first) o (record { turns = result.turns; looks = looks_after 0 n (is_killed o) })) }
+    ensures { (n : ℕ) × (killed : Bool) × (o : Outcome) × (b : Option says.ProvedBound) × ClaimTellsWith result.claim o b × TellsStop limits.bound killed o × W.came watch.old watch.new (answers n killed) × ((stop : Option ℕ) → AgreesWith stop 0 n killed → IsAskedAnswer (problem instance.now) (terms limits stop) (asked limits) (best_of first) o b (record { turns = result.turns; looks = looks_after 0 n killed })) }
 {
     search_on::<W, Brand>(alloc, instance, limits, first, watch, Blank::new(1))
 }

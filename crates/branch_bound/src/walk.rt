@@ -4,8 +4,10 @@ ghost use Rattle.evidence.specs.Instance.{Instance};
 ghost use Rattle.certificate.specs.Meanings as Means;
 ghost use Rattle.case_tree.specs.declared.cuts.Cut.{Cut as OneCut};
 ghost use Rattle.case_tree.specs.Cuts.{pending, pending_places, branch_at, HasNext, HaveOneDivision, AreBranches};
+ghost use Rattle.branch_bound.specs.Bounds.{HasCarried, Leaves};
 ghost use Rattle.branch_bound.specs.Walks.{case, rest, waiting, divided_cases_by, node_by, keeps_ray, IsWalk, IsAt};
 
+use crate::carried::{Carried, CarriedList, carry};
 use crate::found::Found;
 use case_tree::{Branch, Cut, Division, back, cases_come_of_branches_above, enter};
 use certificate::{Node, Nodes, Ray};
@@ -21,7 +23,8 @@ pub struct RayAt {
 }
 
 /// Where the search of a level stands: the variables of the case at hand, the branches above it, how many of them count, the nodes
-/// so far, the best point, and the ray of the cases below the one whose direction gave it.
+/// so far, the best point, the ray of the cases below the one whose direction gave it, and, where `keeps` says so, what cases carry
+/// by how many branches are above them.
 #[derive(Drop)]
 pub struct Walk {
     pub cuts: Vec<Cut>,
@@ -30,6 +33,8 @@ pub struct Walk {
     pub nodes: Nodes,
     pub best: Option<Found>,
     pub ray: Option<RayAt>,
+    pub keeps: bool,
+    pub carried: CarriedList,
 }
 
 /// Whether the case that comes next is below the one whose direction gave the ray.
@@ -57,7 +62,10 @@ fn forget_ray(ray: &mut Option<RayAt>, next: Option<usize>)
 
 /// Closes the case at hand by a leaf, and goes to the next one.
 pub fn close(walk: &mut Walk, depth: usize, node: Node) -> Result<(), AllocError>
-    requires { IsAt (length walk.old.cuts.items) walk.old depth }
+    requires at { IsAt (length walk.old.cuts.items) walk.old depth }
+    requires carried { HasCarried walk.old }
+    ensures carried { IfOk result (λ _. HasCarried walk.new) }
+    ensures leaves { IfOk result (λ _. Leaves walk.old walk.new depth []) }
     ensures nodes { IfOk result (λ _. Means.nodes walk.new.nodes ≡ Means.nodes walk.old.nodes ++ Means.node node ∷ []) }
     ensures waiting { IfOk result (λ _. (I : Instance) → waiting I walk.new walk.new.next ≡ rest I walk.old depth) }
     ensures walk { IfOk result (λ _. IsWalk (length walk.old.cuts.items) walk.new) }
@@ -99,11 +107,20 @@ fn node_of(col: u32, by: Division) -> Node
     }
 }
 
-/// Divides the case at hand, and goes to the first of its two cases.
-pub fn divide(walk: &mut Walk, depth: usize, col: u32, by: Division) -> Result<(), AllocError>
+/// Divides the case at hand, and goes to the first of its two cases, both of which carry this.
+pub fn divide(
+    walk: &mut Walk,
+    depth: usize,
+    col: u32,
+    by: Division,
+    carried: Option<Carried>,
+) -> Result<(), AllocError>
     requires at { IsAt (length walk.old.cuts.items) walk.old depth }
     requires inside { col < length walk.old.cuts.items }
     requires next { HasNext by }
+    requires carried { HasCarried walk.old }
+    ensures carried { IfOk result (λ _. HasCarried walk.new) }
+    ensures leaves { IfOk result (λ _. Leaves walk.old walk.new depth (carried ∷ carried ∷ [])) }
     ensures nodes { IfOk result (λ _. Means.nodes walk.new.nodes ≡ Means.nodes walk.old.nodes ++ node_by by col ∷ []) }
     ensures waiting { IfOk result (λ _. (I : Instance) → waiting I walk.new walk.new.next ≡ divided_cases_by by (case I walk.old depth) col (rest I walk.old depth)) }
     ensures walk { IfOk result (λ _. IsWalk (length walk.old.cuts.items) walk.new) }
@@ -119,6 +136,7 @@ pub fn divide(walk: &mut Walk, depth: usize, col: u32, by: Division) -> Result<(
         is_second: false,
     };
     make_room(&mut walk.branches, depth, filler)?;
+    carry(walk.keeps, &mut walk.carried, depth + 1, carried)?;
     walk.nodes.push(node_of(col, by))?;
     enter(
         walk.cuts.as_mut_slice(),

@@ -8,7 +8,8 @@
 //!
 //! A round and a goal that is reached are each one more row of the program at hand, which has the
 //! instance's rows and then those that were added; all else goes over its rows, whichever they are. [`Added`] is such a row and
-//! [`put`] makes one; [`round_sum`] and [`ceiling`] give its lower end to whoever derives rounds. The tree is walked
+//! [`put`] makes one; [`round_sum`] and [`ceiling`] give its lower end to whoever derives rounds; [`shown_number`] is what multipliers
+//! show of a case. The tree is walked
 //! in a loop: the cuts of the case at hand are kept beside what they replaced, and undone on the way back. The walk has one list of
 //! columns, the rows behind the variables, and cuts either in one way; a row may be split where its sum is whole. All of it stands in
 //! room that [`Scratch`] has from before. A leaf costs time in proportion to the variables and to the coefficients of
@@ -36,6 +37,7 @@ mod rounds;
 mod row_leaves;
 mod row_rounds;
 mod scratch;
+mod shown;
 mod slots;
 mod sums;
 mod walk;
@@ -50,3 +52,4 @@ pub use laws::{
 pub use refused::{Refused, Unshown};
 pub use rounds::{ceiling, round_sum};
 pub use scratch::Scratch;
+pub use shown::shown_number;

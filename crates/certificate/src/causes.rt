@@ -42,6 +42,8 @@ pub enum Cause {
     NodeLimit(u32),
     /// It had taken so many turns.
     TurnLimit(u32),
+    /// The best point was near enough to the bound.
+    Gap,
     /// So many seconds were over.
     TimeLimit(Frac),
     /// A number passed the width of a fraction.

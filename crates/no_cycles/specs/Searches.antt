@@ -1,7 +1,7 @@
 -- Which outcomes of a search are of the limit of turns.
 use Rattle.std.specs.Prelude.{Bool, true, false}
 use Rattle.certificate.specs.declared.causes.Cause.{Cause}
-use Rattle.certificate.specs.declared.causes.Cause.TheVariants.{Killed, NodeLimit, TurnLimit, TimeLimit, Wide, Length, Memory}
+use Rattle.certificate.specs.declared.causes.Cause.TheVariants.{Killed, NodeLimit, TurnLimit, Gap, TimeLimit, Wide, Length, Memory}
 use Rattle.search_rules.specs.Search.{Outcome, Optimal, Infeasible, Unbounded, BestSoFar, Unsure}
 
 -- as many turns were done as the limit
@@ -9,6 +9,7 @@ abbrev pub is_turn_limit : Cause → Bool
 is_turn_limit Killed = false
 is_turn_limit (NodeLimit n) = false
 is_turn_limit (TurnLimit n) = true
+is_turn_limit Gap = false
 is_turn_limit (TimeLimit x) = false
 is_turn_limit (Wide place) = false
 is_turn_limit Length = false

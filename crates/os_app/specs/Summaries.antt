@@ -21,6 +21,7 @@ abbrev pub is_memory : Cause → Bool
 is_memory causes.Killed = false
 is_memory (causes.NodeLimit n) = false
 is_memory (causes.TurnLimit n) = false
+is_memory causes.Gap = false
 is_memory (causes.TimeLimit x) = false
 is_memory (causes.Wide place) = false
 is_memory causes.Length = false

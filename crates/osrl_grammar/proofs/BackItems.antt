@@ -52,6 +52,7 @@ pub cause_back : (c : why.Cause) → CauseComesBack c → IsCause (cause_text c)
 cause_back causes.Killed back = (refl, refl)
 cause_back (causes.NodeLimit n) back = (refl, subst (λ (l : List (List ℕ)). IsOne l n) (sym (pieces_free (decimal n) (decimal_spaceless n))) (index_back n back))
 cause_back (causes.TurnLimit n) back = (refl, subst (λ (l : List (List ℕ)). IsOne l n) (sym (pieces_free (decimal n) (decimal_spaceless n))) (index_back n back))
+cause_back causes.Gap back = (refl, refl)
 cause_back (causes.TimeLimit x) back = (refl, subst (λ (l : List (List ℕ)). IsOneFraction l x) (sym (pieces_free (ratio_text (ratio x)) (ratio_spaceless (ratio x)))) (fraction_back x))
 cause_back (causes.Wide p) back =
     let last = ap (λ (l : List (List ℕ)). decimal p.turn ∷ l) (pieces_free (step_text p.step) (step_spaceless p.step)) in

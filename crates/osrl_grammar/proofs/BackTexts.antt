@@ -83,6 +83,7 @@ pub cause_printable : (c : Cause) → Each Printable (cause_text c)
 cause_printable causes.Killed = list_printable (codes "killed") refl
 cause_printable (causes.NodeLimit n) = each_append Printable (codes "nodeLimit ") (decimal n) (list_printable (codes "nodeLimit ") refl) (decimal_printable n)
 cause_printable (causes.TurnLimit n) = each_append Printable (codes "turnLimit ") (decimal n) (list_printable (codes "turnLimit ") refl) (decimal_printable n)
+cause_printable causes.Gap = list_printable (codes "gap") refl
 cause_printable (causes.TimeLimit x) = each_append Printable (codes "timeLimit ") (ratio_text (ratio x)) (list_printable (codes "timeLimit ") refl) (ratio_printable (ratio x))
 cause_printable (causes.Wide p) =
     let step : Each Printable (32 ∷ step_text p.step) = ((lit≤ tt, lit< tt), step_printable p.step) in

@@ -77,6 +77,7 @@ cause_pass : (c : why.Cause) (ps : List (List ℕ)) → SaysCause c ps → Pass 
 cause_pass causes.Killed ps h = none_pass ps h
 cause_pass (causes.NodeLimit n) ps h = one_pass ps n h
 cause_pass (causes.TurnLimit n) ps h = one_pass ps n h
+cause_pass causes.Gap ps h = none_pass ps h
 cause_pass (causes.TimeLimit x) ps h = fraction_pass ps x h
 cause_pass (causes.Wide p) ps h = place_pass ps p h
 cause_pass causes.Length ps h = none_pass ps h

@@ -111,6 +111,7 @@ cause_once : (a b : why.Cause) (ps : List (List ℕ)) → cause_head a ≡ cause
 cause_once causes.Killed causes.Killed ps e h g = refl
 cause_once (causes.NodeLimit n) (causes.NodeLimit m) ps e h g = ap (λ (x : ℕ). causes.NodeLimit x) (index_once ps n m h g)
 cause_once (causes.TurnLimit n) (causes.TurnLimit m) ps e h g = ap (λ (x : ℕ). causes.TurnLimit x) (index_once ps n m h g)
+cause_once causes.Gap causes.Gap ps e h g = refl
 cause_once (causes.TimeLimit x) (causes.TimeLimit y) ps e h g = ap (λ (z : Frac). causes.TimeLimit z) (one_fraction_once ps x y h g)
 cause_once (causes.Wide p) (causes.Wide q) ps e h g = ap (λ (x : Place). causes.Wide x) (place_once ps p q h g)
 cause_once causes.Length causes.Length ps e h g = refl

@@ -72,6 +72,7 @@ said_back (GridRows g ms) (s ∷ ps) h = mults_back ps ms h.1
 why_back : (c : why.Cause) (ps : List (List ℕ)) → SaysCause c ps → CauseComesBack c
 why_back (causes.NodeLimit n) ps h = one_back ps n h
 why_back (causes.TurnLimit n) ps h = one_back ps n h
+why_back causes.Gap ps h = tt
 why_back (causes.TimeLimit x) ps h = tt
 why_back (causes.Wide p) [] h = absurd h
 why_back (causes.Wide p) (n ∷ []) h = absurd h

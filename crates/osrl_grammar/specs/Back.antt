@@ -56,6 +56,7 @@ abbrev pub CauseComesBack : Cause → Type 0
 CauseComesBack causes.Killed = Unit {0}
 CauseComesBack (causes.NodeLimit n) = n < 2 ^ 32
 CauseComesBack (causes.TurnLimit n) = n < 2 ^ 32
+CauseComesBack causes.Gap = Unit {0}
 CauseComesBack (causes.TimeLimit x) = Unit {0}
 CauseComesBack (causes.Wide p) = (p.node < 2 ^ 32) × (p.turn < 2 ^ 64)
 CauseComesBack causes.Length = Unit {0}

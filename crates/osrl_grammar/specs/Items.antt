@@ -48,13 +48,14 @@ abbrev pub cause_word : CauseWord → List ℕ
 cause_word causes.Killed = codes "killed"
 cause_word causes.NodeLimit = codes "nodeLimit"
 cause_word causes.TurnLimit = codes "turnLimit"
+cause_word causes.Gap = codes "gap"
 cause_word causes.TimeLimit = codes "timeLimit"
 cause_word causes.Wide = codes "wide"
 cause_word causes.Length = codes "length"
 cause_word causes.Memory = codes "memory"
 
 abbrev pub all_cause_words : List CauseWord
-all_cause_words = causes.Killed ∷ causes.NodeLimit ∷ causes.TurnLimit ∷ causes.TimeLimit ∷ causes.Wide ∷ causes.Length ∷ causes.Memory ∷ []
+all_cause_words = causes.Killed ∷ causes.NodeLimit ∷ causes.TurnLimit ∷ causes.Gap ∷ causes.TimeLimit ∷ causes.Wide ∷ causes.Length ∷ causes.Memory ∷ []
 
 abbrev pub all_steps : List Step
 all_steps = steps.Values ∷ steps.Ratio ∷ steps.Pivot ∷ steps.Point ∷ steps.Ray ∷ steps.Round ∷ steps.Check ∷ []
@@ -120,6 +121,7 @@ abbrev pub cause_behind : CauseWord → List (List ℕ) → Option (List Field)
 cause_behind causes.Killed ps = no_field ps
 cause_behind causes.NodeLimit ps = one_field Index ps
 cause_behind causes.TurnLimit ps = one_field Index ps
+cause_behind causes.Gap ps = no_field ps
 cause_behind causes.TimeLimit ps = one_field Exact ps
 cause_behind causes.Wide ps = place_fields ps
 cause_behind causes.Length ps = no_field ps

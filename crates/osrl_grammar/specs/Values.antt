@@ -109,6 +109,7 @@ abbrev pub cause_head : why.Cause → CauseWord
 cause_head causes.Killed = reasons.Killed
 cause_head (causes.NodeLimit n) = reasons.NodeLimit
 cause_head (causes.TurnLimit n) = reasons.TurnLimit
+cause_head causes.Gap = reasons.Gap
 cause_head (causes.TimeLimit x) = reasons.TimeLimit
 cause_head (causes.Wide p) = reasons.Wide
 cause_head causes.Length = reasons.Length

@@ -483,6 +483,7 @@ fn cause_of(word: CauseWord, rest: Option<&[u8]>) -> Result<Cause, Misread>
 {
     match word {
         CauseWord::Killed => alone(rest, Cause::Killed),
+        CauseWord::Gap => alone(rest, Cause::Gap),
         CauseWord::Length => alone(rest, Cause::Length),
         CauseWord::Memory => alone(rest, Cause::Memory),
         CauseWord::NodeLimit => match read_one(rest) {
@@ -505,10 +506,11 @@ fn cause_of(word: CauseWord, rest: Option<&[u8]>) -> Result<Cause, Misread>
 }
 
 /// The words of causes.
-const CAUSE_WORDS: [CauseWord; 7] = [
+const CAUSE_WORDS: [CauseWord; 8] = [
     CauseWord::Killed,
     CauseWord::NodeLimit,
     CauseWord::TurnLimit,
+    CauseWord::Gap,
     CauseWord::TimeLimit,
     CauseWord::Wide,
     CauseWord::Length,

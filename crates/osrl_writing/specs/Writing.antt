@@ -116,6 +116,7 @@ abbrev pub cause_text : Cause → List ℕ
 cause_text causes.Killed = codes "killed"
 cause_text (causes.NodeLimit n) = codes "nodeLimit " ++ decimal n
 cause_text (causes.TurnLimit n) = codes "turnLimit " ++ decimal n
+cause_text causes.Gap = codes "gap"
 cause_text (causes.TimeLimit x) = codes "timeLimit " ++ ratio_text (ratio x)
 cause_text (causes.Wide p) = codes "wide " ++ (decimal p.node ++ (32 ∷ (decimal p.turn ++ (32 ∷ step_text p.step))))
 cause_text causes.Length = codes "length"

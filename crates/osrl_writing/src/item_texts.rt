@@ -135,6 +135,7 @@ pub(crate) fn cause_text(alloc: Global, cause: Cause) -> Result<Text, Memory>
         Cause::Killed => Text::from_slice(alloc, b"killed"),
         Cause::NodeLimit(n) => counted_text(alloc, b"nodeLimit ", n),
         Cause::TurnLimit(n) => counted_text(alloc, b"turnLimit ", n),
+        Cause::Gap => Text::from_slice(alloc, b"gap"),
         Cause::TimeLimit(seconds) => time_text(alloc, seconds),
         Cause::Wide(place) => wide_text(alloc, place),
         Cause::Length => Text::from_slice(alloc, b"length"),

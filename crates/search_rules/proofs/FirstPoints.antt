@@ -46,7 +46,7 @@ first_feasible P (Some gs) f is = let point = is.point in point.feasible
 
 -- from the point of these values
 module _ (P : Problem) (t : Terms) (good : IsProblem P) (gs : Option (List (Option Ratio))) (start : Option Found) (is : IsFirstBest P gs start) where
-  first_holds : Holds P (first_with P start)
+  pub first_holds : Holds P (first_with P start)
   first_holds = begun_holds P (first_level P) (record { turns = 0; looks = 0 }) start (level_first P good) (first_found P gs start is) (λ e. refl) (inr (All-nil HasNoRounds))
 
   from_holds : (m : SearchMoment) → ComesFrom P t start m → Holds P m

@@ -104,6 +104,7 @@ fn put_cause(text: &mut Text, cause: Cause) -> Result<(), Memory> {
             text.extend(b" turnLimit ")?;
             put_count(text, count as u64)
         }
+        Cause::Gap => text.extend(b" gap"),
         Cause::TimeLimit(seconds) => {
             text.extend(b" timeLimit ")?;
             write_ratio(seconds, text)

@@ -1,4 +1,4 @@
-use Rattle.std.proofs.Common.{◌≡◌, ◌+◌, ◌<◌, List, [], ◌∷◌, ◌++◌, length, get_or, refl, sym, ◌∙◌, ap, ap₂, subst, arith}
+use Rattle.std.proofs.Common.{◌≡◌, ◌+◌, ◌<◌, Option, None, List, [], ◌∷◌, ◌++◌, length, get_or, refl, sym, ◌∙◌, ap, ap₂, subst, arith}
 use Rattle.std.proofs.lemmas.List.{length-map, length_push, map-append}
 use Rattle.fraction.specs.Frac.{ratio}
 use Rattle.evidence.specs.Instance.{IsInstance, no_goal}
@@ -10,6 +10,8 @@ use Rattle.certificate.specs.declared.nodes.Cert.{Cert}
 use Rattle.certificate.specs.declared.nodes.Round.{Round}
 use Rattle.search_rules.specs.Search.{nodes_with, begun_at}
 use Rattle.simplex.specs.Cuts.{Cutting, Suits}
+use Rattle.branch_bound.specs.declared.carried.Carried.{Carried}
+use Rattle.branch_bound.specs.Bounds.{HoldsAt}
 use Rattle.branch_bound.specs.declared.level.Level.{Level}
 use Rattle.branch_bound.specs.Walks.{best}
 use Rattle.branch_bound.specs.Levels.{level, IsGiven}
@@ -53,6 +55,11 @@ returns-clause-fresh g c = fresh g (goal.at.returns-clause-fresh g c).After-begi
 pub returns-clause-walk : goal.returns-clause-walk
 returns-clause-walk g c = fresh_walk c.args.instance.now c.begin_again.new.walk (fresh g (goal.at.returns-clause-walk g c).After-begin_again) c.begin_again.ensures.ray
 
+pub returns-clause-carried : goal.returns-clause-carried
+returns-clause-carried g c = λ keeps.
+    let h = c.in_ok-carry.ensures.at (sym c.begin_again.ensures.keeps ∙ keeps) in
+    subst (λ (l : List (Option Carried)). HoldsAt l 0 None) (sym (ap (λ (v : _). v.items) c.begin_again.ensures.carried)) h
+
 pub returns-clause-begun : goal.returns-clause-begun
 returns-clause-begun g c = λ L D at'.
     let here = (goal.at.returns-clause-begun g c).After-begin_again in
@@ -78,7 +85,7 @@ returns-clause-begun g c = λ L D at'.
             let k = length-map w.nodes Means.node in
             ap (λ cs. nodes_with cs n) told ∙ nodes_more (Means.certificates v.certs) (record { rounds = Means.rounds v.rounds; nodes = Means.nodes w.nodes }) n ∙ at'.counted (length (Means.nodes w.nodes) + n) ∙ (omega arith);
         several = λ h. refl;
-        one = λ e. absurd (omega arith);
+        first = λ e. absurd (omega arith);
       };
       shown = told;
       begins = λ k. fresh_moment p K u c.begin_again.new.walk k (fresh g here) c.begin_again.ensures.ray given.variables (c.replace-rounds.ensures.after ∙ c.new-2.ensures) ∙ ap (begun_at (level p K u) k) (ap best c.begin_again.ensures.best);

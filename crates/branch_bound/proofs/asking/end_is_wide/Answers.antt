@@ -10,6 +10,8 @@ use Rattle.branch_bound.proofs.asking.end_is_wide.Goals as goal
 
 pub returns-then-level-len : goal.returns-then-level-len
 returns-then-level-len g c = record {
+  is = (NodeLimit c.args.limits.nodes, c.give_up.ensures.is);
+  rest = c.give_up.ensures.rest;
   next = (
     0,
     false,
@@ -24,6 +26,8 @@ returns-then-level-len g c = record {
 
 pub returns-then-look : goal.returns-then-look
 returns-then-look g c = record {
+  is = (Killed, c.give_up-then-look.ensures.is);
+  rest = c.give_up-then-look.ensures.rest;
   next = (
     0,
     true,
@@ -40,6 +44,8 @@ returns-then-look g c = record {
 
 pub returns : goal.returns
 returns g c = record {
+  is = (Wide (record { node = 1; turn = c.args.relaxation.now.turns.done; step = Values }), c.give_up-2.ensures.is);
+  rest = c.give_up-2.ensures.rest;
   next = (
     1,
     false,

@@ -1,12 +1,17 @@
-use Rattle.std.proofs.Common.{inl, inr, arith}
+use Rattle.std.proofs.Common.{◌≡◌, Option, [], ◌∷◌, inl, inr, arith}
 use Rattle.std.proofs.lemmas.List.{length-map}
 use Rattle.instance.specs.Program.{program}
 use Rattle.instance.proofs.Terms.{if_ok}
 use Rattle.case_tree.specs.Cuts.{cut, cut_variable}
 use Rattle.simplex.specs.Memory.{point_of}
+use Rattle.std.proofs.lemmas.List.Elements.{All-nil}
+use Rattle.branch_bound.specs.declared.carried.Carried.{Carried}
+use Rattle.branch_bound.specs.Bounds.{left_by}
 use Rattle.branch_bound.proofs.Splits.{open_inside, open_next}
 use Rattle.branch_bound.proofs.Moments.{branches}
 use Rattle.branch_bound.proofs.PointSteps.{if_err, or_memory, kept_values}
+use Rattle.branch_bound.proofs.KeptAfter.{both_are}
+use Rattle.branch_bound.proofs.GivenUp.{for_memory}
 use Rattle.branch_bound.proofs.meeting.meet.Goals as goal
 
 pub branch-walk-requires-clause-inside : goal.branch-walk-requires-clause-inside
@@ -47,3 +52,17 @@ returns-in-None-clause-ok g c = if_ok c.take_point.result (λ x goes L D l t at.
 
 pub returns-in-None-clause-err : goal.returns-in-None-clause-err
 returns-in-None-clause-err g c = if_err c.take_point.result (λ ended. or_memory c.args.walk.now ended (λ goes L D l t looks. inr (goes L D l t looks))) c.take_point.ensures.err
+
+pub returns-in-Some-clause-carried : goal.returns-in-Some-clause-carried
+returns-in-Some-clause-carried g c = if_ok c.branch-walk.result (λ x told. told.0) c.branch-walk.ensures.carried
+
+pub returns-in-Some-clause-leaves : goal.returns-in-Some-clause-leaves
+returns-in-Some-clause-leaves g c =
+    let k = c.left_by.result in
+    if_ok c.branch-walk.result (λ x told. (k ∷ k ∷ [], both_are (λ (y : Option Carried). y ≡ left_by c.args.bound c.args.mults) k c.left_by.ensures, told.1)) c.branch-walk.ensures.carried
+
+pub returns-in-None-clause-leaves : goal.returns-in-None-clause-leaves
+returns-in-None-clause-leaves g c = if_ok c.take_point.result (λ x leaves. ([], All-nil (λ (y : Option Carried). y ≡ left_by c.args.bound c.args.mults), leaves)) c.take_point.ensures.leaves
+
+pub returns-in-Some-clause-stays : goal.returns-in-Some-clause-stays
+returns-in-Some-clause-stays g c = if_err c.branch-walk.result (λ ended lacks. for_memory c.args.walk.now c.branch-walk.new.walk ended lacks) c.branch-walk.ensures.memory

@@ -13,6 +13,8 @@ use Rattle.branch_bound.specs.Levels.{moment}
 use Rattle.branch_bound.specs.Cases.{clock_at, outcome_of}
 use Rattle.branch_bound.proofs.Moments.{finds}
 use Rattle.branch_bound.proofs.PointSteps.{takes_wide, takes_by, some_found}
+use Rattle.certificate.specs.declared.causes.Cause.TheVariants.{Memory}
+use Rattle.branch_bound.proofs.GivenUp.{given_up, for_memory}
 use Rattle.branch_bound.proofs.meeting.take_point.Goals as goal
 
 pub returns-in-Err-clause-err : goal.returns-in-Err-clause-err
@@ -41,8 +43,8 @@ returns-in-Some-clause-err g c =
     takes_by (problem p) t (Walks.case D w c.args.depth) (Walks.rest D w c.args.depth) (moment p L D l w (clock_at r looks)) (Means.multipliers c.args.mults) (point_of r.work) _ c.in-Ok.point c.in-Ok.ensures.values (c.requires.met D) (ratios c.in-Ok-Some.values) told.0 told.1 (Some (ratios c.in-Some.at.ray))
     (ap Walks.ray (sym c.take.ensures.value ∙ c.in-Some.is)) refl)
 
-pub leaf-requires : goal.leaf-requires
-leaf-requires g c =
+pub leaf-requires-clause-at : goal.leaf-requires-clause-at
+leaf-requires-clause-at g c =
     let at = c.requires.at in
     let none = c.take.ensures.after in
     record { width = refl; next = at.next; room = at.room; above = rw at.width at.above; ray = rw none tt }
@@ -66,3 +68,16 @@ returns-in-Ok-leaf-clause-ok g c = λ L D l t at.
 
 pub returns-in-Err-leaf-clause-err : goal.returns-in-Err-leaf-clause-err
 returns-in-Err-leaf-clause-err g c = inl c.in-Err-leaf.ensures.err
+
+-- the walk stays where the search is given up
+pub returns-in-Err-clause-stays : goal.returns-in-Err-clause-stays
+returns-in-Err-clause-stays g c = given_up c.args.walk.now c.give_up.new.walk c.give_up.result Memory c.give_up.ensures.is c.give_up.ensures.rest
+
+pub returns-in-Err-values_at-clause-stays : goal.returns-in-Err-values_at-clause-stays
+returns-in-Err-values_at-clause-stays g c = given_up c.args.walk.now c.give_up-in-Err-values_at.new.walk c.give_up-in-Err-values_at.result Memory c.give_up-in-Err-values_at.ensures.is c.give_up-in-Err-values_at.ensures.rest
+
+pub returns-in-Ok-None-clause-stays : goal.returns-in-Ok-None-clause-stays
+returns-in-Ok-None-clause-stays g c = let is = c.too_wide.ensures.is in given_up c.args.walk.now c.too_wide.new.walk c.too_wide.result is.0 is.1 c.too_wide.ensures.rest
+
+pub returns-in-Err-leaf-clause-stays : goal.returns-in-Err-leaf-clause-stays
+returns-in-Err-leaf-clause-stays g c = for_memory c.args.walk.now c.leaf.new.walk c.in-Err-leaf.ended c.in-Err-leaf.ensures.memory

@@ -1,4 +1,4 @@
-use Rattle.std.proofs.Common.{ℕ, List, inl, sym, ap, subst}
+use Rattle.std.proofs.Common.{ℕ, List, inl, arith, sym, ap, subst}
 use Rattle.rational.specs.Ratio.{Ratio}
 use Rattle.evidence.specs.Instance.{Instance}
 use Rattle.certificate.specs.Meanings as Means
@@ -18,6 +18,7 @@ use Rattle.case_tree.specs.Cuts.{cut}
 use Rattle.branch_bound.proofs.Ready.{at_as, suits_as, size_as, same_point}
 use Rattle.branch_bound.proofs.PointSteps.{if_err, or_memory}
 use Rattle.branch_bound.proofs.CutProgram.{uncut_is, first_case_is}
+use Rattle.branch_bound.proofs.GivenUp.{for_memory_at, stays_from}
 use Rattle.branch_bound.proofs.rounds.cut_or_branch.Goals as goal
 use Rattle.branch_bound.proofs.rounds.cut_or_branch.Goals.{In-Ok}
 
@@ -67,7 +68,7 @@ returns-in-Ok-clause-ok g c =
       f.1,
       (
         tried c.in-Ok.trial c.try_at.new.relaxation.slots.items,
-        subst (λ (J : Instance). TriesBasis J (point_of r.work) (statuses_in r.work) (tried c.in-Ok.trial c.try_at.new.relaxation.slots.items)) (first_case_is p D r.rows.items w.cuts.items c.requires.fresh.uncut lvl.given.variables (lvl.one c.requires.one)) c.in-Ok.ensures.tries,
+        subst (λ (J : Instance). TriesBasis J (point_of r.work) (statuses_in r.work) (tried c.in-Ok.trial c.try_at.new.relaxation.slots.items)) (first_case_is p D r.rows.items w.cuts.items c.requires.fresh.uncut lvl.given.variables (lvl.first (let low = c.requires.suits.goal in let alone = c.requires.one in omega arith))) c.in-Ok.ensures.tries,
         subst (λ (y : List Ratio). GoesFromTrial (problem p) t (case D w c.args.depth) (rest D w c.args.depth) (moment p L D v w now) y (tried c.in-Ok.trial c.try_at.new.relaxation.slots.items) (To (moment p L f.0 c.go_on.new.level c.go_on.new.walk now)))
             (same_point p r c.try_at.new.relaxation t'.work) f.2,
       ),
@@ -84,7 +85,7 @@ returns-in-Ok-clause-err g c =
     if_err c.go_on.result
     (λ ended. or_memory w ended (λ goes L D t looks lvl. (
       tried c.in-Ok.trial c.try_at.new.relaxation.slots.items,
-      subst (λ (J : Instance). TriesBasis J (point_of r.work) (statuses_in r.work) (tried c.in-Ok.trial c.try_at.new.relaxation.slots.items)) (first_case_is p D r.rows.items w.cuts.items c.requires.fresh.uncut lvl.given.variables (lvl.one c.requires.one)) c.in-Ok.ensures.tries,
+      subst (λ (J : Instance). TriesBasis J (point_of r.work) (statuses_in r.work) (tried c.in-Ok.trial c.try_at.new.relaxation.slots.items)) (first_case_is p D r.rows.items w.cuts.items c.requires.fresh.uncut lvl.given.variables (lvl.first (let low = c.requires.suits.goal in let alone = c.requires.one in omega arith))) c.in-Ok.ensures.tries,
       subst (λ (y : List Ratio). GoesFromTrial (problem p) t (case D w c.args.depth) (rest D w c.args.depth) (moment p L D v w (record { turns = r.turns.done; looks = looks })) y (tried c.in-Ok.trial c.try_at.new.relaxation.slots.items) (Out (outcome_of (Means.certificates v.certs) ended) (record { turns = r.turns.done; looks = looks })))
           (same_point p r c.try_at.new.relaxation t'.work)
           (subst (λ (n : ℕ). GoesFromTrial (problem p) t (case D w c.args.depth) (rest D w c.args.depth) (moment p L D v w (record { turns = n; looks = looks })) (point_of c.try_at.new.relaxation.work) (tried c.in-Ok.trial c.try_at.new.relaxation.slots.items) (Out (outcome_of (Means.certificates v.certs) ended) (record { turns = n; looks = looks })))
@@ -94,3 +95,15 @@ returns-in-Ok-clause-err g c =
 
 pub returns-in-Err-clause-err : goal.returns-in-Err-clause-err
 returns-in-Err-clause-err g c = inl c.give_up.ensures.told
+
+-- the walk stays where the search is given up
+pub returns-in-Ok-clause-stays : goal.returns-in-Ok-clause-stays
+returns-in-Ok-clause-stays g c =
+    if_err c.go_on.result
+    (λ ended stays. stays_from c.args.relaxation.now c.try_at.new.relaxation c.go_on.new.relaxation c.args.level.now c.go_on.new.level c.args.walk.now c.go_on.new.walk ended c.try_at.ensures.ends c.try_at.ensures.rows stays)
+    c.go_on.ensures.stays
+
+pub returns-in-Err-clause-stays : goal.returns-in-Err-clause-stays
+returns-in-Err-clause-stays g c =
+    let v = c.args.level.now in
+    for_memory_at c.args.relaxation.now c.try_at.new.relaxation v v c.args.walk.now c.give_up.new.walk c.give_up.result c.give_up.ensures.is

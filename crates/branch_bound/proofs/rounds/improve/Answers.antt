@@ -1,10 +1,13 @@
-use Rattle.std.proofs.Common.{inl, inr}
+use Rattle.std.proofs.Common.{◌≡◌, inl, inr, Option, Some, [], refl}
+use Rattle.std.proofs.lemmas.List.Elements.{All-nil}
 use Rattle.instance.proofs.Terms.{if_ok}
 use Rattle.case_tree.specs.Cuts.{cut}
 use Rattle.simplex.specs.Memory.{point_of, statuses_in}
 use Rattle.branch_bound.proofs.Splits.{open_unmet}
 use Rattle.branch_bound.proofs.Ready.{gone_on, if_ok₃}
 use Rattle.branch_bound.proofs.PointSteps.{if_err, or_memory, may_derive}
+use Rattle.branch_bound.specs.declared.carried.Carried.{Carried}
+use Rattle.branch_bound.proofs.GivenUp.{stays_at}
 use Rattle.branch_bound.proofs.rounds.improve.Goals as goal
 
 pub cut_or_branch-requires-clause-divides : goal.cut_or_branch-requires-clause-divides
@@ -59,3 +62,13 @@ pub returns-in-None-clause-err : goal.returns-in-None-clause-err
 returns-in-None-clause-err g c =
     let v = c.args.level.now in
     if_err c.take_point.result (λ ended. or_memory c.args.walk.now ended (λ goes L D t before looks b lvl fewer ends. inl (goes L D v t looks))) c.take_point.ensures.err
+
+pub returns-in-None-clause-leaves : goal.returns-in-None-clause-leaves
+returns-in-None-clause-leaves g c = if_ok c.take_point.result (λ x leaves. ([], All-nil (λ (y : Option Carried). y ≡ Some (record { bound = c.args.bound; mults = c.args.mults })), leaves)) c.take_point.ensures.leaves
+
+-- the walk stays where the search is given up
+pub returns-in-None-clause-stays : goal.returns-in-None-clause-stays
+returns-in-None-clause-stays g c =
+    let r = c.args.relaxation.now in
+    let v = c.args.level.now in
+    if_err c.take_point.result (λ ended stays. stays_at r r v v c.args.walk.now c.take_point.new.walk ended refl refl refl stays) c.take_point.ensures.stays

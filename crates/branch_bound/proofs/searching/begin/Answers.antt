@@ -1,4 +1,4 @@
-use Rattle.std.proofs.Common.{List, ap₂}
+use Rattle.std.proofs.Common.{List, ◌∙◌, ap₂}
 use Rattle.certificate.specs.declared.nodes.Cert.{Cert}
 use Rattle.certificate.specs.declared.nodes.Round.{Round}
 use Rattle.branch_bound.proofs.FirstLevel.{begun_level}
@@ -16,4 +16,6 @@ returns g c = record {
   fresh = c.in_ok-first_walk.ensures.fresh;
   best = c.in_ok-first_walk.ensures.first.0;
   ray = c.in_ok-first_walk.ensures.first.1;
+  keeps = c.in_ok-first_walk.ensures.keeps ∙ c.keeps.ensures;
+  carried = c.in_ok-first_walk.ensures.carried;
 }

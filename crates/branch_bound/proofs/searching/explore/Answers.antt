@@ -3,15 +3,18 @@ use Rattle.std.proofs.lemmas.List.{length-map, drop_all}
 use Rattle.certificate.specs.Meanings as Means
 use Rattle.instance.specs.Parts.{Parts}
 use Rattle.instance.specs.Program.{goal as meaning, goals, problem}
-use Rattle.simplex_rules.specs.Looks.{answers, AgreesWith, looks_after}
-use Rattle.search_rules.specs.Beginnings.{ComesFrom, IsAnswerFrom}
+use Rattle.simplex_rules.specs.Looks.{stop_after, looks_after}
+use Rattle.simplex_rules.proofs.Looks.{agrees}
+use Rattle.search_rules.specs.Asked.{ComesAsked}
+use Rattle.search_rules.specs.Search.{SearchMoment}
 use Rattle.branch_bound.specs.declared.found.Found.{Found}
-use Rattle.branch_bound.specs.Claims.{is_killed}
+use Rattle.branch_bound.specs.Bounds.{asked}
+use Rattle.branch_bound.specs.Claims.{TellsStop}
 use Rattle.branch_bound.specs.Walks.{best, waiting}
 use Rattle.branch_bound.specs.Levels.{moment}
-use Rattle.branch_bound.specs.Cases.{terms, clock_at, outcome_of}
+use Rattle.branch_bound.specs.Cases.{terms, clock_at}
 use Rattle.branch_bound.proofs.FirstLevel.{begun_state, begun_comes}
-use Rattle.branch_bound.proofs.ClaimsAtEnd.{killed_is, told_closed}
+use Rattle.branch_bound.proofs.ClaimsAtEnd.{told_closed}
 use Rattle.branch_bound.proofs.searching.explore.Goals as goal
 
 -- no goal is asked after the last level's
@@ -33,33 +36,51 @@ returns-in-Ok g c =
     let m = c.in-Ok.ensures.moments in
     let (o, tells, goes, answer) = told_closed c.all_closed.result (Means.certificates v.certs) (record { rounds = Means.rounds v.rounds; nodes = Means.nodes w.nodes }) (best w.best) c.all_closed.ensures in (
       m.looks,
+      m.killed,
       o,
-      tells,
-      subst (λ (b : Bool). g.W.Watch.came a.watch.now c.search_levels.new.watch (answers m.looks b)) (sym m.is ∙ sym goes) m.came,
+      None,
+      record { says = tells.says; cause = tells.cause },
+      inl (sym m.is ∙ sym goes),
+      m.came,
       λ stop h.
-          let stood = subst (λ (b : Bool). AgreesWith stop 0 m.looks b) (goes ∙ m.is) h in
-          let last = m.carries (best a.first) 0 stop (begun_comes p a.limits a.state c.requires.begun a.first (terms a.limits stop)) stood in
+          let last = m.carries (best a.first) 0 stop (begun_comes p a.limits a.state c.requires.begun a.first (terms a.limits stop) (asked a.limits) c.requires.first) h in
           let L = last.stands.program in
           let D = last.stands.cut in
           let none : waiting D w w.next ≡ [] = ap (waiting D w) c.in-Ok.ensures.closed in
-          subst (λ (b : Bool). IsAnswerFrom (problem p) (terms a.limits stop) (best a.first) o (clock_at s (looks_after 0 m.looks b))) (sym m.is ∙ sym goes)
-          (answer (problem p) (terms a.limits stop) (best a.first) (moment p L D v w (clock_at s (looks_after 0 m.looks m.killed))) refl refl refl none (last_level p w.best v.goal c.in-Ok.ensures.last) (subst (ComesFrom (problem p) (terms a.limits stop) (best a.first)) last.stands.is last.comes)),
+          answer (problem p) (terms a.limits stop) (asked a.limits) (best a.first) (moment p L D v w (clock_at s (looks_after 0 m.looks m.killed))) last.carried last.numbers refl refl refl none (last_level p w.best v.goal c.in-Ok.ensures.last)
+          (subst (λ (n : SearchMoment). ComesAsked (problem p) (terms a.limits stop) (asked a.limits) (best a.first) n last.carried last.numbers) last.stands.is last.comes),
     )
+
+-- of a stop that the looks tell
+pub end_early-requires : goal.end_early-requires
+end_early-requires g c =
+    let a = c.args in
+    let m = c.in-Err.ensures.moments in
+    let stop = stop_after m.looks m.killed in
+    let u = c.search_levels.new.self in
+    record {
+      ended = (
+        terms a.limits stop,
+        best a.first,
+        clock_at u.relaxation (looks_after 0 m.looks m.killed),
+        m.carries (best a.first) 0 stop (begun_comes a.instance.now a.limits a.state c.requires.begun a.first (terms a.limits stop) (asked a.limits) c.requires.first) (agrees m.looks m.killed),
+      );
+    }
 
 pub returns-in-Err : goal.returns-in-Err
 returns-in-Err g c =
     let a = c.args in
-    let p = a.instance.now in
     let u = c.search_levels.new.self in
-    let cs = Means.certificates u.level.certs in
-    let o = outcome_of cs c.in-Err.ended in
     let m = c.in-Err.ensures.moments in
-    let goes : is_killed o ≡ m.killed = killed_is cs c.in-Err.ended ∙ m.is in (
+    let (o, b, tells, stopped, answer) = c.end_early.ensures in (
       m.looks,
+      m.killed,
       o,
-      c.claim_of.ensures,
-      subst (λ (b : Bool). g.W.Watch.came a.watch.now c.search_levels.new.watch (answers m.looks b)) (sym goes) m.came,
+      b,
+      tells,
+      subst (λ (k : Bool). TellsStop a.limits.bound k o) m.is stopped,
+      m.came,
       λ stop h.
-          subst (λ (b : Bool). IsAnswerFrom (problem p) (terms a.limits stop) (best a.first) o (clock_at u.relaxation (looks_after 0 m.looks b))) (sym goes)
-          (m.carries (best a.first) 0 stop (begun_comes p a.limits a.state c.requires.begun a.first (terms a.limits stop)) (subst (λ (b : Bool). AgreesWith stop 0 m.looks b) goes h)),
+          answer (terms a.limits stop) (best a.first) (clock_at u.relaxation (looks_after 0 m.looks m.killed))
+          (m.carries (best a.first) 0 stop (begun_comes a.instance.now a.limits a.state c.requires.begun a.first (terms a.limits stop) (asked a.limits) c.requires.first) h),
     )

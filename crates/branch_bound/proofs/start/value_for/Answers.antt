@@ -1,7 +1,6 @@
-use Rattle.std.proofs.Common.{◌≡◌, ◌<◌, ◌≤◌, Option, None, Some, List, map, get_or, length, sym, ◌∙◌, ap}
+use Rattle.std.proofs.Common.{None, sym, ◌∙◌, ap}
 use Rattle.std.proofs.Math.ListN.{get_or-map}
 use Rattle.std.proofs.lemmas.List.{get_or_past, get_or_default}
-use Rattle.fraction.specs.declared.frac.Frac.{Frac}
 use Rattle.search_rules.specs.Beginnings.{value_given}
 use Rattle.branch_bound.specs.Beginnings.{given_ratio}
 use Rattle.branch_bound.proofs.start.value_for.Goals as goal

@@ -1,4 +1,4 @@
-use Rattle.std.proofs.Common.{rules, ◌≡◌, inl, false, List, ap, sym, ◌∙◌}
+use Rattle.std.proofs.Common.{rules, ◌≡◌, inl, false, List, refl, ap, sym, ◌∙◌}
 use Rattle.fraction.specs.Frac.{ratio}
 use Rattle.evidence.specs.Cases.{Multiplier, BoundBy}
 use Rattle.certificate.specs.Meanings as Means
@@ -12,6 +12,8 @@ use Rattle.branch_bound.specs.Cases.{clock_at}
 use Rattle.branch_bound.proofs.Moments.{closes}
 use Rattle.branch_bound.proofs.Ready.{gone_on, asks, if_ok₃}
 use Rattle.branch_bound.proofs.PointSteps.{if_err, or_memory, kept_values, improves_plain, best_below_ray, best_passed, best_hopeful, no_cut_left, none_ray}
+use Rattle.branch_bound.proofs.KeptAfter.{none_left, below_ray, best_left}
+use Rattle.branch_bound.proofs.GivenUp.{for_memory_at, stays_at}
 use Rattle.branch_bound.proofs.visit.at_best.Goals as goal
 
 pub returns-in-Err-clause-err : goal.returns-in-Err-clause-err
@@ -153,3 +155,54 @@ returns-clause-err g c =
     (c.is_no_better.ensures.no c.if-is_no_better.false (level p L v) (asks p r v L D w c.requires.ready.at.width lvl))
     (rw c.in-Ok.ensures at (goes L D t before looks (ratio c.args.bound) lvl (rw rounds may.2) (rw c.in-Ok.ensures (ran none))))))
     c.improve.ensures.err
+
+-- what is left to the cases that come in its place
+pub returns-then-is_some-clause-leaves : goal.returns-then-is_some-clause-leaves
+returns-then-is_some-clause-leaves g c =
+    let w = c.args.walk.now in
+    if_ok c.meet.result (λ x told. below_ray w c.meet.new.walk c.args.depth w.ray _ told.0 (sym c.is_some.ensures ∙ c.if-is_some.true) told.1 told.2) c.meet.ensures.leaves
+
+pub returns-then-is_no_better-clause-carried : goal.returns-then-is_no_better-clause-carried
+returns-then-is_no_better-clause-carried g c = if_ok c.leaf.result (λ x told. told.0) c.leaf.ensures.carried
+
+pub returns-then-is_no_better-clause-leaves : goal.returns-then-is_no_better-clause-leaves
+returns-then-is_no_better-clause-leaves g c = if_ok c.leaf.result (λ x told. none_left c.args.walk.now c.leaf.new.walk c.args.depth _ _ told.1) c.leaf.ensures.carried
+
+pub returns-then-not-may_cut-clause-leaves : goal.returns-then-not-may_cut-clause-leaves
+returns-then-not-may_cut-clause-leaves g c =
+    let w = c.args.walk.now in
+    if_ok c.meet-then-not-may_cut.result
+    (λ x told. best_left w c.meet-then-not-may_cut.new.walk c.args.depth w.ray c.args.bound _ _ c.in-Ok.mults told.0 (sym c.is_some.ensures ∙ c.if-is_some.false) c.in-Ok.ensures told.1 told.2)
+    c.meet-then-not-may_cut.ensures.leaves
+
+pub returns-clause-leaves : goal.returns-clause-leaves
+returns-clause-leaves g c =
+    let w = c.args.walk.now in
+    if_ok c.improve.result
+    (λ x told. best_left w c.improve.new.walk c.args.depth w.ray c.args.bound _ _ c.in-Ok.mults told.0 (sym c.is_some.ensures ∙ c.if-is_some.false) c.in-Ok.ensures told.1 told.2)
+    c.improve.ensures.leaves
+
+-- the walk stays where the search is given up
+pub returns-in-Err-clause-stays : goal.returns-in-Err-clause-stays
+returns-in-Err-clause-stays g c =
+    let r = c.args.relaxation.now in
+    let v = c.args.level.now in
+    for_memory_at r r v v c.args.walk.now c.give_up.new.walk c.give_up.result c.give_up.ensures.is
+
+pub returns-then-is_some-clause-stays : goal.returns-then-is_some-clause-stays
+returns-then-is_some-clause-stays g c =
+    let r = c.args.relaxation.now in
+    let v = c.args.level.now in
+    if_err c.meet.result (λ ended stays. stays_at r r v v c.args.walk.now c.meet.new.walk ended refl refl refl stays) c.meet.ensures.stays
+
+pub returns-then-is_no_better-clause-stays : goal.returns-then-is_no_better-clause-stays
+returns-then-is_no_better-clause-stays g c =
+    let r = c.args.relaxation.now in
+    let v = c.args.level.now in
+    if_err c.leaf.result (λ ended lacks. for_memory_at r r v v c.args.walk.now c.leaf.new.walk ended lacks) c.leaf.ensures.memory
+
+pub returns-then-not-may_cut-clause-stays : goal.returns-then-not-may_cut-clause-stays
+returns-then-not-may_cut-clause-stays g c =
+    let r = c.args.relaxation.now in
+    let v = c.args.level.now in
+    if_err c.meet-then-not-may_cut.result (λ ended stays. stays_at r r v v c.args.walk.now c.meet-then-not-may_cut.new.walk ended refl refl refl stays) c.meet-then-not-may_cut.ensures.stays

@@ -7,6 +7,8 @@ use Rattle.branch_bound.specs.Walks as Walks
 use Rattle.branch_bound.specs.Levels.{moment}
 use Rattle.branch_bound.proofs.Moments.{closes}
 use Rattle.branch_bound.proofs.PointSteps.{if_err, kept_values}
+use Rattle.certificate.specs.declared.causes.Cause.TheVariants.{Memory}
+use Rattle.branch_bound.proofs.GivenUp.{given_up, for_memory}
 use Rattle.branch_bound.proofs.visit.at_empty.Goals as goal
 
 pub returns-in-Ok-clause-values : goal.returns-in-Ok-clause-values
@@ -26,3 +28,16 @@ returns-in-Ok-clause-err g c = if_err c.leaf.result (λ ended lacks. inl lacks) 
 
 pub returns-in-Err-clause-err : goal.returns-in-Err-clause-err
 returns-in-Err-clause-err g c = inl c.give_up.ensures.told
+
+pub returns-in-Ok-clause-carried : goal.returns-in-Ok-clause-carried
+returns-in-Ok-clause-carried g c = if_ok c.leaf.result (λ x told. told.0) c.leaf.ensures.carried
+
+pub returns-in-Ok-clause-leaves : goal.returns-in-Ok-clause-leaves
+returns-in-Ok-clause-leaves g c = if_ok c.leaf.result (λ x told. told.1) c.leaf.ensures.carried
+
+-- the walk stays where the search is given up
+pub returns-in-Ok-clause-stays : goal.returns-in-Ok-clause-stays
+returns-in-Ok-clause-stays g c = if_err c.leaf.result (λ ended lacks. for_memory c.args.walk.now c.leaf.new.walk ended lacks) c.leaf.ensures.memory
+
+pub returns-in-Err-clause-stays : goal.returns-in-Err-clause-stays
+returns-in-Err-clause-stays g c = given_up c.args.walk.now c.give_up.new.walk c.give_up.result Memory c.give_up.ensures.is c.give_up.ensures.rest

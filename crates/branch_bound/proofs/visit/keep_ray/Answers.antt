@@ -11,6 +11,9 @@ use Rattle.branch_bound.specs.Levels.{moment}
 use Rattle.branch_bound.specs.Cases.{clock_at, outcome_of}
 use Rattle.branch_bound.proofs.PendingCases.{own_ray_alone}
 use Rattle.branch_bound.proofs.PointSteps.{if_err, or_memory}
+use Rattle.branch_bound.proofs.KeptAfter.{along_direction}
+use Rattle.certificate.specs.declared.causes.Cause.TheVariants.{Memory}
+use Rattle.branch_bound.proofs.GivenUp.{given_up, another_ray}
 use Rattle.branch_bound.proofs.visit.keep_ray.Goals as goal
 
 pub returns-in-Err-clause-err : goal.returns-in-Err-clause-err
@@ -58,3 +61,18 @@ returns-clause-err g c =
           (own_ray_alone D w.cuts.items w.branches.items (record { ray = ray; depth = c.args.depth }) w.ray c.args.depth refl none) (goes L D l t looks),
     ))))
     c.meet.ensures.err
+
+pub returns-clause-leaves : goal.returns-clause-leaves
+returns-clause-leaves g c =
+    let w = c.args.walk.now in
+    if_ok c.meet.result (λ x told. along_direction w c.meet.new.walk c.args.depth (Walks.ray w.ray) _ _ told.0 told.1 told.2) c.meet.ensures.leaves
+
+-- the walk stays where the search is given up
+pub returns-in-Err-clause-stays : goal.returns-in-Err-clause-stays
+returns-in-Err-clause-stays g c = given_up c.args.walk.now c.give_up.new.walk c.give_up.result Memory c.give_up.ensures.is c.give_up.ensures.rest
+
+pub returns-in-None-clause-stays : goal.returns-in-None-clause-stays
+returns-in-None-clause-stays g c = let is = c.too_wide.ensures.is in given_up c.args.walk.now c.too_wide.new.walk c.too_wide.result is.0 is.1 c.too_wide.ensures.rest
+
+pub returns-clause-stays : goal.returns-clause-stays
+returns-clause-stays g c = if_err c.meet.result (λ ended stays. another_ray c.args.walk.now c.meet.new.walk _ ended stays) c.meet.ensures.stays

@@ -7,6 +7,9 @@ use Rattle.branch_bound.specs.Cases.{clock_at}
 use Rattle.branch_bound.proofs.Moments.{closes}
 use Rattle.branch_bound.proofs.Ready.{gone_on, if_ok₃}
 use Rattle.branch_bound.proofs.PointSteps.{if_err, or_memory, kept_values}
+use Rattle.branch_bound.proofs.KeptAfter.{none_left}
+use Rattle.certificate.specs.declared.causes.Cause.TheVariants.{TurnLimit}
+use Rattle.branch_bound.proofs.GivenUp.{given_up, for_memory_at, stays_at}
 use Rattle.branch_bound.proofs.visit.visit.Goals as goal
 
 pub returns-in-Clash-clause-on : goal.returns-in-Clash-clause-on
@@ -81,3 +84,55 @@ returns-in-Stopped-clause-err g c = let s = rw c.in-Stopped.is at c.requires.wen
 
 pub returns-in-Stopped-clause-went_on : goal.returns-in-Stopped-clause-went_on
 returns-in-Stopped-clause-went_on g c = let s = rw c.in-Stopped.is at c.requires.went_on in absurd (cc)
+
+-- what is left to the cases that come in its place
+pub returns-in-Clash-clause-carried : goal.returns-in-Clash-clause-carried
+returns-in-Clash-clause-carried g c = if_ok c.leaf.result (λ x told. told.0) c.leaf.ensures.carried
+
+pub returns-in-Clash-clause-leaves : goal.returns-in-Clash-clause-leaves
+returns-in-Clash-clause-leaves g c = if_ok c.leaf.result (λ x told. none_left c.args.walk.now c.leaf.new.walk c.args.depth _ _ told.1) c.leaf.ensures.carried
+
+pub returns-in-Empty-clause-leaves : goal.returns-in-Empty-clause-leaves
+returns-in-Empty-clause-leaves g c = if_ok c.at_empty.result (λ x leaves. none_left c.args.walk.now c.at_empty.new.walk c.args.depth _ _ leaves) c.at_empty.ensures.leaves
+
+pub returns-in-Best-clause-leaves : goal.returns-in-Best-clause-leaves
+returns-in-Best-clause-leaves g c = rw c.in-Best.is c.at_best.ensures.leaves
+
+pub returns-in-Endless-clause-leaves : goal.returns-in-Endless-clause-leaves
+returns-in-Endless-clause-leaves g c =
+    rw c.in-Endless.is c.at_endless.ensures.leaves
+
+-- the walk stays where the search is given up
+pub returns-in-Clash-clause-stays : goal.returns-in-Clash-clause-stays
+returns-in-Clash-clause-stays g c =
+    let r = c.args.relaxation.now in
+    let v = c.args.level.now in
+    if_err c.leaf.result (λ ended lacks. for_memory_at r r v v c.args.walk.now c.leaf.new.walk ended lacks) c.leaf.ensures.memory
+
+pub returns-in-Empty-clause-stays : goal.returns-in-Empty-clause-stays
+returns-in-Empty-clause-stays g c =
+    let r = c.args.relaxation.now in
+    let v = c.args.level.now in
+    if_err c.at_empty.result (λ ended stays. stays_at r r v v c.args.walk.now c.at_empty.new.walk ended refl refl refl stays) c.at_empty.ensures.stays
+
+pub returns-in-Endless-clause-stays : goal.returns-in-Endless-clause-stays
+returns-in-Endless-clause-stays g c =
+    let r = c.args.relaxation.now in
+    let v = c.args.level.now in
+    if_err c.at_endless.result (λ ended stays. stays_at r r v v c.args.walk.now c.at_endless.new.walk ended refl refl refl stays) c.at_endless.ensures.stays
+
+pub returns-in-TurnLimit-clause-stays : goal.returns-in-TurnLimit-clause-stays
+returns-in-TurnLimit-clause-stays g c =
+    let r = c.args.relaxation.now in
+    let v = c.args.level.now in
+    stays_at r r v v c.args.walk.now c.give_up.new.walk c.give_up.result refl refl refl (given_up c.args.walk.now c.give_up.new.walk c.give_up.result (TurnLimit c.args.limits.turns) c.give_up.ensures.is c.give_up.ensures.rest)
+
+pub returns-in-Wide-clause-stays : goal.returns-in-Wide-clause-stays
+returns-in-Wide-clause-stays g c =
+    let r = c.args.relaxation.now in
+    let v = c.args.level.now in
+    let is = c.too_wide.ensures.is in
+    stays_at r r v v c.args.walk.now c.too_wide.new.walk c.too_wide.result refl refl refl (given_up c.args.walk.now c.too_wide.new.walk c.too_wide.result is.0 is.1 c.too_wide.ensures.rest)
+
+pub returns-in-Stopped-clause-stays : goal.returns-in-Stopped-clause-stays
+returns-in-Stopped-clause-stays g c = let s = rw c.in-Stopped.is at c.requires.went_on in absurd (cc)

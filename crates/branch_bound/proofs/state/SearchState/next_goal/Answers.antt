@@ -1,4 +1,4 @@
-use Rattle.std.proofs.Common.{◌≡◌, inl, inr, ℕ, ◌+◌, ◌<◌, false, Option, List, length, get_or, refl, sym, ◌∙◌, ap, ap₂, subst, arith}
+use Rattle.std.proofs.Common.{◌≡◌, inl, inr, ℕ, ◌+◌, ◌<◌, false, Option, None, List, [], ◌∷◌, length, get_or, refl, sym, ◌∙◌, ap, ap₂, subst, arith}
 use Rattle.std.proofs.lemmas.List.{get_or-map}
 use Rattle.rational.specs.Ratio.{Ratio, negative}
 use Rattle.rational.specs.Width.{SumFits}
@@ -10,15 +10,18 @@ use Rattle.instance.specs.declared.parts.Goal.{Goal as Own}
 use Rattle.certificate.specs.Meanings as Means
 use Rattle.certificate.specs.declared.causes.Cause.TheVariants.{Memory}
 use Rattle.search_rules.specs.Search.{SearchMoment, To, Out, reached, early, IsNextInSearch}
-use Rattle.search_rules.specs.Beginnings.{goes_on, searched}
 use Rattle.simplex_rules.specs.Ends.{Clock}
 use Rattle.simplex.specs.declared.answer.Turns.{Turns}
 use Rattle.simplex_rules.specs.Looks.{looks_after}
 use Rattle.branch_bound.specs.declared.found.Found as Best
-use Rattle.branch_bound.specs.Walks.{best, found}
+use Rattle.branch_bound.specs.declared.ended.Ended.{Ended}
+use Rattle.branch_bound.specs.Bounds as Kept
+use Rattle.branch_bound.specs.Walks.{best, found, waiting}
 use Rattle.branch_bound.specs.Levels.{level, moment}
-use Rattle.branch_bound.specs.Cases.{terms, clock_at, outcome_of}
-use Rattle.branch_bound.proofs.NextGoal.{goal_is, reached_is, count_is, asks, begun_is, gives_up}
+use Rattle.branch_bound.specs.Cases.{terms, clock_at, outcome_of, AnswersSo}
+use Rattle.branch_bound.proofs.NextGoal.{goal_is, reached_is, count_is, asks, begun_is, gives_up, kept_fresh}
+use Rattle.branch_bound.proofs.CaseSteps.{level_on, level_ends}
+use Rattle.branch_bound.proofs.CaseMoments.{come, may_close, gives_up_at}
 use Rattle.branch_bound.proofs.state.SearchState.next_goal.Goals as goal
 use Rattle.branch_bound.proofs.state.SearchState.next_goal.Goals.{After-index-goals-k}
 
@@ -77,9 +80,13 @@ returns-in-Ok-ask_next-clause-moments g c = record {
       let n = moment p K K u x c1 in
       let step = asks p v w L D c0 t f c.requires.closed is_best u.goal e.goal (omega arith) (To n) (inl (ratio c.in-Ok.end, end, ap To (begun_is p K L D v u w x c0 c1 (found f) (begun.begins c1) begun.shown clock (ap best is_best)))) in
       record {
+        first = stands.first;
         at = n;
-        comes = goes_on stands.comes (subst (λ (m : SearchMoment). IsNextInSearch (problem p) t m (To n)) (sym stands.stands.is) step);
+        carried = None ∷ [];
+        numbers = None ∷ [];
+        comes = level_on (problem p) t (Kept.asked c.args.limits) start (moment p L D v w c0) stands.carried stands.numbers (come p c.args.limits r v w start looks stop stands) (ap (waiting D w) c.requires.closed) n step;
         stands = record { program = K; cut = K; at = begun.at; is = refl };
+        kept = kept_fresh p x e.fresh e.carried;
       };
 }
 
@@ -95,11 +102,18 @@ returns-in-Err-ask_next-clause-moments g c = record {
       let r = c.args.self.now.relaxation in
       let s = c.ask_next.new.relaxation in
       let u = c.ask_next.new.level in
+      let x = c.ask_next.new.walk in
+      let t = terms c.args.limits stop in
+      let a = Kept.asked c.args.limits in
       let e = c.ask_next.ensures in
       let clock : clock_at s (looks + 0) ≡ clock_at r looks = ap₂ (λ (n k : ℕ). record { turns = n; looks = k }) (ap (λ (k : Turns). k.done) e.turns) (omega arith) in
-      gives_up (problem p) (terms c.args.limits stop) start stands.at (outcome_of (Means.certificates u.certs) c.give_up.result) (clock_at s (looks + 0)) stands.comes
-      (c.give_up.ensures.told (Means.certificates u.certs) ∙ ap (λ (b : Option Best.Found). early (best b) Memory) e.best ∙ sym (ap (λ (m : SearchMoment). early m.best Memory) stands.stands.is))
-      (clock ∙ sym (ap (λ (m : SearchMoment). m.clock) stands.stands.is));
+      subst (λ (y : Ended). AnswersSo p t a start s u c.give_up.new.walk y (clock_at s (looks + 0))) (sym c.give_up.ensures.is)
+      (inl (
+        refl,
+        gives_up (problem p) t a start stands.at stands.carried stands.numbers (early (best x.best) Memory) (clock_at s (looks + 0)) stands.comes
+            (ap (λ (b : Option Best.Found). early (best b) Memory) e.best ∙ sym (ap (λ (m : SearchMoment). early m.best Memory) stands.stands.is))
+            (clock ∙ sym (ap (λ (m : SearchMoment). m.clock) stands.stands.is)),
+      ));
 }
 
 -- the end of its row doesn't fit
@@ -124,10 +138,14 @@ returns-in-Err-clause-moments g c =
           let c0 : Clock = clock_at r looks in
           let own = goal_is p r v w L D at' c.requires.state.walk.width ∙ sym (asks_own g (goal.at.returns-in-Err-clause-moments g c).After-index-goals-k) in
           let same = reached_is p r v w L D at' c.requires.state.walk.width f ∙ worth in
-          let out = Out (outcome_of (Means.certificates v.certs) c.end_is_wide.result) (clock_at r (looks_after looks q.0 q.1)) in
+          let over = c.end_is_wide.ensures.is in
+          let after = clock_at r (looks_after looks q.0 q.1) in
+          let out = Out (outcome_of (Means.certificates v.certs) c.end_is_wide.result) after in
           let step = asks p v w L D c0 t f c.requires.closed is_best (v.goal + 1) refl c.requires.later out (inr (
             λ fits. c.in-Err.ensures.wide L own (subst (λ (y : Ratio). SumFits (minimising L y) (negative (minimising L L.goal.constant))) same fits),
             q.4 (problem p) (moment p L D v w c0) looks stop (Means.certificates v.certs) refl refl (count_is p r v w L D at' c.requires.state.walk.width c0) tells,
           )) in
-          searched (record { last = stands.at; comes = stands.comes; ends = subst (λ (m : SearchMoment). IsNextInSearch (problem p) t m out) (sym stands.stands.is) step });
+          let next = subst (λ (y : Ended). IsNextInSearch (problem p) t (moment p L D v w c0) (Out (outcome_of (Means.certificates v.certs) y) after)) over.1 step in
+          gives_up_at p c.args.limits r v w start looks stop stands (may_close p c.args.limits c.args.self.now c.requires.state) r c.end_is_wide.new.walk c.end_is_wide.result over.0 after (λ J F h. h) over.1 c.end_is_wide.ensures.rest
+          (level_ends (problem p) t (Kept.asked c.args.limits) start (moment p L D v w c0) stands.carried stands.numbers (come p c.args.limits r v w start looks stop stands) (ap (waiting D w) c.requires.closed) (early (best w.best) over.0) after next);
     }

@@ -1,4 +1,3 @@
-use Rattle.std.proofs.Common.{Ok, Err, arith}
 use Rattle.branch_bound.proofs.Changes.{unchanged, still_below, joined}
 use Rattle.branch_bound.proofs.state.SearchState.search_later.Goals as goal
 

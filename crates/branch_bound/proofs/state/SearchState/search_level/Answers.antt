@@ -1,4 +1,4 @@
-use Rattle.std.proofs.Common.{Ok, Err, arith, refl, ◌∙◌}
+use Rattle.std.proofs.Common.{refl, ◌∙◌}
 use Rattle.branch_bound.proofs.Ready.{further_less}
 use Rattle.branch_bound.proofs.Changes.{unchanged, still_below, joined}
 use Rattle.branch_bound.proofs.state.SearchState.search_level.Goals as goal

@@ -1,4 +1,4 @@
-use Rattle.std.proofs.Common.{◌≡◌, ◌+◌, ◌-◌, ◌≤◌, Ok, length}
+use Rattle.std.proofs.Common.{◌≡◌, ◌+◌, ◌-◌, Ok, length}
 use Rattle.branch_bound.specs.States.{IsUnderWay, Changes}
 use Rattle.branch_bound.proofs.state.SearchState.search_level.Given as goal
 
