@@ -2,8 +2,9 @@
 
 A part is *bounded* by its instance without wholeness: the multipliers of that one leaf bound it, and its point says where it is divided.
 It may also be *searched* whole, for what isn't worse than the best point: where a seat has nothing else to do, where it can't be bounded or
-divided, as long as searches that came to nothing took less time than bounding, or, for a cluster, once there are enough parts. Whatever is known first closes it, and what runs for it or below it is stopped: a better point that its bound doesn't
-pass, a search, or the cases below it.
+divided, for a cluster, once there are enough parts, and else for as long as the searches that left their parts open took little of the time.
+Whatever is known first closes it, and what runs for it or below it is stopped: a better point that its bound doesn't pass, a search, or the
+cases below it.
 """
 
 import hashlib
@@ -273,8 +274,9 @@ class Division:
         return self.task_again()
 
     def search_of(self, part):
-        """A search of a part, for what isn't worse than the best point."""
-        return Task("search", part, (part.branches, self.best and self.best[0]))
+        """A search of a part, for what isn't worse than the best point; of one that has to be searched to its end for all, by its own rows, since one
+        row more may make its numbers too wide."""
+        return Task("search", part, (part.branches, self.best[0] if self.best and not part.is_whole else None))
 
     def task_again(self):
         """The bounding that has taken longest, once more, where its seat may be slow."""
@@ -313,13 +315,17 @@ class Division:
     # ---- what came
 
     def take(self, seat, task, answer):
+        """Takes what came of a task, and counts the time that it took: a search that left its part open is lost."""
         seat.task = None
         took = time.monotonic() - task.begun
         seat.worked += took
+        self.take_answer(seat, task, answer)
         if task.kind == "bound":
             self.spent += took
-        elif not isinstance(answer, Outcome) or answer.status in ("bestSoFar", "unsure"):
+        elif not self.is_settled(task.part):
             self.lost += took
+
+    def take_answer(self, seat, task, answer):
         if task.kind == "bound":
             task.part.is_bounding = any(it.task and it.task.part is task.part and it.task.kind == "bound" for it in self.seats)
         if isinstance(answer, Failed):

@@ -13,7 +13,7 @@ import subprocess
 import sys
 import threading
 import time
-from typing import NamedTuple, Optional
+from typing import Callable, NamedTuple, Optional
 
 import parts
 from part_workers import WITH_PARENT, Failed, Outcome
@@ -193,7 +193,7 @@ class Place(NamedTuple):
     """Where a seat is to be: the name of its worker, who makes that, and what it takes."""
 
     name: str
-    make: object
+    make: Callable
     kinds: tuple = ("bound", "search")
 
 

@@ -196,8 +196,8 @@ class LocalWorker(ServerWorker):
         raise Failed("the program doesn't serve")
 
     def mend(self):
-        """Starts the server anew where it ended; by the thread that it is asked by as long as the tool lives, with which the server ends. Where it
-        doesn't start, the next part that it is given fails."""
+        """Starts the server anew where it ended: it ends with the thread that started it, and that is its seat's. Where it doesn't start, the next
+        part that it is given fails."""
         if self.process.poll() is not None and self.starts <= STARTS:
             try:
                 self.start()

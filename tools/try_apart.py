@@ -90,7 +90,7 @@ def told(document):
 class Still:
     """A seat that has what it is given and does nothing, and a folder that keeps nothing."""
 
-    kinds, task, is_out, entries = ("bound", "search"), None, False, {}
+    kinds, task, is_out, entries, worked, failures = ("bound", "search"), None, False, {}, 0.0, 0
 
     def is_free(self):
         return self.task is None
@@ -161,8 +161,15 @@ def searches(program):
     is_so(f"a search begins once there is a point, and one at once for the time of two: {kinds_given}", not is_early and kinds_given == ["search", "search"])
     it.seats[1].task = None
     is_so("what is searched isn't divided, as long as another part waits", it.is_held(it.seats[0].task.part) and not it.is_held(it.root))
-    it.lost = it.share
-    is_so("a search that came to nothing is one less", not it.is_search_due())
+    other = next(part for part in it.root.children if part is not it.seats[0].task.part)
+    it.seats[1].task = apart.Task("search", other, None)
+    for seat, outcome in zip(it.seats, (Outcome("unsure", bound=Fraction(0), trees=(("bound",),)), Outcome("unsure"))):
+        seat.task.begun = time.monotonic() - it.share
+        it.take(seat, seat.task, outcome)
+    is_so(f"of two searches the one that left its part open is lost, {it.lost:.1f} s", it.share <= it.lost < 2 * it.share and not it.is_settled(other))
+    it.spent = 2 * it.share / apart.MOST_LOST
+    is_early, it.spent = it.is_search_due(), it.spent + (it.lost - it.share) / apart.MOST_LOST
+    is_so("and its time is to be made up for", not is_early and it.is_search_due())
 
 
 def grids(folder):
