@@ -232,6 +232,10 @@ class Division:
             return part in searched or (not part.is_searched and len(self.open) - len(searched) >= self.coarse)
         return part in searched and part is not self.root and len(self.open) > sum(task.part.name in self.open for task in tasks)
 
+    def is_point_due(self):
+        """Whether no point is known, and a part waits for its search whose relaxed point is one."""
+        return self.best is None and any(part.bound is not None for part in self.whole[-1:])
+
     def is_search_due(self):
         """Whether there is time for a search where parts wait to be bounded: a point excludes much, and those that came to nothing took little."""
         running = sum(bool(seat.task) and seat.task.kind == "search" for seat in self.seats)
@@ -256,7 +260,7 @@ class Division:
         if "search" in seat.kinds and not self.coarse and not self.root.is_searched and not self.is_settled(self.root):
             self.root.is_searched = True  # what is small is solved sooner so than by its parts
             return self.search_of(self.root)
-        if "search" in seat.kinds and self.is_search_due():
+        if "search" in seat.kinds and (self.is_point_due() or self.is_search_due()):
             part = self.next_search()
             if part:
                 part.is_searched = True
@@ -398,12 +402,12 @@ class Division:
             self.push(part)
 
     def search_whole(self, part):
-        """Has a part searched to its end, which a search of it that runs goes on to."""
+        """Has a part searched to its end, which a search of it that runs goes on to; first those that are bounded, whose relaxed point is whole."""
         part.is_whole = True
         self.open.pop(part.name, None)
         running = [seat.task for seat in self.seats if seat.task and seat.task.part is part and seat.task.kind == "search"]
         if all(task.is_stopped for task in running):
-            self.whole.append(part)
+            self.whole.insert(0 if part.bound is None else len(self.whole), part)
 
     def search_or_divide(self, part, branch, outcome):
         """A part without a bound: it is searched whole, once; then it is divided where it can be."""

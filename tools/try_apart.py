@@ -170,6 +170,15 @@ def searches(program):
     it.spent = 2 * it.share / apart.MOST_LOST
     is_early, it.spent = it.is_search_due(), it.spent + (it.lost - it.share) / apart.MOST_LOST
     is_so("and its time is to be made up for", not is_early and it.is_search_due())
+    it = division(programs.with_goals(program, 2))
+    it.resume(it.root)
+    it.root.is_searched = True
+    it.next_open()
+    it.keep_branch(it.root, parts.Branch(0, 0))
+    whole = it.next_open()
+    it.take_leaf(whole, Outcome("optimal", (Fraction(0), Fraction(1)), (Fraction(1), Fraction(1)), trees=(("bound",),)))
+    it.give_work()
+    is_so("without a point a part with a whole one is searched before others are bounded", [(seat.task.kind, seat.task.part is whole) for seat in it.seats] == [("search", True), ("bound", False)])
 
 
 def grids(folder):
