@@ -26,3 +26,4 @@ pub mod OneAnswer
 pub mod Acceptance
 pub mod Texts
 pub mod ToldNames
+pub mod ToldBounds

@@ -1,8 +1,8 @@
 use Rattle.std.proofs.lemmas.Result.{IfOk-weaker}
-use Rattle.std.proofs.Common.{◌∙◌, Some, ap, refl}
+use Rattle.std.proofs.Common.{◌∙◌, Some, arith, ap, refl}
 use Rattle.command_line.proofs.Meanings.{asks_it, asks_none}
 use Rattle.os_app.proofs.OtherWords.{other_told}
-use Rattle.os_app.proofs.Words.{links_none, names_none, unheard_runs}
+use Rattle.os_app.proofs.Words.{links_none, more_words, names_none, unheard_runs}
 use Rattle.os_app.proofs.Calls.{call_runs, none_named}
 use Rattle.os_app.proofs.Checks.{check_runs}
 use Rattle.os_app.proofs.CompactRuns.{compact_runs}
@@ -77,3 +77,30 @@ returns-in-Ok-Some-Session-clause-asked g c = record { words = _; asked = asks_i
 
 pub returns-in-Ok-Some-Serve-clause-asked : goal.returns-in-Ok-Some-Serve-clause-asked
 returns-in-Ok-Some-Serve-clause-asked g c = record { words = _; asked = asks_it _ _ _ (c.in-Ok-Some-Serve.field-0-is ∙ ap Some c.in-Ok-Some-Serve.field-0-0-is) c.in-Ok-Some-Serve.ensures.asked }
+
+pub returns-in-Ok-Some-Session-clause-has_words : goal.returns-in-Ok-Some-Session-clause-has_words
+returns-in-Ok-Some-Session-clause-has_words g c = more_words _ _ _ (asks_it _ _ _ (c.in-Ok-Some-Session.field-0-is ∙ ap Some c.in-Ok-Some-Session.field-0-0-is) c.in-Ok-Some-Session.ensures.asked)
+
+pub returns-in-Ok-Some-Serve-clause-has_words : goal.returns-in-Ok-Some-Serve-clause-has_words
+returns-in-Ok-Some-Serve-clause-has_words g c = more_words _ _ _ (asks_it _ _ _ (c.in-Ok-Some-Serve.field-0-is ∙ ap Some c.in-Ok-Some-Serve.field-0-0-is) c.in-Ok-Some-Serve.ensures.asked)
+
+pub returns-in-Ok-Some-Check-clause-usage : goal.returns-in-Ok-Some-Check-clause-usage
+returns-in-Ok-Some-Check-clause-usage g c = λ few. absurd (omega (arith, few, more_words _ _ _ (asks_it _ _ _ (c.in-Ok-Some-Check.field-0-is ∙ ap Some c.in-Ok-Some-Check.field-0-0-is) c.in-Ok-Some-Check.ensures.asked)))
+
+pub returns-in-Ok-Some-Solve-clause-usage : goal.returns-in-Ok-Some-Solve-clause-usage
+returns-in-Ok-Some-Solve-clause-usage g c = λ few. absurd (omega (arith, few, more_words _ _ _ (asks_it _ _ _ (c.in-Ok-Some-Solve.field-0-is ∙ ap Some c.in-Ok-Some-Solve.field-0-0-is) c.in-Ok-Some-Solve.ensures.asked)))
+
+pub returns-in-Ok-Some-Generate-clause-usage : goal.returns-in-Ok-Some-Generate-clause-usage
+returns-in-Ok-Some-Generate-clause-usage g c = λ few. absurd (omega (arith, few, more_words _ _ _ (asks_it _ _ _ (c.in-Ok-Some-Generate.field-0-is ∙ ap Some c.in-Ok-Some-Generate.field-0-0-is) c.in-Ok-Some-Generate.ensures.asked)))
+
+pub returns-in-Ok-Some-Call-clause-usage : goal.returns-in-Ok-Some-Call-clause-usage
+returns-in-Ok-Some-Call-clause-usage g c = λ few. absurd (omega (arith, few, more_words _ _ _ (asks_it _ _ _ (c.in-Ok-Some-Call.field-0-is ∙ ap Some c.in-Ok-Some-Call.field-0-0-is) c.in-Ok-Some-Call.ensures.asked)))
+
+pub returns-in-Ok-Some-Compact-clause-usage : goal.returns-in-Ok-Some-Compact-clause-usage
+returns-in-Ok-Some-Compact-clause-usage g c = λ few. absurd (omega (arith, few, more_words _ _ _ (asks_it _ _ _ (c.in-Ok-Some-Compact.field-0-is ∙ ap Some c.in-Ok-Some-Compact.field-0-0-is) c.in-Ok-Some-Compact.ensures.asked)))
+
+pub returns-in-Ok-None-clause-usage : goal.returns-in-Ok-None-clause-usage
+returns-in-Ok-None-clause-usage g c = λ few. c.tell_usage.ensures.told
+
+pub returns-in-Err-clause-usage : goal.returns-in-Err-clause-usage
+returns-in-Err-clause-usage g c = λ few. let said = c.in-Err.ensures.name_alone few in absurd (cc)
