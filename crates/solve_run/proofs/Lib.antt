@@ -27,3 +27,4 @@ pub mod Acceptance
 pub mod Texts
 pub mod ToldNames
 pub mod ToldBounds
+pub mod GapCauses

@@ -9,7 +9,9 @@ ghost use Rattle.certificate.specs.Meanings as Means;
 ghost use Rattle.certificate.specs.declared.claims.Claim.{Claim};
 ghost use Rattle.simplex_rules.specs.Ends.{Terms, Clock};
 ghost use Rattle.search_rules.specs.Search.{Found, Outcome};
-ghost use Rattle.branch_bound.specs.Claims.{ClaimTellsWith};
+ghost use Rattle.branch_bound.specs.Claims.{ClaimTellsWith, cause_of};
+ghost use Rattle.certificate.specs.declared.causes.Cause.TheVariants.{Gap};
+ghost use Rattle.osol_grammar.specs.declared.gaps.Gap as kinds_gap;
 ghost use Rattle.osol_grammar.specs.declared.options.Options as kinds;
 ghost use Rattle.osol_grammar.specs.Meaning.{IsOptionsText};
 ghost use Rattle.osil_grammar.specs.Reading.{IsInstanceText};
@@ -30,7 +32,7 @@ ghost use Rattle.solve_run.specs.Firsts.{IsFirstOf, IsNoteFrom};
 ghost use Rattle.solve_run.specs.JobAnswers.{RefusesOptions, RefusesInstance, TakesBeside, SolvedBeside, GaveUpBeside, AnswersBeside, TellsReport, Right};
 ghost use Rattle.solve_run.specs.Grounds.{OptionsAreOne, SearchesAreOne, HandedAreOne};
 ghost use Rattle.fraction.specs.declared.frac.Frac.{Frac};
-ghost use Rattle.solve_run.specs.Asking.{job_asked};
+ghost use Rattle.solve_run.specs.Asking.{job_asked, GapHolds};
 ghost use Rattle.solve_run.specs.Untils.{job_terms, renamed};
 
 use cert_checker::{
@@ -51,7 +53,9 @@ use osol_grammar::{
 use osrl_grammar::{
     document_has_one_report, named_texts_are_reports, read_claims_fit, written_texts_are_reports,
 };
-use search_rules::{asked_searches_are_shown, first_points_are_one};
+use search_rules::{
+    asked_searches_are_shown, first_points_are_one, near_points_are_within_the_gap,
+};
 
 /// The laws of options' texts.
 fn options_are_one()
@@ -139,13 +143,16 @@ pub fn ended_searches_are_told()
 }
 
 /// Law: a search that is given up and has a bound tells it, but where a sum of its nodes doesn't fit or the document would be too long
-/// with it; a search of which no bound is asked has none.
+/// with it; a search of which no bound is asked has none. One is given up for a gap only where the options say one, and then no feasible
+/// point is better than its best one by more than that allows.
 pub fn bounds_are_told()
     ensures told { (beside : Option (List ℕ)) (osil osol : List ℕ) (stop : Option ℕ) (timed : Option Frac) (looks : ℕ) (r : Report) (s : SolvedBeside beside osil osol stop timed looks r) (b : ProvedBound) → s.bound ≡ Some b → IsProvedBound (problem s.given.parts) b → IsShort s.given.options.job s.found → Means.claim s.told ≡ claimed (renamed timed s.outcome) (Some b) }
     ensures unasked { (beside : Option (List ℕ)) (osil osol : List ℕ) (stop : Option ℕ) (timed : Option Frac) (looks : ℕ) (r : Report) (s : SolvedBeside beside osil osol stop timed looks r) → (s.given.options.bound ≡ 1 → ⊥) → s.bound ≡ None }
+    ensures gap { (beside : Option (List ℕ)) (osil osol : List ℕ) (stop : Option ℕ) (timed : Option Frac) (looks : ℕ) (r : Report) (s : SolvedBeside beside osil osol stop timed looks r) → cause_of s.outcome ≡ Some Gap → (g : kinds_gap.Gap) × (s.given.options.gap ≡ Some g) × GapHolds (problem s.given.parts) g s.ends.last s.ends.numbers }
 {
     problems_have_numbers();
     asked_searches_are_shown();
+    near_points_are_within_the_gap();
 }
 
 /// Law: whatever an answer says, be it a claim, that nothing is known, or why the options or the instance were refused, its document
