@@ -50,23 +50,15 @@ def stolen_since(before):
     return (now[0] - before[0]) / max(now[1] - before[1], 1)
 
 
-class Run(NamedTuple):
-    """A run by so many workers."""
+class Timed(NamedTuple):
+    """A run of `solve_apart`, and how much of the processors' time was stolen meanwhile."""
 
-    workers: int
-    line: str
-    value: str
-    processors: float
-    clock: float
-    busy: float
+    run: apart.Run
     stolen: float
 
-    def reckoned(self):
-        """Its seconds where each worker has a processor of its own."""
-        return self.processors / self.workers / self.busy
-
     def __str__(self):
-        return f"{self.clock:.1f} s of the clock ({self.processors:.1f} of processors, seats busy {self.busy:.2f}, {100 * self.stolen:.0f} % stolen)"
+        it = self.run
+        return f"{it.clock:.1f} s of the clock ({it.processors:.1f} of processors, {it.own:.1f} of them the tool's own, seats busy {it.busy:.2f}, {100 * self.stolen:.0f} % stolen)"
 
 
 def timed(program, workers):
@@ -75,8 +67,7 @@ def timed(program, workers):
         path, before = os.path.join(folder, "it.osil"), ticks()
         with open(path, "w", encoding="utf-8") as file:
             file.write(programs.osil(program))
-        line, value, processors, clock, busy, _, _ = apart.apart(path, folder, workers, MOST_SECONDS)
-        return Run(workers, line, value, processors, clock, busy, stolen_since(before))
+        return Timed(apart.apart(path, folder, workers, MOST_SECONDS), stolen_since(before))
 
 
 def largest(make, sizes):
@@ -85,10 +76,10 @@ def largest(make, sizes):
     for size in sizes:
         program = make(*size)
         one = timed(program, 1)
-        ended += one.line != "accepted optimal"
-        if one.line == "accepted optimal" and (found is None or one.clock > found[1].clock):
+        ended += one.run.line != "accepted optimal"
+        if one.run.line == "accepted optimal" and (found is None or one.run.clock > found[1].run.clock):
             found = program, one
-        if ended == MOST_ENDED or found and found[1].clock >= LEAST_SECONDS:
+        if ended == MOST_ENDED or found and found[1].run.clock >= LEAST_SECONDS:
             break
     return found
 
@@ -101,9 +92,10 @@ def of_kind(make, sizes):
         return
     program, one = found
     many = timed(program, WORKERS)
-    is_same = (many.line, many.value) == (one.line, one.value)
-    row(f"{program.name} by {WORKERS} workers, times one, by the clock", 3.0, one.clock / many.clock if is_same else None, f"{one} and {many}")
-    row("the same, reckoned", 3.0, one.reckoned() / many.reckoned() if is_same else None, f"{one.reckoned():.1f} s and {many.reckoned():.1f} s")
+    is_same = many.run[1:3] == one.run[1:3]
+    times, reckoned = one.run.clock / many.run.clock, one.run.reckoned() / many.run.reckoned()
+    row(f"{program.name} by {WORKERS} workers, times one, by the clock", 3.0, times if is_same else None, f"{one} and {many}")
+    row("the same, reckoned", 3.0, reckoned if is_same else None, f"{one.run.reckoned():.1f} s and {many.run.reckoned():.1f} s")
 
 
 def said(*words):

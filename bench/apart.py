@@ -1,6 +1,7 @@
 """One program on several processors: `solve_apart` with one worker and with four, beside one `solve`.
 
-A row has the seconds of processors that a run took with all its processes, and how much of their time the seats had a part. On a machine
+A row has the seconds of processors that a run took with all its processes, those of the tool's own, which divides and joins, and how much of
+their time the seats had a part. On a machine
 that other work shares the time on a clock says little, so what it would be is reckoned: the processors' seconds over the seats, over how
 much of their time these had a part. Both answers have to be the same, and the program's check has to accept them.
 
@@ -14,6 +15,7 @@ import subprocess
 import sys
 import tempfile
 import time
+from typing import NamedTuple
 
 import programs
 
@@ -46,16 +48,34 @@ def alone(path, options):
     return f"{processors:.1f}" + (f" ({found.group(1)}, {cause.group(1)})" if cause else "")
 
 
+class Run(NamedTuple):
+    """A run of `solve_apart`: what the check says of it and its value, the seconds of processors, of the tool's own among them, and of the clock, how
+    busy the seats were, the parts that were bounded, and the bytes."""
+
+    workers: int
+    line: str
+    value: str
+    processors: float
+    own: float
+    clock: float
+    busy: float
+    parts: int
+    size: int
+
+    def reckoned(self):
+        """Its seconds where each worker has a processor of its own."""
+        return self.processors / self.workers / self.busy
+
+
 def apart(path, folder, workers, seconds):
-    """A run of `solve_apart`: what it says at the end, the processors' seconds, the clock's, how busy the seats were, and the bytes."""
     output = os.path.join(folder, "result.osrl")
     words = ["tools/solve_apart", path, "--workers", str(workers), "--seconds", str(seconds), "--quiet", "--output", output, "--folder", f"{folder}/{workers}"]
     _, err, processors, clock = spent(words)
     line = subprocess.run([PROGRAM, "check", path, output], capture_output=True, text=True, check=False).stdout.strip()
-    busy = float(re.search(r"busy ([0-9.]+)", err).group(1))
-    parts = int(re.search(r"(\d+) bounded", err).group(1))
-    value = re.search(r'"os_cert.value"><item>([^<]*)<', open(output, encoding="utf-8").read())
-    return line, value.group(1) if value else "", processors, clock, busy, parts, os.path.getsize(output)
+    parts, busy, own = re.search(r"(\d+) bounded, .* busy ([0-9.]+), own work ([0-9.]+) s", err).groups()
+    with open(output, encoding="utf-8") as file:
+        value = re.search(r'"os_cert.value"><item>([^<]*)<', file.read())
+    return Run(workers, line, value.group(1) if value else "", processors, float(own), clock, float(busy), int(parts), os.path.getsize(output))
 
 
 def rows(program, seconds):
@@ -66,21 +86,18 @@ def rows(program, seconds):
                 file.write(text)
         single = alone(path, options)
         runs = [apart(path, folder, workers, seconds) for workers in WORKERS]
-    if runs[0][:2] != runs[1][:2]:
-        print(f"{program.name}: {runs[0][:2]} and {runs[1][:2]}", file=sys.stderr)
-    for workers, (line, value, processors, clock, busy, parts, size) in zip(WORKERS, runs):
-        reckoned = processors / workers / busy
-        times = (runs[0][2] / runs[0][4]) / reckoned
-        print(
-            f"| {program.name} | {workers} | {single} | {processors:.1f} | {clock:.1f} | {busy:.2f} | {reckoned:.1f} | {times:.2f} | {parts} | {size} | {value} {line.removeprefix('accepted ')} |",
-            flush=True,
-        )
+    if runs[0][1:3] != runs[1][1:3]:
+        print(f"{program.name}: {runs[0][1:3]} and {runs[1][1:3]}", file=sys.stderr)
+    for it in runs:
+        times = runs[0].reckoned() / it.reckoned()
+        numbers = f"{it.processors:.1f} | {it.own:.1f} | {it.clock:.1f} | {it.busy:.2f} | {it.reckoned():.1f} | {times:.2f} | {it.parts} | {it.size}"
+        print(f"| {program.name} | {it.workers} | {single} | {numbers} | {it.value} {it.line.removeprefix('accepted ')} |", flush=True)
 
 
 def main():
     seconds = int(sys.argv[1]) if sys.argv[1:] else 300
-    print("| program | workers | one solve s | processors s | clock s | seats busy | reckoned s | times one | parts bounded | result bytes | result |")
-    print("|---|---|---|---|---|---|---|---|---|---|---|", flush=True)
+    print("| program | workers | one solve s | processors s | the tool's own | clock s | seats busy | reckoned s | times one | parts bounded | result bytes | result |")
+    print("|---|---|---|---|---|---|---|---|---|---|---|---|", flush=True)
     for program in (
         programs.fixed_charge(10, 15), programs.general_assignment(5, 25), programs.job_shop(5, 4), programs.job_shop(5, 5), programs.general_assignment(5, 35),
         programs.fixed_charge(14, 20), programs.job_shop(6, 3), programs.general_assignment(6, 24),

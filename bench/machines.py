@@ -20,10 +20,10 @@ from proxied import NAMES, Machines, ProxyClient
 from serving import Client, envelope, free_port, options, returned
 
 CLIENTS = 12
-JOBS = 48
+JOBS = 240  # so that what passes between the last document and the ask that sees it is little of the time
 CALLS = 200
 ROUNDS = 3
-LONGEST_PAUSE = 0.5
+LONGEST_PAUSE = 0.1
 
 
 @contextlib.contextmanager

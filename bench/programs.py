@@ -5,11 +5,11 @@ import random
 
 class Program:
     """Variables (lower end, upper end, whole), rows (lower end, upper end, entries by column) and costs; None is no end. The variables
-    among `zeros` may be 0 besides; `later` has the costs of the goals behind the first."""
+    among `zeros` may be 0 besides; `later` has the costs of the goals behind the first, and `constant` is added to each."""
 
-    def __init__(self, name, maximise, variables, rows, costs, zeros=(), later=()):
+    def __init__(self, name, maximise, variables, rows, costs, zeros=(), later=(), constant=0):
         self.name, self.maximise, self.variables, self.rows, self.costs = name, maximise, variables, rows, costs
-        self.zeros, self.later = zeros, later
+        self.zeros, self.later, self.constant = zeros, later, constant
 
     def is_whole(self):
         return any(whole for _, _, whole in self.variables)
@@ -30,7 +30,7 @@ def osil(program):
         for j, (low, high, whole) in enumerate(program.variables)
     )
     goals = "".join(
-        f'<obj maxOrMin="{"max" if program.maximise else "min"}">'
+        f'<obj maxOrMin="{"max" if program.maximise else "min"}"' + f' constant="{program.constant}"' * bool(program.constant) + ">"
         + "".join(f'<coef idx="{j}">{cost}</coef>' for j, cost in enumerate(costs) if cost)
         + "</obj>"
         for costs in (program.costs, *program.later)
@@ -193,10 +193,10 @@ def general_assignment(agents, tasks):
     return Program(f"general assignment {agents}x{tasks}", False, [(0, 1, True)] * len(costs), rows, costs)
 
 
-def job_shop(jobs, machines):
+def job_shop(jobs, machines, seed=0):
     """The least time in which all jobs are done, each of which goes over each machine once, in an order of its own, while no machine has
-    two jobs at once (big-M form, Manne 1960)."""
-    rng = random.Random(jobs * machines)
+    two jobs at once (big-M form, Manne 1960). `seed`: for another one of that size."""
+    rng = random.Random(jobs * machines + 1000 * seed)
     orders = [rng.sample(range(machines), machines) for _ in range(jobs)]
     times = [[rng.randint(1, 20) for _ in range(machines)] for _ in range(jobs)]
     longest = sum(map(sum, times))
@@ -208,7 +208,7 @@ def job_shop(jobs, machines):
         rows.append((times[i][m] - longest, None, {j * machines + m: 1, i * machines + m: -1, place: -longest}))
         rows.append((times[j][m], None, {i * machines + m: 1, j * machines + m: -1, place: longest}))
     variables = [(0, None, False)] * (end + 1) + [(0, 1, True)] * len(pairs)
-    return Program(f"job shop {jobs}x{machines}", False, variables, rows, [0] * end + [1] + [0] * len(pairs))
+    return Program(f"job shop {jobs}x{machines}" + f", {seed}" * bool(seed), False, variables, rows, [0] * end + [1] + [0] * len(pairs))
 
 
 def lot_sizing(products, periods):

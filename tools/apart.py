@@ -1,9 +1,10 @@
 """Solves a program by its parts, best bound first (Land and Doig 1960), each part by whoever is free, and joins what shows the whole.
 
 A part is *bounded* by its instance without wholeness: the multipliers of that one leaf bound it, and its point says where it is divided.
-It may also be *searched* whole: where a seat has nothing else to do, where it can't be bounded or divided, or, for a cluster, once there
-are enough parts. Whatever is known first closes it, and what runs for it or below it is stopped: a better point that its bound doesn't
-pass, a search, or the cases below it.
+It may also be *searched* whole, for what isn't worse than the best point: where a seat has nothing else to do, where it can't be bounded or
+divided, for a cluster, once there are enough parts, and else for as long as the searches that left their parts open took little of the time.
+Whatever is known first closes it, and what runs for it or below it is stopped: a better point that its bound doesn't pass, a search, or the
+cases below it.
 """
 
 import hashlib
@@ -12,16 +13,17 @@ import itertools
 import json
 import os
 import queue
-import threading
 import time
 from fractions import Fraction
 from typing import NamedTuple, Optional
 
 import parts
+from part_seats import Task
 from part_workers import Failed, Outcome, Wrong
 
 PLUNGE_WITHOUT, PLUNGE_WITH = 2, 8  # each so many-th part is the deepest one, without and with a point
 MOST_FAILURES = 5
+MOST_LOST = 0.5  # of the time that bounding took, how much searches may take that came to nothing
 LONGEST_WAIT = 10.0  # seconds for which a seat that failed isn't asked
 TELL_EVERY = 10.0  # seconds between two lines that say how far it is
 
@@ -36,8 +38,8 @@ class Closed(NamedTuple):
 class Part:
     """A part of the program. Its name says by which cases it is reached: `r`, then 0 for each first case and 1 for each second."""
 
-    def __init__(self, name, variables, parent=None):
-        self.name, self.variables, self.parent = name, variables, parent
+    def __init__(self, name, branches=(), parent=None):
+        self.name, self.branches, self.parent = name, branches, parent
         self.bound: Optional[Fraction] = None
         self.leaf: tuple = ()
         self.branch = self.closed = None
@@ -65,46 +67,6 @@ class Part:
         if is_better:
             self.bound, self.leaf = bound, leaf
         return is_better
-
-
-class Task:
-    """A part that a seat has: to be bounded, or to be searched."""
-
-    def __init__(self, kind, part, osil):
-        self.kind, self.part, self.osil = kind, part, osil
-        self.stop, self.begun, self.is_shared = threading.Event(), time.monotonic(), False
-        self.document = None
-
-
-class Seat:
-    """A thread that has one part at a time solved by a worker and checked. `kinds`: what it takes."""
-
-    def __init__(self, worker, checker, events, kinds=("bound", "search")):
-        self.worker, self.checker, self.events, self.kinds = worker, checker, events, kinds
-        self.given, self.task, self.failures, self.until, self.is_out = queue.SimpleQueue(), None, 0, 0.0, False
-        self.worked, self.begun = 0.0, time.monotonic()
-        threading.Thread(target=self.serve, daemon=True).start()
-
-    def is_free(self):
-        return self.task is None and not self.is_out and time.monotonic() >= self.until
-
-    def give(self, task):
-        self.task = task
-        self.given.put(task)
-
-    def serve(self):
-        while True:
-            task = self.given.get()
-            if task is None:
-                return
-            try:
-                task.document = self.worker.solve(task.osil, task.stop)
-                answer = None if task.document is None else self.checker.outcome(task.osil, task.document)
-            except Failed as failure:
-                answer = failure
-            except Exception as failure:  # told in a line: a seat that ends in silence would be waited for
-                answer = Failed(f"{type(failure).__name__}: {failure}")
-            self.events.put((self, task, answer))
 
 
 class Book:
@@ -162,13 +124,14 @@ class Division:
     program is divided before they are searched, where they are."""
 
     def __init__(self, instance, book, seats, events, say, share=2.0, coarse=None):
-        self.instance, self.writer, self.book, self.say = instance, parts.Writer(instance), book, say
+        self.instance, self.book, self.say = instance, book, say
         self.seats, self.events, self.share, self.coarse = seats, events, share, coarse
-        self.root = Part("r", instance.variables)
+        self.root = Part("r")
         self.best = self.point = self.endless = self.cause = None
         self.is_endless_later = False
         self.heap, self.deep, self.whole, self.order = [], [], [], itertools.count()
         self.open: dict = {}
+        self.spent, self.lost = 0.0, 0.0  # seconds of seats that bounded, and of those that searched and found no end
         self.picks, self.counts, self.told = 0, {"bound": 0, "search": 0, "divided": 0}, time.monotonic()
 
     # ---- what is known
@@ -186,7 +149,7 @@ class Division:
         """Stops what runs for parts that are closed, or passed."""
         for seat in self.seats:
             if seat.task and self.is_settled(seat.task.part):
-                seat.task.stop.set()
+                seat.stop()
 
     def is_passed(self, part):
         """Whether the bound of a part, or of one above it, closes it by the best point."""
@@ -216,7 +179,7 @@ class Division:
     def divide(self, part):
         self.counts["divided"] += 1
         self.open.pop(part.name, None)
-        part.children = [Part(f"{part.name}{side}", parts.with_branch(part.variables, part.branch, side), part) for side in (0, 1)]
+        part.children = [Part(f"{part.name}{side}", (*part.branches, (part.branch, side)), part) for side in (0, 1)]
         for child in part.children:
             self.resume(child)
 
@@ -252,7 +215,7 @@ class Division:
                 self.open.pop(part.name)
             elif part.branch is None:
                 found = part
-            elif self.coarse and self.is_held(part):
+            elif self.is_held(part):
                 held.append((heap, entry))
             else:
                 self.divide(part)
@@ -261,12 +224,24 @@ class Division:
         return found
 
     def is_held(self, part):
-        """Whether a part of a program that is divided coarsely isn't divided for now: it is searched just now, or there are enough that wait."""
-        running = sum(bool(seat.task) and seat.task.kind == "search" for seat in self.seats)
-        is_running = any(seat.task and seat.task.kind == "search" and seat.task.part is part for seat in self.seats)
-        return is_running or (not part.is_searched and len(self.open) - running >= self.coarse)
+        """Whether a part isn't divided for now: it is searched just now, and others wait; or, where the program is divided coarsely, it is searched,
+        or there are enough that wait."""
+        tasks = [seat.task for seat in self.seats if seat.task]
+        searched = [task.part for task in tasks if task.kind == "search"]
+        if self.coarse:
+            return part in searched or (not part.is_searched and len(self.open) - len(searched) >= self.coarse)
+        return part in searched and part is not self.root and len(self.open) > sum(task.part.name in self.open for task in tasks)
 
-    def next_search(self, seat):
+    def is_point_due(self):
+        """Whether no point is known, and a part waits for its search whose relaxed point is one."""
+        return self.best is None and any(part.bound is not None for part in self.whole[-1:])
+
+    def is_search_due(self):
+        """Whether there is time for a search where parts wait to be bounded: a point excludes much, and those that came to nothing took little."""
+        running = sum(bool(seat.task) and seat.task.kind == "search" for seat in self.seats)
+        return self.best is not None and not self.coarse and self.lost + self.share * (running + 1) <= MOST_LOST * self.spent
+
+    def next_search(self):
         """A part to search: one that can't be divided, or else the best one that wasn't searched."""
         while self.whole:
             part = self.whole.pop()
@@ -284,18 +259,28 @@ class Division:
     def next_task(self, seat):
         if "search" in seat.kinds and not self.coarse and not self.root.is_searched and not self.is_settled(self.root):
             self.root.is_searched = True  # what is small is solved sooner so than by its parts
-            return Task("search", self.root, self.writer.text(self.root.variables))
+            return self.search_of(self.root)
+        if "search" in seat.kinds and (self.is_point_due() or self.is_search_due()):
+            part = self.next_search()
+            if part:
+                part.is_searched = True
+                return self.search_of(part)
         if "bound" in seat.kinds:
             part = self.next_open()
             if part:
                 part.is_bounding = True
-                return Task("bound", part, self.writer.text(parts.relaxed(part.variables), 1))
+                return Task("bound", part, part.branches)
         if "search" in seat.kinds:
-            part = self.next_search(seat)
+            part = self.next_search()
             if part:
                 part.is_searched = True
-                return Task("search", part, self.writer.text(part.variables))
+                return self.search_of(part)
         return self.task_again()
+
+    def search_of(self, part):
+        """A search of a part, for what isn't worse than the best point; of one that has to be searched to its end for all, by its own rows, since one
+        row more may make its numbers too wide."""
+        return Task("search", part, (part.branches, self.best[0] if self.best and not part.is_whole else None))
 
     def task_again(self):
         """The bounding that has taken longest, once more, where its seat may be slow."""
@@ -304,7 +289,7 @@ class Division:
             return None
         task = min(late, key=lambda it: it.begun)
         task.is_shared = True
-        again = Task("bound", task.part, task.osil)
+        again = Task("bound", task.part, task.asked)
         again.is_shared = True
         return again
 
@@ -329,13 +314,22 @@ class Division:
         for seat in self.seats:
             task = seat.task
             if task and task.kind == "search" and not task.part.is_whole and now - task.begun > self.share:
-                task.stop.set()
+                seat.stop()
 
     # ---- what came
 
     def take(self, seat, task, answer):
+        """Takes what came of a task, and counts the time that it took: a search that left its part open is lost."""
         seat.task = None
-        seat.worked += time.monotonic() - task.begun
+        took = time.monotonic() - task.begun
+        seat.worked += took
+        self.take_answer(seat, task, answer)
+        if task.kind == "bound":
+            self.spent += took
+        elif not self.is_settled(task.part):
+            self.lost += took
+
+    def take_answer(self, seat, task, answer):
         if task.kind == "bound":
             task.part.is_bounding = any(it.task and it.task.part is task.part and it.task.kind == "bound" for it in self.seats)
         if isinstance(answer, Failed):
@@ -354,19 +348,18 @@ class Division:
     def stop_shared(self, task):
         for seat in self.seats:
             if seat.task and seat.task.part is task.part and seat.task.kind == task.kind:
-                seat.task.stop.set()
+                seat.stop()
 
     def take_failure(self, seat, task, failure):
         seat.failures += 1
-        seat.worker.mend()
         if isinstance(failure, Wrong) or seat.failures >= MOST_FAILURES:
             for it in self.seats:
-                it.is_out = it.is_out or it.worker.name == seat.worker.name
-            self.say(f"{seat.worker.name} is left out: {failure}")
+                it.is_out = it.is_out or it.name == seat.name
+            self.say(f"{seat.name} is left out: {failure}")
         else:
             seat.until = time.monotonic() + min(LONGEST_WAIT, 0.1 * 4**seat.failures)
             if seat.failures == 1:
-                self.say(f"{seat.worker.name}: {failure}; it is asked again")
+                self.say(f"{seat.name}: {failure}; it is asked again")
         part = task.part
         if task.kind == "search":
             part.is_searched = False
@@ -383,20 +376,18 @@ class Division:
         elif outcome.status == "optimal" and len(outcome.trees[0]) == 1:
             self.take_leaf(part, outcome)
         else:
-            point = outcome.point
-            self.search_or_divide(part, point and parts.branch_at(part.variables, point), outcome)
+            self.search_or_divide(part, outcome.branch, outcome)
 
     def take_leaf(self, part, outcome):
         value = parts.turned(self.instance.goals[0], outcome.values[0])
-        branch = parts.branch_at(part.variables, outcome.point)
         part.raise_bound(value, outcome.trees[0])
-        if branch is None and len(self.instance.goals) == 1:
+        if outcome.branch:
+            self.keep_branch(part, outcome.branch)
+        elif len(self.instance.goals) == 1:
             self.close(part, (value,), outcome.trees)
             self.offer(outcome.point)
-        elif branch is None:
-            self.search_whole(part)
         else:
-            self.keep_branch(part, branch)
+            self.search_whole(part)
 
     def keep(self, part):
         """Writes down where a part is divided and what bounds it, as far as it is known."""
@@ -411,16 +402,16 @@ class Division:
             self.push(part)
 
     def search_whole(self, part):
-        """Has a part searched to its end, which a search of it that runs goes on to."""
+        """Has a part searched to its end, which a search of it that runs goes on to; first those that are bounded, whose relaxed point is whole."""
         part.is_whole = True
         self.open.pop(part.name, None)
         running = [seat.task for seat in self.seats if seat.task and seat.task.part is part and seat.task.kind == "search"]
-        if all(task.stop.is_set() for task in running):
-            self.whole.append(part)
+        if all(task.is_stopped for task in running):
+            self.whole.insert(0 if part.bound is None else len(self.whole), part)
 
     def search_or_divide(self, part, branch, outcome):
         """A part without a bound: it is searched whole, once; then it is divided where it can be."""
-        branch = branch or middle_branch(part.variables)
+        branch = branch or middle_branch(parts.with_branches(self.instance.variables, part.branches))
         if not part.is_searched or not branch and not part.is_whole:
             self.search_whole(part)
         elif branch:
@@ -456,16 +447,16 @@ class Division:
 
     # ---- the whole
 
-    def run(self, until=None):
-        """Until all parts are closed, or that moment has come; whether all are."""
-        for point in self.book.points:
-            self.offer_kept(point)
+    def run(self, until, points=()):
+        """Until all parts are closed, or that moment has come; whether all are. `points`: some that are feasible."""
+        for point in points:
+            self.offer(point)
         self.resume(self.root)
         while True:
             self.give_work()
             if self.endless or self.is_endless_later or self.is_over():
                 break
-            if until is not None and time.monotonic() >= until():
+            if time.monotonic() >= until():
                 self.cause = "killed"
                 break
             if all(seat.is_out for seat in self.seats if self.is_wanted(seat)):
@@ -491,13 +482,6 @@ class Division:
     def is_wanted(self, seat):
         return "search" in seat.kinds or not self.coarse
 
-    def offer_kept(self, point):
-        """A point of the folder, where it is feasible."""
-        text = parts.result_text(self.instance, parts.Claim("bestSoFar", point, cause="killed"))
-        checker = self.seats[0].checker
-        if checker.line(self.writer.text(self.instance.variables), text).startswith("accepted"):
-            self.offer(point)
-
     def is_over(self):
         """Whether every part is closed, as far as it can be."""
         if self.is_settled(self.root):
@@ -516,15 +500,12 @@ class Division:
         self.heap, self.deep = [], []
         limit = time.monotonic() + 40
         for seat in self.seats:
-            if seat.task:
-                seat.task.stop.set()
+            seat.stop()
         while any(seat.task for seat in self.seats) and time.monotonic() < limit:
             try:
                 self.take(*self.events.get(timeout=0.2))
             except queue.Empty:
                 pass
-        for seat in self.seats:
-            seat.given.put(None)
 
     def claim(self):
         """What is known of the whole."""

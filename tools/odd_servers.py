@@ -124,11 +124,11 @@ def ended_with_bound(osil):
     """The bound of its first two cases, with the tree that shows it, or that there is no point in them."""
     instance = read_instance(osil.encode())
     variables, writer = instance.variables, parts.Writer(instance)
-    whole = solved(writer.text(parts.relaxed(variables)))
+    whole = solved(writer.text(variables, is_relaxed=True))
     branch = parts.branch_at(variables, whole.values) if whole.status == "optimal" else None
     if branch is None:
         return ended_by_length(osil)
-    cases = [solved(writer.text(parts.relaxed(parts.with_branch(variables, branch, side)))) for side in (0, 1)]
+    cases = [solved(writer.text(parts.with_branch(variables, branch, side), is_relaxed=True)) for side in (0, 1)]
     tree = (branch.node(), *cases[0].tree, *cases[1].tree)
     values = [case.objective for case in cases if case.status == "optimal"]
     if not values:

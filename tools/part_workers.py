@@ -1,6 +1,6 @@
 """Who solves parts: servers by the six calls, those of others or ones that are started here. What they say is checked before it is believed.
 
-A worker's `solve` gives the result document of an instance, or none where it was stopped before it began. Whatever goes wrong with a
+A worker's `solve` gives the result of an instance, or none where it was stopped before it began. Whatever goes wrong with a
 worker is a `Failed`; where its answer isn't shown of the instance that it was given, it is `Wrong`, and nothing more is asked of it.
 """
 
@@ -10,13 +10,11 @@ import shutil
 import socket
 import subprocess
 import tempfile
-import threading
 import time
 from fractions import Fraction
 from typing import NamedTuple, Optional
 
 import gubnatris
-import job_documents
 import parts
 
 BUILT = os.path.join(os.path.dirname(os.path.dirname(os.path.abspath(__file__))), "crates", "os_main", "out", "os_main")
@@ -27,6 +25,7 @@ PAUSE_OF_STOP = 0.05  # seconds between two looks whether it has
 LONGEST_CHECK = 300  # seconds that the check of one result may take
 LONGEST_START = 60  # seconds that a server of this tool may take until it listens
 STARTS = 5  # how often a server of this tool is started anew
+FEW = ("os_cert.rounds", "os_cert.bound", 'status type="unbounded"')  # what few results have, whose certificates are read once more for it
 WITH_PARENT = ("setpriv", "--pdeathsig", "KILL")  # the system ends a process when the thread ends that started it, however that comes
 
 
@@ -39,7 +38,8 @@ class Wrong(Failed):
 
 
 class Outcome(NamedTuple):
-    """What an answer shows of its instance. `bound`: a number that no point is better than, by the tree, where the program's check says so."""
+    """What an answer shows of its instance. `bound`: a number that no point is better than, by the tree, where the program's check says so;
+    `branch`: where it is to be divided, in place of its point; `document`: the answer, where it is wanted."""
 
     status: str
     point: Optional[tuple] = None
@@ -48,6 +48,8 @@ class Outcome(NamedTuple):
     trees: tuple = ()
     cause: Optional[str] = None
     bound: Optional[Fraction] = None
+    branch: Optional[parts.Branch] = None
+    document: Optional[str] = None
 
 
 def program():
@@ -78,16 +80,12 @@ class Checker:
                     raise Failed(f"the check of a result takes longer than {LONGEST_CHECK} seconds") from None
                 return ran.stdout.strip()
 
-    def outcome(self, osil, document):
-        """What a document shows of an instance. Raises `Wrong` where what it claims isn't shown."""
-        try:
-            result = gubnatris.read_result(document)
-        except gubnatris.Error as failure:
-            raise Wrong(f"its answer is no result: {failure}") from failure
-        line = self.line(osil, document)
+    def outcome(self, osil, result):
+        """What a result shows of an instance. Raises `Wrong` where what it claims isn't shown."""
+        line = self.line(osil, result.document)
         if line.startswith("refused") and not (result.status == "unsure" and line == "refused NoClaim"):
             raise Wrong(f"its answer is {line}")
-        extra = certificate_parts(document)
+        extra = result.certificate if any(part in result.document for part in FEW) else {}
         if result.status in ("optimal", "infeasible") and "rounds" in extra:
             raise Wrong("its answer has rounds, and none were asked for")
         accepted, _, bound = line.partition(" within ")
@@ -99,14 +97,12 @@ class Checker:
         return Outcome(result.status, result.values, result.objectives, result.ray, trees, result.cause, Fraction(bound) if is_bounded else None)
 
 
-def certificate_parts(document):
-    """The items of the parts of a certificate that the client's result hasn't."""
-    if not any(part in document for part in ("os_cert.rounds", "os_cert.bound", 'status type="unbounded"')):
-        return {}
-    root = job_documents.tree_of(document.encode(), "OSrL", "osrl")
-    others = root.find("optimization", "solution", "otherSolutionResults")
-    found = others.all("otherSolutionResult") if others else []
-    return {it.attributes.get("name", "").removeprefix("os_cert."): [item.text for item in it.all("item")] for it in found}
+def read_result(document):
+    """What a document says that a worker handed in."""
+    try:
+        return gubnatris.read_result(document)
+    except gubnatris.Error as failure:
+        raise Wrong(f"its answer is no result: {failure}") from failure
 
 
 class ServerWorker:
@@ -133,11 +129,11 @@ class ServerWorker:
             self.jobs.begun(self.name, job)
 
     def wait(self, job, stop):
-        """The document of a job; it is asked for ever less often, and killed where the part isn't wanted any more."""
+        """The result of a job; it is asked for ever less often, and killed where the part isn't wanted any more."""
         begun, until = time.monotonic(), None
         while True:
             try:
-                return self.server.result(job).document
+                return self.server.result(job)
             except gubnatris.NotFinished as still:
                 if still.state not in ("waiting", "running"):
                     if until is not None and still.state in ("killed", "unknown"):
@@ -183,11 +179,10 @@ def free_port():
 class LocalWorker(ServerWorker):
     """A seat at a server of this tool's own, with one worker, at a free port of loopback. It is started anew where it ended."""
 
-    def __init__(self, number):
-        self.number, self.starts, self.process = number, 0, None
+    def __init__(self):
+        self.starts, self.process = 0, None
         self.start()
         super().__init__(f"http://127.0.0.1:{self.port}")
-        self.name = f"worker {number}"
 
     def start(self):
         self.close()
@@ -201,8 +196,8 @@ class LocalWorker(ServerWorker):
         raise Failed("the program doesn't serve")
 
     def mend(self):
-        """Starts the server anew where it ended; by the thread that lives as long as the tool, with which the server ends. Where it doesn't
-        start, the next part that it is given fails."""
+        """Starts the server anew where it ended: it ends with the thread that started it, and that is its seat's. Where it doesn't start, the next
+        part that it is given fails."""
         if self.process.poll() is not None and self.starts <= STARTS:
             try:
                 self.start()
@@ -221,7 +216,7 @@ class Jobs:
     """The jobs that are at servers, in a file, so that a tool that is started again gives up what an ended one left there."""
 
     def __init__(self, path):
-        self.path, self.lock = path, threading.Lock()
+        self.path = path
 
     def give_up_left(self):
         """Gives up what is left at servers; how many were given up. What still runs a while later stays written down, and so do the jobs of a
@@ -256,7 +251,7 @@ class Jobs:
         return sorted(left)
 
     def write(self, mark, url, job):
-        with self.lock, open(self.path, "a", encoding="utf-8") as file:
+        with open(self.path, "a", encoding="utf-8") as file:  # one write of less than a page, which the system sets behind those of other processes
             file.write(f"{mark} {url} {job}\n")
 
     def begun(self, url, job):

@@ -12,6 +12,7 @@ from gubnatris.instances import Column, Instance
 
 ZERO = fractions.Fraction(0)
 WIDEST = 2**127 - 1
+MOST_END = 10**15  # that the end of a row of a part's own has over and under its fraction line
 LEVEL = re.compile(r"level \d+")
 # leaves, with how many words stand before their multipliers, and what they are called where they name rows alone
 LEAVES = {"farkas": (0, "farkasRows"), "bound": (0, "boundRows"), "grid": (1, "gridRows")}
@@ -72,11 +73,16 @@ def with_branch(variables, branch, side):
     return [*variables[: branch.column], new, *variables[branch.column + 1 :]]
 
 
-def relaxed(variables):
-    """The variables without their wholeness, those that may be 0 besides between their relaxed ends."""
-    return [
-        Column("", it.low and min(it.low, ZERO), it.high and max(it.high, ZERO)) if it.zero else Column("", it.low, it.high) for it in variables
-    ]
+def with_branches(variables, branches):
+    """The variables behind branches, each with its case."""
+    for branch, side in branches:
+        variables = with_branch(variables, branch, side)
+    return variables
+
+
+def relaxed(it):
+    """A variable without its wholeness, one that may be 0 besides between its relaxed ends."""
+    return Column("", it.low and min(it.low, ZERO), it.high and max(it.high, ZERO)) if it.zero else Column("", it.low, it.high)
 
 
 def is_own(column, value):
@@ -135,27 +141,38 @@ def goal_text(goal):
     return f'<obj maxOrMin="{"max" if goal.maximise else "min"}" constant="{decimal_text(goal.constant)}">{costs}</obj>'
 
 
+def rows_text(rows):
+    """Rows, each with its factors."""
+    ends = "".join(f'<con lb="{end_text(row.low, "-INF")}" ub="{end_text(row.high, "INF")}"/>' for row, _ in rows)
+    starts, columns, values = [0], [], []
+    for _, factors in rows:
+        used = sorted(j for j, factor in factors.items() if factor)
+        columns += used
+        values += [decimal_text(factors[j]) for j in used]
+        starts.append(len(values))
+    matrix = listed("start", starts) + listed("colIdx", columns) + listed("value", values) if values else ""
+    return f"<constraints>{ends}</constraints><linearConstraintCoefficients>{matrix}</linearConstraintCoefficients>"
+
+
 class Writer:
-    """Writes the instances of parts. What all have in common is made once."""
+    """Writes the instances of parts. What all have in common is made once, and so are the variables that a part has from the whole."""
 
     def __init__(self, instance: Instance):
-        ends = [f'<con lb="{end_text(row.low, "-INF")}" ub="{end_text(row.high, "INF")}"/>' for row in instance.rows]
-        starts, columns, values = [0], [], []
-        for factors in instance.factors:
-            used = sorted(j for j, factor in factors.items() if factor)
-            columns += used
-            values += [decimal_text(factors[j]) for j in used]
-            starts.append(len(values))
-        matrix = listed("start", starts) + listed("colIdx", columns) + listed("value", values) if values else ""
-        self.rest = f"<constraints>{''.join(ends)}</constraints><linearConstraintCoefficients>{matrix}</linearConstraintCoefficients>"
+        self.variables = instance.variables
+        self.texts = {False: list(map(variable_text, self.variables)), True: [variable_text(relaxed(it)) for it in self.variables]}
         self.goals = [goal_text(goal) for goal in instance.goals]
+        self.rows = list(zip(instance.rows, instance.factors))
+        self.rest = rows_text(self.rows)
 
-    def text(self, variables, goals=None):
-        """The instance with these variables, and with its first so many goals where not with all."""
+    def text(self, variables, is_relaxed=False, goals=None, cutoff=None):
+        """The instance with these variables, as they are or relaxed, with its first so many goals where not with all, and with a cutoff where there
+        is one."""
+        kept = zip(variables, self.variables, self.texts[is_relaxed])
+        rest = rows_text([*self.rows, cutoff[:2]]) if cutoff else self.rest
         return (
             '<osil xmlns="os.optimizationservices.org"><instanceData><variables>'
-            + "".join(map(variable_text, variables))
-            + f"</variables><objectives>{''.join(self.goals[:goals])}</objectives>{self.rest}</instanceData></osil>"
+            + "".join([text if it is of_whole else variable_text(relaxed(it) if is_relaxed else it) for it, of_whole, text in kept])
+            + f"</variables><objectives>{''.join(self.goals[:goals])}</objectives>{rest}</instanceData></osil>"
         )
 
 
@@ -190,6 +207,47 @@ def of_rows_alone(node, variables):
         return node
     first, name = LEAVES[kind]
     return " ".join([name, *words[:first], *(pair for pair in words[first:] if int(pair.partition(":")[0]) >= variables)])
+
+
+# ---- a part of which nothing is asked but what is no worse than a point
+
+
+class Cutoff(NamedTuple):
+    """A row that excludes points by their goal: its end, its factors, and how many times the costs these are."""
+
+    row: Column
+    factors: dict
+    size: int
+
+
+def cutoff_of(instance, value):
+    """The row that excludes what is worse than a value, less being better, of an instance with one goal; none where no row says it or it needs long
+    numbers."""
+    goal = instance.goals[0]
+    end, costs = value - turned(goal, goal.constant), {j: turned(goal, cost) for j, cost in goal.costs.items() if cost}
+    if len(instance.goals) > 1 or not costs or abs(end.numerator) > MOST_END or end.denominator > MOST_END:
+        return None
+    return Cutoff(Column("", None, fractions.Fraction(end.numerator)), {j: cost * end.denominator for j, cost in costs.items()}, end.denominator)
+
+
+def without_cutoff(node, column, size):
+    """A node of a program with such a row as this column, as one without it, that shows no less up to the row's end; none where there is no such.
+
+    A leaf's form is that of its other multipliers, less k times the costs, where k is the size times the row's own multiplier, turned. So the
+    others have a form of k times the costs where the leaf is a Farkas, and of 1 + k times the costs where it is a Bound or a Grid. Divided by
+    that they are a Bound, or a Grid, whose low sum is above the row's end in the first case, and not below the lesser of that end and the
+    leaf's own low sum in the second."""
+    kind, *words = node.split(" ")
+    whole = kind.removesuffix("Rows")
+    if whole not in LEAVES:
+        return None if words[0] == str(column) else node
+    first = LEAVES[whole][0]
+    pairs = [pair.partition(":") for pair in words[first:]]
+    if not pairs or pairs[-1][0] != str(column):
+        return node
+    weight = -size * fractions.Fraction(pairs[-1][2]) + (whole != "farkas")
+    told = [f"{c}:{fitted(fractions.Fraction(multiplier) / weight)}" for c, _, multiplier in pairs[:-1]]
+    return " ".join([kind.replace("farkas", "bound"), *words[:first], *told])
 
 
 # ---- the result of the whole

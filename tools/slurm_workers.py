@@ -9,7 +9,7 @@ import subprocess
 import threading
 import time
 
-from part_workers import Failed, program
+from part_workers import Failed, program, read_result
 
 HERE = os.path.dirname(os.path.abspath(__file__))
 SCRIPT = os.path.join(HERE, "..", "deploy", "slurm", "part.sbatch")
@@ -185,7 +185,7 @@ class SlurmWorker:
             if wanted.failure:
                 raise Failed(wanted.failure)
             with open(self.tasks.path(wanted.number, "osrl"), encoding="utf-8") as file:
-                return file.read()
+                return read_result(file.read())
         except OSError as failure:
             raise Failed(f"the part's result can't be read: {failure}") from failure
         finally:

@@ -7,6 +7,7 @@ import signal
 import sys
 import tempfile
 import time
+from functools import partial
 
 sys.path.insert(1, os.path.join(os.path.dirname(os.path.abspath(__file__)), "..", "clients", "python"))
 
@@ -14,8 +15,9 @@ import gubnatris
 import job_documents
 import parts
 import slurm_workers
-from apart import Book, Division, Seat, Task
+from apart import Book, Division
 from linear_program import MOST_DOCUMENT, Complaint, Unread, printable, read_bytes, write_whole
+from part_seats import Place, Room, Task, seated
 from part_workers import LONGEST_STOP, Checker, Failed, Jobs, LocalWorker, ServerWorker
 from slurm_workers import SlurmQueue, SlurmWorker
 
@@ -79,8 +81,8 @@ class Solving:
     """One run of the command."""
 
     def __init__(self, words):
-        self.words, self.begun, self.workers = words, time.monotonic(), []
-        self.bounding = []
+        self.words, self.begun, self.seats, self.rooms = words, time.monotonic(), [], []
+        self.events = queue.SimpleQueue()
         self.until = self.begun + words.seconds if words.seconds else float("inf")
         self.division = None
 
@@ -106,55 +108,58 @@ class Solving:
             try:
                 return self.solve(osil, checker)
             finally:
-                for worker in [*self.workers, *self.bounding]:
-                    worker.close()
+                for room in self.rooms:
+                    room.close()
 
-    def start_workers(self):
+    def sit(self, places, checker, *kind):
+        seats, rooms = seated(places, self.instance, checker, self.events, *kind)
+        self.seats += seats
+        self.rooms += rooms
+
+    def start_seats(self, checker):
         jobs = Jobs(os.path.join(self.words.folder, "jobs"))
         left = jobs.give_up_left()
         if left:
             self.say(f"{left} jobs of a run that was killed are given up")
         if self.words.is_slurm:
             tasks = SlurmQueue(self.words.folder, self.words.share)
-            self.workers = [SlurmWorker(tasks) for _ in range(self.words.workers or min(MOST_SEATS, slurm_workers.processors()))]
-            for k in range(BOUNDING):
-                self.bounding.append(LocalWorker(k + 1))
+            count = self.words.workers or min(MOST_SEATS, slurm_workers.processors())
+            self.sit([Place("Slurm", partial(SlurmWorker, tasks), ("search",))] * count, checker, Room)
+            self.sit([Place(f"worker {k + 1}", LocalWorker, ("bound",)) for k in range(BOUNDING)], checker)
         elif self.words.servers:
-            self.workers = [ServerWorker(url, jobs) for _ in range(self.words.workers) for url in self.words.servers]
+            self.sit([Place(url, partial(ServerWorker, url, jobs)) for _ in range(self.words.workers) for url in self.words.servers], checker)
         else:
-            for k in range(self.words.workers):
-                self.workers.append(LocalWorker(k + 1))
+            self.sit([Place(f"worker {k + 1}", LocalWorker) for k in range(self.words.workers)], checker)
 
     def solve(self, osil, checker):
         book = Book(self.words.folder, osil)
-        self.start_workers()
+        self.start_seats(checker)
         if not parts.is_divisible(self.instance.variables):
             self.say("no whole variable, and none that may be 0 besides: it isn't divided")
-            return self.solve_whole(osil, checker)
-        events = queue.SimpleQueue()
-        kinds = ("search",) if self.words.is_slurm else ("bound", "search")
-        seats = [Seat(worker, checker, events, kinds) for worker in self.workers]
-        seats += [Seat(worker, checker, events, ("bound",)) for worker in self.bounding]
-        coarse = PARTS_FOR_EACH * len(self.workers) if self.words.is_slurm else None
-        self.division = Division(self.instance, book, seats, events, self.say, self.words.share, coarse)
-        self.division.run(lambda: self.until)
+            return self.solve_whole(osil)
+        coarse = PARTS_FOR_EACH * sum("search" in seat.kinds for seat in self.seats) if self.words.is_slurm else None
+        self.division = Division(self.instance, book, self.seats, self.events, self.say, self.words.share, coarse)
+        self.division.run(lambda: self.until, filter(partial(self.is_feasible, osil, checker), book.points))
         book.close()
         if self.division.is_endless_later:
             self.say("a later goal has no end: it isn't divided")
-            return self.solve_whole(osil, checker)
+            return self.solve_whole(osil)
         return self.write(self.division.claim(), osil, checker)
 
-    def solve_whole(self, osil, checker):
-        """Solves the instance as it is, by the first worker that answers rightly."""
-        events = queue.SimpleQueue()
-        for worker in self.workers:
-            task = Task("search", None, osil.decode("utf-8-sig"))
-            Seat(worker, checker, events).give(task)
-            answer = self.answer_to(task, events)
+    def is_feasible(self, osil, checker, point):
+        """Whether a point of the folder is one of the instance."""
+        text = parts.result_text(self.instance, parts.Claim("bestSoFar", point, cause="killed"))
+        return checker.line(osil.decode("utf-8", "surrogateescape"), text).startswith("accepted")
+
+    def solve_whole(self, osil):
+        """Solves the instance as it is, by the first seat that answers rightly."""
+        for seat in self.seats:
+            seat.give(Task("whole", None, osil.decode("utf-8-sig")))
+            answer = self.answer_of(seat)
             if isinstance(answer, Failed):
-                self.say(f"{worker.name}: {answer}")
+                self.say(f"{seat.name}: {answer}")
             elif answer is not None:
-                write_whole(task.document, self.words.output)
+                write_whole(answer.document, self.words.output)
                 self.tell(f"{answer.status}, undivided", True)
                 return 0 if answer.status != "unsure" else 1
             if time.monotonic() >= self.until:
@@ -162,16 +167,16 @@ class Solving:
         self.tell("nobody solved it", True)
         return 6
 
-    def answer_to(self, task, events):
-        """What comes of a task, which is stopped once it is time to end; none where nothing comes of it."""
+    def answer_of(self, seat):
+        """What comes of a seat's task, which is stopped once it is time to end; none where nothing comes of it."""
         last = float("inf")
         while time.monotonic() < last:
             try:
-                return events.get(timeout=0.05)[-1]
+                return self.events.get(timeout=0.05)[-1]
             except queue.Empty:
                 pass
-            if time.monotonic() >= self.until and not task.stop.is_set():
-                task.stop.set()
+            if time.monotonic() >= self.until and not seat.task.is_stopped:
+                seat.stop()
                 last = time.monotonic() + LONGEST_STOP
         return None
 
@@ -205,7 +210,7 @@ class Solving:
         found = self.division.counts
         values = "" if claim.point is None else " " + ", ".join(map(str, parts.values_at(self.instance, claim.point)))
         bound = "" if claim.bound is None else f", none better than {claim.bound} by the parts' bounds"
-        return f"{values}{bound}; {found['divided']} divided, {found['bound']} bounded, {found['search']} searched, seats busy {self.division.busy():.2f}"
+        return f"{values}{bound}; {found['divided']} divided, {found['bound']} bounded, {found['search']} searched, seats busy {self.division.busy():.2f}, own work {time.process_time():.1f} s"
 
     def tell(self, text, is_ended):
         """The last line. The folder goes where all is known and nobody named it."""

@@ -25,6 +25,7 @@ import programs
 import solve_apart_command
 from gubnatris.instances import read_instance
 from odd_servers import EndingEarly, Lying, Slow, ended_by_length, ended_with_bound
+from part_seats import Answerer
 from part_workers import Checker, Jobs, Outcome
 from serving import PROGRAM, Server
 
@@ -39,6 +40,7 @@ WIDE = programs.Program(  # rows whose factors have so many digits that what is 
 LATER_ENDLESS = programs.Program("later endless", False, [(0, 3, True), (0, None, False)], [], [1, 0], later=([0, -1],))
 # The least 2 x, then the least y, where 4 x - 8 y is at least 2: 2 where y is 0, and 6 where it is 1, each by a low sum that is rounded up, of 1 and of 5
 ON_A_GRID = programs.Program("on a grid", False, [(0, 10, True), (0, 1, True)], [(2, None, {0: 4, 1: -8})], [2, 0], later=([0, 1],))
+THINGS = programs.knapsack(20, 2)
 ONLY_RELAXED = programs.Program("only relaxed", True, [(0, None, True), (0, None, True)], [(1, 1, {0: 2, 1: -2})], [1, 1])
 
 
@@ -88,13 +90,17 @@ def told(document):
 class Still:
     """A seat that has what it is given and does nothing, and a folder that keeps nothing."""
 
-    kinds, task, is_out, entries = ("bound", "search"), None, False, {}
+    kinds, task, is_out, entries, worked, failures = ("bound", "search"), None, False, {}, 0.0, 0
 
     def is_free(self):
         return self.task is None
 
     def give(self, task):
         self.task = task
+
+    def stop(self):
+        if self.task:
+            self.task.is_stopped = True
 
     def write(self, _):
         pass
@@ -113,7 +119,7 @@ def rules(_):
     for _ in range(400):
         part = it.next_open()
         if part:
-            it.keep_branch(part, apart.middle_branch(part.variables))
+            it.keep_branch(part, apart.middle_branch(parts.with_branches(it.instance.variables, part.branches)))
     is_so(f"of {len(it.open)} parts that are held {len(it.heap)} and {len(it.deep)} wait, behind 400 looks", 6 <= len(it.open) <= 8 and len(it.heap) + len(it.deep) < 40)
     two = programs.Program("two", True, [(0, 1, True)] * 2, [(None, 1, {0: 1, 1: 1})], [1, 1])
     it = division(two)
@@ -122,7 +128,7 @@ def rules(_):
     it.root.raise_bound(Fraction(-1), ("bound 2:1",))
     tasks = [seat.task for seat in it.seats]
     it.offer((1, 0))
-    is_so("a point that closes a part stops who searches it, and who bounds it", {task.kind for task in tasks} == {"search", "bound"} and all(task.stop.is_set() for task in tasks))
+    is_so("a point that closes a part stops who searches it, and who bounds it", {task.kind for task in tasks} == {"search", "bound"} and all(task.is_stopped for task in tasks))
     it = division(two)
     it.resume(it.root)
     it.next_open()
@@ -134,6 +140,45 @@ def rules(_):
     for child in it.root.children:
         it.close(child, (Fraction(-1),), (("bound",),))
     is_so("and the part is over with its cases", it.is_over())
+    searches(two)
+
+
+def searches(program):
+    """When a part is searched though others wait to be bounded, and which isn't divided meanwhile."""
+    it = division(program)
+    it.resume(it.root)
+    it.root.is_searched = True
+    it.next_open()
+    it.keep_branch(it.root, parts.Branch(0, 0))
+    it.next_open()
+    for child in it.root.children:
+        it.keep_branch(child, parts.Branch(1, 0))
+    it.spent = 2 * it.share / apart.MOST_LOST
+    is_early = it.is_search_due()
+    it.offer((0, 0))
+    it.give_work()
+    kinds_given = [seat.task.kind for seat in it.seats]
+    is_so(f"a search begins once there is a point, and one at once for the time of two: {kinds_given}", not is_early and kinds_given == ["search", "search"])
+    it.seats[1].task = None
+    is_so("what is searched isn't divided, as long as another part waits", it.is_held(it.seats[0].task.part) and not it.is_held(it.root))
+    other = next(part for part in it.root.children if part is not it.seats[0].task.part)
+    it.seats[1].task = apart.Task("search", other, None)
+    for seat, outcome in zip(it.seats, (Outcome("unsure", bound=Fraction(0), trees=(("bound",),)), Outcome("unsure"))):
+        seat.task.begun = time.monotonic() - it.share
+        it.take(seat, seat.task, outcome)
+    is_so(f"of two searches the one that left its part open is lost, {it.lost:.1f} s", it.share <= it.lost < 2 * it.share and not it.is_settled(other))
+    it.spent = 2 * it.share / apart.MOST_LOST
+    is_early, it.spent = it.is_search_due(), it.spent + (it.lost - it.share) / apart.MOST_LOST
+    is_so("and its time is to be made up for", not is_early and it.is_search_due())
+    it = division(programs.with_goals(program, 2))
+    it.resume(it.root)
+    it.root.is_searched = True
+    it.next_open()
+    it.keep_branch(it.root, parts.Branch(0, 0))
+    whole = it.next_open()
+    it.take_leaf(whole, Outcome("optimal", (Fraction(0), Fraction(1)), (Fraction(1), Fraction(1)), trees=(("bound",),)))
+    it.give_work()
+    is_so("without a point a part with a whole one is searched before others are bounded", [(seat.task.kind, seat.task.part is whole) for seat in it.seats] == [("search", True), ("bound", False)])
 
 
 def grids(folder):
@@ -148,6 +193,47 @@ def grids(folder):
             it.close(child, tuple(map(Fraction, values)), leaves)
         line = Checker(folder).line(programs.osil(ON_A_GRID), parts.result_text(it.instance, it.claim()))
         is_so(f"parts with the leaves {leaves}: {line}", line == "accepted optimal")
+
+
+class Solving:
+    """A worker that solves by one `solve`, with leaves of this form."""
+
+    def __init__(self, folder, form):
+        self.osil, self.osol = Path(folder, "solving.osil"), Path(folder, "solving.osol")
+        self.osol.write_text(f'<osol><optimization><solverOptions><solverOption name="form" value="{form}"/></solverOptions></optimization></osol>', encoding="utf-8")
+
+    def solve(self, osil, _):
+        self.osil.write_text(osil, encoding="utf-8")
+        ran = subprocess.run([PROGRAM, "solve", self.osil, "--options", self.osol], capture_output=True, text=True, check=False)
+        return gubnatris.read_result(ran.stdout)
+
+
+def cutoffs(folder):
+    """Searches for what isn't worse than a value: what is shown so is shown without the row that says it, of every kind of leaf, up to that value;
+    and what isn't translated, or is by another number, isn't shown."""
+    checker, seen = Checker(folder), set()
+    for program, best, other in (
+        (programs.job_shop(4, 3), 49, 55), (programs.general_assignment(4, 12), 223, 230), (programs.knapsack(20, 2), -455, -440), (programs.lot_sizing(2, 4), 1859, 1900),
+        (programs.Program("knapsack and a constant", True, THINGS.variables, THINGS.rows, THINGS.costs, constant=0.25), Fraction(-1821, 4), -440),
+    ):
+        instance = read_instance(programs.osil(program).encode())
+        for form in ("whole", "rows"):
+            told_of = []
+            for value in (best, other, best - 1):
+                it = Answerer(instance, checker, None, None)
+                it.worker = Solving(folder, form)
+                outcome = it.search(((), Fraction(value)), None)
+                claim = parts.Claim(outcome.status, outcome.point, None, outcome.bound, outcome.trees, outcome.cause)
+                told_of.append(checker.line(it.writer.text(instance.variables), parts.result_text(instance, claim)))
+                seen |= {node.split(" ")[0] for node in outcome.trees[0]}
+            bound = parts.turned(instance.goals[0], Fraction(best - 1))
+            is_so(f"{program.name}, {form}, with cutoffs: {told_of[1:]}", told_of == ["accepted optimal"] * 2 + [f"accepted unsure within {bound}"])
+    is_so(f"with the leaves {sorted(seen)}", {"bound", "boundRows", "farkas", "farkasRows", "zero"} <= seen)
+    for node, size, shown in (
+        ("farkas 0:1 4:-1/2", 1, "bound 0:2"), ("farkas 0:1 4:-1/2", 3, "bound 0:2/3"), ("boundRows 3:1 4:-1", 1, "boundRows 3:1/2"), ("grid 2 0:3 4:-1/2", 1, "grid 2 0:2"),
+        ("farkas 0:1 3:-1/2", 1, "farkas 0:1 3:-1/2"), ("boundRows", 1, "boundRows"), ("split 4 1", 1, None), ("split 0 4", 1, "split 0 4"), ("zero 0", 1, "zero 0"),
+    ):
+        is_so(f"{node} without column 4, of {size} times the costs: {shown}", parts.without_cutoff(node, 4, size) == shown)
 
 
 def kinds(folder):
@@ -301,16 +387,36 @@ def dies(folder, urls, server):
 
 
 def families():
-    """The processes that the tool's servers are."""
+    """The processes that the tool's rooms and servers are."""
     return [pid for pid in os.listdir("/proc") if pid.isdigit() and is_mine(pid)]
 
 
 def is_mine(pid):
     try:
         words = Path(f"/proc/{pid}/cmdline").read_bytes().split(b"\0")
-        return words[1:2] == [b"serve"] and MARK.encode() in Path(f"/proc/{pid}/environ").read_bytes().split(b"\0")
+        is_kind = words[1:2] == [b"serve"] or words[1:2] and words[1].endswith(b"part_room.py")
+        return is_kind and MARK.encode() in Path(f"/proc/{pid}/environ").read_bytes().split(b"\0")
     except OSError:
         return False
+
+
+def rooms_of(process):
+    """The processes of a tool's rooms."""
+    children = Path(f"/proc/{process.pid}/task/{process.pid}/children").read_text(encoding="ascii").split()
+    return [int(pid) for pid in children if b"part_room.py" in Path(f"/proc/{pid}/cmdline").read_bytes()]
+
+
+def room_dies(folder):
+    """A process of the tool's own is killed with the parts that it has: it is begun anew."""
+    case = Case(folder, "room", programs.osil(programs.fixed_charge(9, 12)))
+    found, limit = Path(f"{case.osil}.parts/found"), time.monotonic() + LONGEST
+    with subprocess.Popen([TOOL, case.osil, "--output", case.osrl, "--workers", "2"], stderr=subprocess.PIPE, text=True) as process:
+        while (not found.exists() or '"branch"' not in found.read_text(encoding="utf-8")) and process.poll() is None and time.monotonic() < limit:
+            time.sleep(0.02)
+        for pid in rooms_of(process):
+            os.kill(pid, signal.SIGKILL)
+        text = process.communicate(timeout=LONGEST)[1]
+    is_so(f"rooms are killed with their parts: {case.line()}", process.returncode == 0 and case.told() == ("optimal", (938,)) and "its process ended; it is asked again" in text)
 
 
 def are_gone():
@@ -338,6 +444,7 @@ def goes_on(folder):
     ran = case.solve("--workers", "2")
     bounded = int(re.search(r"(\d+) bounded", ran.stderr).group(1))
     is_so(f"started again: {case.line()} {case.told()}, {before} parts kept, {bounded} bounded", ran.returncode == 0 and case.line() == "accepted optimal" and case.told() == value and before >= 5)
+    room_dies(folder)
     other = Case(folder, "other", programs.osil(programs.general_assignment(4, 12)))
     other.solve("--workers", "1", "--folder", f"{folder}/kept")
     ran = case.solve("--workers", "1", "--folder", f"{folder}/kept")
@@ -386,8 +493,8 @@ def refused(folder):
 
 
 def within(case, most):
-    """A run for which a result has at most so many bytes."""
-    code = f"import sys; sys.path[:0] = ['tools', 'clients/python']; import solve_apart_command as it; it.MOST_RESULT = {most}; sys.exit(it.main(['{case.osil}', '--output', '{case.osrl}', '--quiet', '--share', '1']))"
+    """A run for which a result has at most so many bytes, and whose tree is always the one of a whole search: one worker begins with it."""
+    code = f"import sys; sys.path[:0] = ['tools', 'clients/python']; import solve_apart_command as it; it.MOST_RESULT = {most}; sys.exit(it.main(['{case.osil}', '--output', '{case.osrl}', '--quiet', '--workers', '1', '--share', '1000']))"
     return subprocess.run([sys.executable, "-c", code], capture_output=True, text=True, timeout=LONGEST, check=False)
 
 
@@ -406,7 +513,7 @@ def long_results(folder):
 
 def main():
     with tempfile.TemporaryDirectory() as folder:
-        for tried in (rules, grids, refused, long_results, kinds, servers, goes_on):
+        for tried in (rules, grids, cutoffs, refused, long_results, kinds, servers, goes_on):
             try:
                 tried(folder)
             except (OSError, ValueError, AttributeError, subprocess.TimeoutExpired, gubnatris.Error) as failure:

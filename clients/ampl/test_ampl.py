@@ -217,9 +217,9 @@ class Solved(unittest.TestCase):
             told = room.run(environment={f"{DRIVER.name}_options": "outlev=0 nodelimit=5"})
             self.assertEqual((told.stdout, told.returncode), ("", 0))
             self.assertFalse(Path(room.folder, "p.sol").exists())
-            self.assertEqual(room.run("wantsol=1", "gap=0", "fast=0", "threads=4").returncode, 0)
+            self.assertEqual(room.run("wantsol=1", "mipgap=0", "gap=0.0", "absmipgap=0", "fast=0", "threads=4").returncode, 0)
             self.assertIn("threads is passed over", room.sol()[0])
-            for word, wanted in (("gap=0.1", "gap=0.1 is refused"), ("fast=1", "fast=1 is refused"), ("cuts=2", "no option 'cuts'"),
+            for word, wanted in (("gap=x", "mipgap is 'x', which is no number"), ("absmipgap=-1", "absmipgap is '-1'"), ("fast=1", "fast=1 is refused"), ("cuts=2", "no option 'cuts'"),
                                  ("timelimit=x", "no number of seconds"), ("nodelimit=-1", "no count"), ("nodelimit=0", "osol BadLimit"), ("-x", "is no option")):  # fmt: skip
                 told = room.run("-AMPL", word)
                 self.assertEqual((told.returncode, told.stderr.count("\n")), (1, 1))
@@ -236,6 +236,13 @@ class Solved(unittest.TestCase):
             with Room(knapsack(first=first).text()) as room:
                 room.run("-AMPL", "nodelimit=1")
                 self.assertEqual((room.sol()[5], room.sol()[4]), (400, wanted))
+
+    def test_a_gap_ends_a_search(self):
+        for word, wanted in (("absmipgap=10", 3), ("mipgap=0.3", 3), ("gap=0", 0), ("absmipgap=1e-6", 0)):
+            with Room(knapsack().text()) as room:  # its first case is worth 44
+                room.run("-AMPL", word, "suffixes=bound")
+                self.assertEqual(room.sol()[5], wanted, word)
+                self.assertIn("bound", room.sol()[6])
 
     def test_the_time_is_kept(self):
         rows = [[(j, str(2 * (1 + (j * (k + 3) + k) % 7))) for j in range(60)] for k in range(40, 44)]

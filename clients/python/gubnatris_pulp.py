@@ -15,7 +15,8 @@ from pulp import constants
 from pulp.apis.core import LpSolver, PulpSolverError
 
 from gubnatris import Error, Model, Program, Result, Server, TimedOut, Variable, solver
-from gubnatris.options import MOST_NODES, MOST_TURNS
+from gubnatris.exact import exact
+from gubnatris.options import MOST_NODES, MOST_TURNS, Gap
 
 __all__ = ["GUBNATRIS"]
 
@@ -26,20 +27,19 @@ STATUSES = {
     "unbounded": (constants.LpStatusUnbounded, constants.LpSolutionUnbounded),
     "unsure": (constants.LpStatusNotSolved, constants.LpSolutionNoSolutionFound),
 }
-TAKEN = ("logPath", "maxNodes", "names", "path", "server", "warmStart")
+TAKEN = ("gapAbs", "gapRel", "logPath", "maxNodes", "names", "path", "server", "warmStart")
 PASSED_OVER = {  # what other solvers are told of, and why it changes no answer here
     "maxMemory": "no limit of memory can be set",
     "threads": "one search has one thread",
 }
-REFUSED = ("gapAbs", "gapRel")
 
 
 class GUBNATRIS(LpSolver):
     """The solver.
 
     `mip`: False relaxes whole variables. `msg`: False says nothing. `timeLimit`: after so many seconds the best point so far. Further:
-    `maxNodes`, `logPath`, `names`, True for names in the result's document, `path` of a program, `server`, the URL of one. `gapRel` and
-    `gapAbs` are refused.
+    `gapRel` or `gapAbs`: the search ends where its point is as near to the bound as this part of its value, or this number; 0 is none.
+    `maxNodes`, `logPath`, `names`, True for names in the result's document, `path` of a program, `server`, the URL of one.
     """
 
     name = "GUBNATRIS"
@@ -75,8 +75,6 @@ class GUBNATRIS(LpSolver):
     def _notes(self) -> list[str]:
         """What is said of options that change nothing. Raises where one is asked for that there isn't."""
         for name in self.optionsDict:
-            if name in REFUSED:
-                raise PulpSolverError(f"GUBNATRIS has no option {name}: each optimum is exact; timeLimit or maxNodes end a search sooner")
             if name not in TAKEN and name not in PASSED_OVER:
                 raise PulpSolverError(f"GUBNATRIS has no option {name}; it has {', '.join(TAKEN)}")
         if self.options:
@@ -110,9 +108,16 @@ class GUBNATRIS(LpSolver):
         given = variables.items() if self.optionsDict.get("warmStart") else ()
         return {made: round(variable.varValue) if made.whole else variable.varValue for variable, made in given if variable.varValue is not None}
 
+    def _gap(self) -> Gap:
+        """The gap at which the search ends, of the two that may be asked for. 0 is none: the search goes on to the optimum."""
+        relative, absolute = (exact(self.optionsDict.get(name, 0), name) for name in ("gapRel", "gapAbs"))
+        if relative and absolute:
+            raise ValueError("gapRel and gapAbs are two gaps, and a search has one")
+        return f"{100 * relative}%" if relative else absolute or None
+
     def _result(self, model: Model, start: dict[Variable, Any]) -> Result:
-        nodes, names = self.optionsDict.get("maxNodes", MOST_NODES), bool(self.optionsDict.get("names"))
-        return self._solver().solve(model, node_limit=nodes, turn_limit=MOST_TURNS, names=names, seconds=self.timeLimit, start=start)
+        limits = {"node_limit": self.optionsDict.get("maxNodes", MOST_NODES), "turn_limit": MOST_TURNS, "seconds": self.timeLimit, "gap": self._gap()}
+        return self._solver().solve(model, names=bool(self.optionsDict.get("names")), start=start, **limits)
 
     def _say(self, lines: list[str]) -> None:
         if self.msg:

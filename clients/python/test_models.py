@@ -55,6 +55,15 @@ def odd_sums(count=60):
     return model
 
 
+def most_of(share):
+    """The most of x, whole, where 2 x is at most 5, at so much each: the first case is worth 5/2 of it."""
+    model = Model("most")
+    x = model.variable("x", whole=True)
+    model.row({x: 2}, high=5)
+    model.maximise({x: share})
+    return model
+
+
 class Models(unittest.TestCase):
     """What a model says is what its document says, exactly."""
 
@@ -301,10 +310,27 @@ class Programs(unittest.TestCase):
         self.assertEqual(Program().solve(DIET, seconds=0).cause, "timeLimit 0")
 
     def test_what_is_not_offered(self):
-        for options in ({"gap": 0.1}, {"fast": True}):
-            for it in (Program(), Server("http://127.0.0.1:1")):
-                with self.assertRaisesRegex(NotOffered, f"no option {list(options)[0]}"):
-                    it.solve(DIET, **options)
+        for it in (Program(), Server("http://127.0.0.1:1")):
+            with self.assertRaisesRegex(NotOffered, "no option fast"):
+                it.solve(DIET, fast=True)
+
+    def test_bounds_and_gaps(self):
+        model = most_of(1)
+        for options, wanted in (
+            ({"node_limit": 1}, ("unsure", "nodeLimit 1", None, None)), ({"node_limit": 1, "bound": True}, ("unsure", "nodeLimit 1", None, Fraction(5, 2))),
+            ({"node_limit": 2}, ("bestSoFar", "nodeLimit 2", 2, None)), ({"node_limit": 2, "bound": True}, ("bestSoFar", "nodeLimit 2", 2, Fraction(5, 2))),
+            ({"gap": 0.5}, ("bestSoFar", "gap", 2, None)), ({"gap": "25%", "bound": True}, ("bestSoFar", "gap", 2, Fraction(5, 2))),
+            ({"gap": "24.9%"}, ("optimal", None, 2, 2)), ({"gap": Fraction(49, 100), "bound": True}, ("optimal", None, 2, 2)),
+        ):  # fmt: skip
+            found = Program().solve(model, **options)
+            self.assertEqual((found.status, found.cause, found.objective, found.bound), wanted, options)
+            self.assertRegex(found.check(), "^accepted ")
+        third = most_of(Fraction(1, 3))  # sent three times as large
+        for gap, wanted in ((Fraction(1, 6), "gap"), (Fraction(4, 25), None)):
+            self.assertEqual(Program().solve(third, gap=gap).cause, wanted)
+        for gap, wanted, says in ((-1, Refused, "BadGap"), ("-1%", Refused, "BadGap"), ("1", BadModel, "gap: '1' is no number"), (math.nan, BadModel, "gap: nan")):
+            with self.assertRaisesRegex(wanted, says):
+                Program().solve(model, gap=gap)
 
     def test_a_search_begins_with_a_point(self):
         model = Model("budget")  # examples/capital_budget, which one case doesn't end

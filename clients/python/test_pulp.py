@@ -43,6 +43,15 @@ def first_problem():
     return problem, (x, y, z)
 
 
+def budget():
+    """examples/capital_budget, which one case doesn't end: the first is worth 44, and the optimum 42."""
+    problem = pulp.LpProblem("budget", pulp.LpMaximize)
+    made = [pulp.LpVariable(name, 0, 1, pulp.LpInteger) for name in "abcd"]
+    problem += pulp.lpSum(worth * x for worth, x in zip((16, 22, 12, 8), made))
+    problem += pulp.lpSum(size * x for size, x in zip((5, 7, 4, 3), made)) <= 14
+    return problem, made
+
+
 class LeftOut(unittest.TestCase):
     """What the suite asks of solvers by their names alone."""
 
@@ -94,10 +103,7 @@ class LeftOut(unittest.TestCase):
         self.assertEqual(problem.solverModel.cause, "timeLimit 2")
 
     def test_it_begins_with_values_that_are_there(self):
-        problem = pulp.LpProblem("budget", pulp.LpMaximize)  # examples/capital_budget, which one case doesn't end
-        made = [pulp.LpVariable(name, 0, 1, pulp.LpInteger) for name in "abcd"]
-        problem += pulp.lpSum(worth * x for worth, x in zip((16, 22, 12, 8), made))
-        problem += pulp.lpSum(size * x for size, x in zip((5, 7, 4, 3), made)) <= 14
+        problem, made = budget()
         for start, wanted in (((0.9999999, 1, 0, None), ((1, 2), 38)), ((1, 1, 1, 0), ((0, 0), None))):  # 12 of 14; and 16, which is too much
             for x, value in zip(made, start):
                 x.varValue = value
@@ -106,6 +112,12 @@ class LeftOut(unittest.TestCase):
                 problem.solve(GUBNATRIS(warmStart=True, maxNodes=1))
             self.assertEqual(((problem.status, problem.sol_status), problem.solverModel.objective), wanted)
             self.assertEqual("no feasible point" in out.getvalue(), wanted[1] is None)
+
+    def test_a_gap_ends_a_search(self):
+        for options, wanted in (({"gapAbs": 10}, "gap"), ({"gapRel": 0.3}, "gap"), ({"gapRel": 0, "gapAbs": 0}, None), ({"gapAbs": 1e-6}, None)):
+            problem, _ = budget()
+            problem.solve(GUBNATRIS(msg=False, **options))
+            self.assertEqual((problem.status, problem.sol_status, problem.solverModel.cause), (1, 2 if wanted else 1, wanted), options)
 
     def test_it_is_listed(self):
         self.assertIn("GUBNATRIS", pulp.listSolvers(onlyAvailable=True))
@@ -205,7 +217,8 @@ class Bad(unittest.TestCase):
 
     def test_options(self):
         problem, _ = first_problem()
-        self.refuses("no option gapRel", problem, gapRel=0.1)
+        self.refuses("gapRel and gapAbs are two gaps", problem, gapRel=0.1, gapAbs=1)
+        self.refuses("osol BadGap", problem, gapRel=-0.1)
         self.refuses("no option cuts", problem, cuts=True)
         self.refuses("no options as '-x'", problem, options=["-x"])
         self.refuses("osol BadLimit", problem, maxNodes=0)

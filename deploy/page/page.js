@@ -19,7 +19,7 @@ const STATUSES = {
 };
 const CAUSES = {
   nodeLimit: "it began as many cases as were allowed", turnLimit: "it made as many turns as were allowed",
-  timeLimit: "it took as long as was allowed", wide: "a number passes 128 bits",
+  gap: "its best point is as near to the bound as was asked", timeLimit: "it took as long as was allowed", wide: "a number passes 128 bits",
   length: "the document would be longer than 4,194,304 bytes", killed: "it was asked to stop", memory: "there was no memory",
 };
 

@@ -11,15 +11,17 @@ import os
 import signal
 import sys
 from dataclasses import dataclass, field
+from decimal import Decimal, InvalidOperation
 from fractions import Fraction
 from pathlib import Path
 from typing import Optional
 
 from .errors import BadModel, Error, TimedOut
+from .exact import fraction_of
 from .limits import MOST_DOCUMENT
 from .model import Model
 from .nl import BadFile, NlProgram, read_nl
-from .options import MOST_NODES, MOST_TURNS
+from .options import MOST_NODES, MOST_TURNS, Gap
 from .program import solver
 from .results import Result
 
@@ -34,13 +36,14 @@ KEYS = {
     "suffixes": "which suffixes come back, with commas between: rc, slack, bound, relmipgap",
     "outlev": "0 writes no message (1)",
     "wantsol": "1 writes STUB.sol without -AMPL too (0)",
-    "gap": "only 0 is taken: each optimum is exact",
+    "mipgap": "the search ends where its point is as near to the bound as this part of its value; 0 is none (0)",
+    "absmipgap": "the same, as a number in place of a part (0)",
     "fast": "only 0 is taken: each answer is computed in exact fractions",
 }
-ALIASES = {"timelim": "timelimit", "maxtime": "timelimit", "mipgap": "gap", "mip_gap": "gap", "threads": "threads"}
+ALIASES = {"timelim": "timelimit", "maxtime": "timelimit", "gap": "mipgap", "mip_gap": "mipgap", "mipgapabs": "absmipgap", "threads": "threads"}
 LIMITED = ("nodeLimit", "turnLimit", "timeLimit", "killed", "length")
 CODES = {"optimal": 0, "infeasible": 200, "unbounded": 300}
-LIMIT, FAILURE = 400, 500
+WITHIN_GAP, LIMIT, FAILURE = 3, 400, 500
 
 
 class BadWords(Error):
@@ -72,6 +75,23 @@ class Call:
         if found is not None and not 0 <= found < 1e9:
             raise BadWords(f"timelimit is {text!r}, which is no number of seconds")
         return found
+
+    def gap(self) -> Gap:
+        """The gap at which the search ends, of the two that may be asked for. 0 is none: the search goes on to the optimum."""
+        relative, absolute = (self._part(key) for key in ("mipgap", "absmipgap"))
+        if relative and absolute:
+            raise BadWords("mipgap and absmipgap are two gaps, and a search has one")
+        return f"{100 * relative}%" if relative else absolute or None
+
+    def _part(self, key: str) -> Fraction:
+        text = self.values.get(key, "0")
+        try:
+            found = Decimal(text)
+        except InvalidOperation:
+            found = Decimal("NaN")
+        if not found.is_finite() or found < 0:
+            raise BadWords(f"{key} is {text[:40]!r}, which is no number from 0 on")
+        return fraction_of(found, key)
 
 
 @dataclass
@@ -112,10 +132,9 @@ def call_of(words: list[str]) -> Call:
             raise BadWords(f"{word[:40]!r} is no option; options are KEY=VALUE, behind the file")
     if not call.stub:
         raise BadWords("no file is named")
-    for key in ("gap", "fast"):
-        text = call.values.get(key, "0")
-        if text.strip("0.") not in ("", "no", "false"):
-            raise BadWords(f"there is no {key} yet, and {key}={text} is refused: {KEYS[key]}; timelimit or nodelimit end a search sooner")
+    text = call.values.get("fast", "0")
+    if text.strip("0.") not in ("", "no", "false"):
+        raise BadWords(f"there is no fast yet, and fast={text} is refused: {KEYS['fast']}; timelimit or nodelimit end a search sooner")
     return call
 
 
@@ -155,7 +174,7 @@ def read_names(stub: str, program: NlProgram) -> tuple[list[str], list[str]]:
 def answer_of(result: Result, program: NlProgram, asked: set[str]) -> Answer:
     """What a result is to AMPL."""
     cause = (result.cause or "").partition(" ")[0]
-    code = CODES.get(result.status, LIMIT if cause in LIMITED else FAILURE)
+    code = CODES.get(result.status, WITHIN_GAP if cause == "gap" else LIMIT if cause in LIMITED else FAILURE)
     told = f"{result.status}{f', for {result.cause}' if result.cause else ''}"
     worth = ""
     if result.objective is not None:
@@ -214,6 +233,8 @@ def solve(call: Call) -> tuple[Answer, list[str], int, int]:
             turn_limit=call.number("pivotlimit", MOST_TURNS),
             rounds=call.number("rounds"),
             seconds=call.seconds(),
+            bound=not asked.isdisjoint(("bound", "relmipgap")),
+            gap=call.gap(),
             start={j: Fraction(round(value)) if program.is_whole(j) else value for j, value in program.first.items()},
         )
         answer = answer_of(result, program, asked)

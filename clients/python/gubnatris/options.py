@@ -5,13 +5,16 @@ from __future__ import annotations
 import math
 from collections.abc import Iterable
 from fractions import Fraction
-from typing import Optional
+from typing import Optional, Union
 
-from .errors import NotOffered, NotSent
-from .exact import exact
+from .errors import BadModel, NotOffered, NotSent
+from .exact import Number, exact
+from .sources import Source
 from .writing import NO_XML, escaped, quoted
 
 MOST_NODES, MOST_TURNS = 1_000_000, 100_000_000  # what an option may set at most
+
+Gap = Union[Number, str, None]
 
 
 def options_text(
@@ -21,6 +24,8 @@ def options_text(
     rounds: Optional[int] = None,
     names: bool = False,
     form: Optional[str] = None,
+    bound: bool = False,
+    gap: Optional[str] = None,
     seconds: Optional[float] = None,
     start: Iterable[tuple[int, Fraction]] = (),
     result: Optional[str] = None,
@@ -29,7 +34,8 @@ def options_text(
     document that they hand in."""
     named = f"<jobID>{escaped(job)}</jobID>" if job is not None else ""
     general = f"<general>{named}{_handed_text(result)}</general>" if named or result is not None else ""
-    limits = [("nodeLimit", node_limit), ("pivotLimit", turn_limit), ("rounds", rounds), ("names", 1 if names else None), ("form", form)]
+    words = [("names", 1 if names else None), ("form", form), ("bound", 1 if bound else None), ("gap", gap)]
+    limits = [("nodeLimit", node_limit), ("pivotLimit", turn_limit), ("rounds", rounds), *words]
     set_ones = "".join(f"<solverOption name={quoted(name)} value={quoted(str(limit))}/>" for name, limit in limits if limit is not None)
     limits_set = f"<solverOptions>{set_ones}</solverOptions>" if set_ones else ""
     optimization = _start_text(start) + limits_set
@@ -59,11 +65,17 @@ def _time_text(seconds: Optional[float]) -> str:
     return "" if seconds is None or seconds == math.inf else f"<job><maxTime>{exact(seconds, 'seconds')}</maxTime></job>"
 
 
-def find_not_offered(gap: object, fast: bool) -> None:
+def gap_text(gap: Gap, source: Source) -> Optional[str]:
+    """The option of a gap: a number, in what the goal of the instance is told in, or a text as `2%`, for so many hundredths of the value. Raises
+    `BadModel` where it is neither."""
+    if isinstance(gap, str):
+        if not gap.endswith("%"):
+            raise BadModel(f"gap: {gap[:40]!r} is no number, and has no % behind one")
+        return gap
+    return None if gap is None else str(exact(gap, "gap") * (source.goal_scales or [1])[0])
+
+
+def find_not_offered(fast: bool) -> None:
     """Raises `NotOffered` where an option is asked for that this version doesn't have."""
-    for name, is_asked, instead in (
-        ("gap", gap is not None, "each optimum is exact; `seconds` or `node_limit` end a search sooner"),
-        ("fast", fast, "each answer is computed in exact fractions"),
-    ):
-        if is_asked:
-            raise NotOffered(f"this version has no option {name}: {instead}")
+    if fast:
+        raise NotOffered("this version has no option fast: each answer is computed in exact fractions")

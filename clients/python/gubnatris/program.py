@@ -14,7 +14,7 @@ from pathlib import Path
 from typing import Callable, Iterator, Optional, Union
 
 from .errors import NoProgram, NotSent, ProgramFailed
-from .options import find_not_offered, options_text
+from .options import Gap, find_not_offered, gap_text, options_text
 from .results import Result, document_of, read_of_job
 from .server import Server
 from .sources import Given, Source, source_of
@@ -51,7 +51,8 @@ class Program:
         form: Optional[str] = None,
         seconds: Optional[float] = None,
         result: Union[str, Result, None] = None,
-        gap: object = None,
+        bound: bool = False,
+        gap: Gap = None,
         fast: bool = False,
         start: Start = None,
     ) -> Result:
@@ -59,9 +60,10 @@ class Program:
 
         Raises `Refused` where the instance or a limit is, and `ProgramFailed`.
         """
-        find_not_offered(gap, fast)
-        limits = (node_limit, turn_limit, rounds, names, form, seconds, first_values(start, instance))
-        return self._solve(source_of(instance), options_text(None, *limits, document_of(result)))
+        find_not_offered(fast)
+        source = source_of(instance)
+        limits = (node_limit, turn_limit, rounds, names, form, bound, gap_text(gap, source), seconds, first_values(start, instance))
+        return self._solve(source, options_text(None, *limits, document_of(result)))
 
     def check(self, instance: Given, document: str) -> str:
         """What the checker says of a result document: `accepted` and the kind of claim, or `refused` and the first reason."""

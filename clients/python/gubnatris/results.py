@@ -23,7 +23,7 @@ if TYPE_CHECKING:
 
 LONGEST_RATIO = 80  # a sign, 39 digits, a slash and 39 digits: 128 bits each
 CERTIFICATE = "os_cert."
-_RATIO = re.compile(r"0|-?[1-9][0-9]*(?:/[1-9][0-9]*)?")
+_RATIO = re.compile(r"(0|-?[1-9][0-9]*)|(-?[1-9][0-9]*)/((?!1$)[1-9][0-9]*)")
 _REFUSAL = re.compile(r"(os[iorp]l) ([A-Z]\w*)(?: at (\d+))?(?: (.+))?", re.S)
 _STATES = ("unknown", "issued", "waiting", "running", "killed", "finished")
 _PARTS = {  # what a result's certificate has, by its status
@@ -363,12 +363,24 @@ def _one(items: tuple[str, ...], came: bytes) -> str:
     return items[0]
 
 
+def _ratio(item: str) -> Optional[Fraction]:
+    """An exact number in lowest terms, or None where the text is none."""
+    found = _RATIO.fullmatch(item) if len(item) <= LONGEST_RATIO else None
+    if not found:
+        return None
+    whole, above, below = found.groups()
+    if whole:
+        return Fraction(int(whole))
+    number = Fraction(int(above), int(below))
+    return number if number.denominator == int(below) else None
+
+
 def _ratios(items: tuple[str, ...], came: bytes) -> tuple[Fraction, ...]:
     """Exact numbers, in lowest terms."""
     numbers = []
     for item in items:
-        number = Fraction(item) if len(item) <= LONGEST_RATIO and _RATIO.fullmatch(item) else None
-        if number is None or str(number) != item:
+        number = _ratio(item)
+        if number is None:
             raise NoReply(f"no exact number: {item[:20]!r}", came)
         numbers.append(number)
     return tuple(numbers)

@@ -12,7 +12,7 @@ from typing import TYPE_CHECKING, Any, Callable, NamedTuple, Optional, Union
 
 from .errors import Error, Fault, NoReply, NotFinished, NotReached, NotSent, Status, TimedOut
 from .limits import MOST_DOCUMENT
-from .options import find_not_offered, options_text
+from .options import Gap, find_not_offered, gap_text, options_text
 from .results import Result, document_of, read_of_job, refusal, state_of
 from .sources import Given, Source, source_of
 from .starts import Start, first_values
@@ -83,7 +83,8 @@ class Server:
         seconds: Optional[float] = None,
         result: Union[str, Result, None] = None,
         certify: bool = False,
-        gap: object = None,
+        bound: bool = False,
+        gap: Gap = None,
         fast: bool = False,
         start: Start = None,
     ) -> Result:
@@ -97,15 +98,18 @@ class Server:
         instance, that is the answer, and nothing is searched; else `Result.message` says why not. `certify`: has `tools/certify` make one
         first, for so many seconds, where none is given; it needs a checkout.
         `start`: the point that it begins with, a result, numbers in the order of the variables, or some by a variable, its number or name, and 0
-        for the others; where that is no point of the instance `Result.message` says so. `gap` and `fast` are not offered yet: `NotOffered`. Raises `Refused` where the instance or a limit is, and `TimedOut`
-        where the search hadn't begun by then. (The call `solve` of the server would keep the job under a number that nobody is told.)
+        for the others; where that is no point of the instance `Result.message` says so. `bound`: whether a search that ends early tells
+        `Result.bound`. `gap`: a number, or a text as "2%", so many hundredths of the objective; the search ends where its best point is
+        shown to be no further from the best one, with the cause `gap`. `fast` is not offered yet: `NotOffered`. Raises `Refused` where the
+        instance or a limit is, and `TimedOut` where the search hadn't begun by then. (The call `solve` of the server would keep the job under a number that nobody is told.)
         """
-        find_not_offered(gap, fast)
+        find_not_offered(fast)
         source = source_of(instance)
         document = document_of(result)
         if certify and document is None:
             document = _certified(source.text, seconds)
-        job = self._submit(source, (node_limit, turn_limit, rounds, names, form, seconds, first_values(start, instance)), document)
+        limits = (node_limit, turn_limit, rounds, names, form, bound, gap_text(gap, source), seconds, first_values(start, instance))
+        job = self._submit(source, limits, document)
         try:
             return self._within(job, seconds, source)
         finally:
@@ -135,6 +139,8 @@ class Server:
         form: Optional[str] = None,
         seconds: Optional[float] = None,
         result: Union[str, Result, None] = None,
+        bound: bool = False,
+        gap: Gap = None,
         start: Start = None,
         named: Optional[Callable[[str], object]] = None,
     ) -> str:
@@ -144,8 +150,9 @@ class Server:
         Raises `Refused` where a limit is; where the instance is, its result tells that. A server holds 10,000 jobs: give up, by `kill`,
         what was read.
         """
-        limits = (node_limit, turn_limit, rounds, names, form, seconds, first_values(start, instance))
-        return self._submit(source_of(instance), limits, document_of(result), named)
+        source = source_of(instance)
+        limits = (node_limit, turn_limit, rounds, names, form, bound, gap_text(gap, source), seconds, first_values(start, instance))
+        return self._submit(source, limits, document_of(result), named)
 
     def _submit(
         self,

@@ -1,5 +1,5 @@
 -- Which command words name, and what it makes of the words behind it.
-use Rattle.std.proofs.Common.{◌≡◌, ◌∙◌, ◌+◌, ◌<◌, ℕ, ◌⊎◌, zero, suc, List, [], ◌∷◌, ◌++◌, length, get_or, Bool, true, false, cond, not, Option, Some, None, inl, inr, refl, sym, ap, ap₂, subst, arith}
+use Rattle.std.proofs.Common.{◌≡◌, ◌∙◌, ◌+◌, ◌<◌, ◌≤◌, ℕ, ◌⊎◌, zero, suc, List, [], ◌∷◌, ◌++◌, length, get_or, Bool, true, false, cond, not, Option, Some, None, inl, inr, refl, sym, ap, ap₂, subst, arith}
 use Rattle.std.specs.Prelude.{◌||◌, ◌&&◌, codes, drop, find, fold, is_some, map, nat_le, option_map, slice_get}
 use Rattle.std.specs.List.{list_all, list_any, zip}
 use Rattle.std.specs.Str.{bytes_eq}
@@ -396,10 +396,17 @@ name_asked : (name : Text) → asks_of whole (name ∷ []) ≡ None
 unfolding clap_on_literals
 name_asked name = refl
 
+-- the name alone asks for nothing
+pub name_asks_nothing : (words : List Text) → length words ≤ 1 → asks words ≡ None
+unfolding clap_on_literals
+name_asks_nothing [] few = asks_is [] ∙ nothing_asked
+name_asks_nothing (name ∷ []) few = asks_is (name ∷ []) ∙ name_asked name
+name_asks_nothing (name ∷ word ∷ rest) few = absurd (omega (arith, few))
+
 pub asks_call : (words : List Text) (it : Command) → asks words ≡ Some it → AreWordsOf it words
 unfolding clap_on_literals
-asks_call [] it asked = absurd (none-some it (sym nothing_asked ∙ sym (asks_is []) ∙ asked))
-asks_call (name ∷ []) it asked = absurd (none-some it (sym (name_asked name) ∙ sym (asks_is (name ∷ [])) ∙ asked))
+asks_call [] it asked = absurd (none-some it (sym (name_asks_nothing [] (omega arith)) ∙ asked))
+asks_call (name ∷ []) it asked = absurd (none-some it (sym (name_asks_nothing (name ∷ []) (omega arith)) ∙ asked))
 asks_call (name ∷ word ∷ rest) it asked =
     let first = first_word word rest no_form (none_refused _ _ it (sym (asks_is (name ∷ word ∷ rest)) ∙ asked)) in
     let f = get_or forms first.0 no_form in

@@ -1,5 +1,5 @@
 //! What the words of a command line ask for.
-ghost use Rattle.std.specs.Prelude.{◌≡◌, ◌↔◌, ◌≤◌, ℕ, List, Some, IfOk, IfSome, map, option_and_then, option_map};
+ghost use Rattle.std.specs.Prelude.{◌≡◌, ◌↔◌, ◌≤◌, ℕ, List, length, Some, None, Ok, IfOk, IfSome, map, option_and_then, option_map};
 ghost use Rattle.std.specs.String.{string_bytes};
 ghost use Rattle.os_io.specs.Streams.{Sends};
 ghost use Rattle.clap.specs.Words.{first_value, found_of, subcommand_rows_of};
@@ -260,10 +260,14 @@ fn asked_by<'w>(matches: &ArgMatches<'w>) -> Option<Asked<'w>>
 }
 
 /// What the words ask for, the first of which is the program's name. There is nothing where they are no command, or ask
-/// for help.
+/// for help. To say so of the name alone takes no memory.
 pub fn read_words<'w>(alloc: Global, words: &'w [String]) -> Result<Option<Asked<'w>>, Memory>
-    ensures { IfOk result (λ asked. option_map says.meant asked ≡ says.asks (map string_bytes words.now)) }
+    ensures asked { IfOk result (λ asked. option_map says.meant asked ≡ says.asks (map string_bytes words.now)) }
+    ensures name_alone { length words.now ≤ 1 → result ≡ Ok None }
 {
+    if words.len() <= 1 {
+        return Ok(None);
+    }
     match program(alloc)?.try_get_matches_from(words) {
         Ok(matches) => Ok(asked_by(&matches)),
         Err(error) => match error.kind() {

@@ -12,9 +12,9 @@ use Rattle.fraction.specs.declared.frac.Frac.{Frac}
 use Rattle.decimal_text.specs.Exact.{ratio_text}
 use Rattle.osol_grammar.specs.declared.options.Options.{Options}
 use Rattle.osol_grammar.specs.Meaning.{IsBlank, IsOptionsText}
-use Rattle.osol_grammar.specs.Writing.{job_nodes, time_nodes, first_nodes, limit_nodes, options_nodes, options_text}
+use Rattle.osol_grammar.specs.Writing.{job_nodes, time_nodes, first_nodes, options_nodes, options_text}
 use Rattle.osol_grammar.specs.Back.{ComesBack}
-use Rattle.osol_grammar.proofs.WrittenText.{optimization, text_document, text_not_blank}
+use Rattle.osol_grammar.proofs.WrittenText.{told_nodes, optimization, text_document, text_not_blank}
 use Rattle.handed_results.specs.declared.handed.Handed.{Handed}
 use Rattle.handed_results.specs.declared.handed.Handed.TheVariants.{Nothing}
 use Rattle.handed_results.specs.declared.standing.Place.TheVariants.{InRoot, InGeneral}
@@ -50,7 +50,7 @@ hands_once bytes o h k (inr text) a b = a.document text.0 text.1.root text.1.doc
 -- ---- options in memory
 
 after_optimization : (o : Options) (k : List Event) → left (at InRoot 0 Nothing) (spread (nodes_events (optimization o) k)) ≡ left (at InRoot 0 Nothing) (spread k)
-after_optimization o k = passed_left (first_nodes o.first (group (codes "solverOptions") (limit_nodes o) none)) (codes "optimization") InRoot Nothing k
+after_optimization o k = passed_left (first_nodes o.first (group (codes "solverOptions") (told_nodes o) none)) (codes "optimization") InRoot Nothing k
 
 after_time : (seconds : Option Frac) (more : Nodes) (k : List Event) → left (at InRoot 0 Nothing) (spread (nodes_events (time_nodes seconds more) k)) ≡ left (at InRoot 0 Nothing) (spread (nodes_events more k))
 after_time None more k = refl

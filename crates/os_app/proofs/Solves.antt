@@ -47,6 +47,7 @@ module _ (a osil osol : List ℕ) (shows : Shows a osil) where
     start = s.start;
     first = s.first;
     outcome = s.outcome;
+    bound = s.bound;
     ends = s.ends;
     found = s.found;
     tells = s.tells;
@@ -61,7 +62,7 @@ module _ (a osil osol : List ℕ) (shows : Shows a osil) where
     where
       by : (g.claim ≡ Unsure Memory None) ⊎ IsBestOfSearch a osol g.claim → (g.claim ≡ Unsure Memory None) ⊎ IsBestOfSearch osil osol g.claim
       by (inl unsure) = inl unsure
-      by (inr b) = inr (record { given = given_file b.given; start = b.start; first = b.first; moment = b.moment; comes = b.comes; tells = b.tells })
+      by (inr b) = inr (record { given = given_file b.given; start = b.start; first = b.first; stop = b.stop; moment = b.moment; carried = b.carried; numbers = b.numbers; comes = b.comes; tells = b.tells })
 
       noted : IsNoteOfJob beside a osol g.note → IsNoteOfJob beside osil osol g.note
       noted (inl none) = inl none

@@ -5,20 +5,24 @@ use Rattle.std.specs.List.{All}
 use Rattle.std.proofs.Math.Nat.{pow-le-pow_right}
 use Rattle.std.proofs.lemmas.List.{length-map}
 use Rattle.std.proofs.lemmas.Option.{none-some}
+use Rattle.rational.specs.Ratio.{Ratio}
+use Rattle.evidence.specs.ProvedBounds.{ProvedBound}
 use Rattle.evidence.specs.Instance.{Instance, IsInstance, Goal, Problem, alone, width, height}
 use Rattle.fraction.specs.declared.frac.Frac.{Frac}
 use Rattle.instance.specs.Parts.{Parts}
 use Rattle.instance.specs.Program.{program, problem, variable, row, goal}
 use Rattle.certificate.specs.declared.causes.Cause.{Cause}
-use Rattle.certificate.specs.declared.causes.Cause.TheVariants.{Memory, TimeLimit}
+use Rattle.certificate.specs.declared.causes.Cause.TheVariants.{Killed, NodeLimit, TurnLimit, Gap, TimeLimit, Wide, Length, Memory}
 use Rattle.certificate.specs.declared.claims.Claim.{Claim}
 use Rattle.certificate.specs.declared.claims.Claim.TheVariants.{Optimal, Infeasible, Unbounded, BestSoFar, Unsure}
 use Rattle.simplex_rules.specs.Ends.{Terms, Clock}
 use Rattle.search_rules.specs.Search as ends
-use Rattle.search_rules.specs.Search.{Found, Outcome, early}
-use Rattle.search_rules.specs.Beginnings.{IsAnswerFrom, searched}
+use Rattle.search_rules.specs.Search.{Found, Outcome, SearchMoment, early}
+use Rattle.search_rules.specs.Bounds.{Carried}
+use Rattle.search_rules.specs.Beginnings.{ComesFrom, begins, goes_on, IsAnswerFrom, searched}
+use Rattle.search_rules.specs.Asked.{Asked, ComesAsked, asked_first, asked_on, asked_level, EndsAsked, near, ends as ends_so, AskedSearch}
 use Rattle.search_rules.specs.Outcomes.{HaveOneRange, IsPlain}
-use Rattle.branch_bound.specs.Claims.{ClaimTells, cause_of, claimed_cause}
+use Rattle.branch_bound.specs.Claims.{cause_of, claimed_cause}
 use Rattle.osol_grammar.specs.declared.options.Options.{Options}
 use Rattle.osol_grammar.specs.declared.fault.OsolFault.{OsolFault}
 use Rattle.osol_grammar.specs.declared.fault.OsolFault.TheVariants as options_faults
@@ -35,8 +39,11 @@ use Rattle.osil_grammar.specs.Reading.{IsInstanceText}
 use Rattle.osil_grammar.specs.Reading as instances
 use Rattle.osrl_writing.specs.declared.report.Report.{Report}
 use Rattle.osrl_writing.specs.Writing.{told_text}
-use Rattle.certificate.specs.GivenUp.{given_up}
+use Rattle.certificate.specs.GivenUp.{given_up, unbounded}
+use Rattle.solve_run.specs.declared.closing.Judged.{Judged}
+use Rattle.solve_run.specs.declared.closing.Judged.TheVariants.{Width, Bound}
 use Rattle.solve_run.specs.Judging.{checked, wide_check}
+use Rattle.solve_run.specs.Asking.{job_asked}
 use Rattle.solve_run.specs.RowForms.{claim_of_rows}
 use Rattle.solve_run.specs.Closings.{claim_report, IsToldOf, IsFitted, IsFormed}
 use Rattle.solve_run.specs.JobAnswers.{AnswersJob, AnswersBeside, IsBestOfSearch, TakesHanded, Solved, no_options, no_instance, handed, solved, gave_up}
@@ -44,7 +51,7 @@ use Rattle.solve_run.proofs.Texts.{noted_claim}
 use Rattle.handed_results.specs.declared.handed.Handed.{Handed}
 use Rattle.handed_results.specs.declared.handed.Handed.TheVariants.{Nothing, Once}
 use Rattle.handed_results.specs.Reading.{HandsIn}
-use Rattle.solve_run.specs.Untils.{job_terms, left, renamed}
+use Rattle.solve_run.specs.Untils.{job_terms, by_time, renamed}
 use Rattle.no_cycles.specs.Beginning.{BeginsFeasible}
 use Rattle.no_cycles.specs.Limit.{safe_limit}
 use Rattle.no_cycles.specs.Searches.{is_out_of_turns, is_turn_limit}
@@ -91,6 +98,7 @@ with_limit o limit k back is few =
       job = back.job;
       seconds = back.seconds;
       first = back.first;
+      gap = back.gap;
       above = each_limit (λ l. (limits.limit_row l).least ≤ amount (record o { turns = limit }) l) (all_of (λ l. (limits.limit_row l).least ≤ amount (record o { turns = limit }) l) limits.all (above.0, (omega (arith, is, low), above.1.1)));
       below = each_limit (λ l. amount (record o { turns = limit }) l ≤ (limits.limit_row l).most) (all_of (λ l. amount (record o { turns = limit }) l ≤ (limits.limit_row l).most) limits.all (below.0, (omega (arith, is, high), below.1.1)));
     }
@@ -116,20 +124,27 @@ claim_turned (Unbounded x vs cs r) = refl
 claim_turned (BestSoFar x vs k b) = refl
 claim_turned (Unsure k b) = refl
 
-told_turned : (c : Claim) (o : Outcome) → ClaimTells c o → claims_turn_limit c ≡ is_out_of_turns o
-told_turned c o tells = claim_turned c ∙ ap turned tells.cause ∙ sym (outcome_turned o)
+told_turned : (c : Claim) (o : Outcome) → claimed_cause c ≡ cause_of o → claims_turn_limit c ≡ is_out_of_turns o
+told_turned c o cause = claim_turned c ∙ ap turned cause ∙ sym (outcome_turned o)
 
 -- a time that was over is no limit of turns
-left_is : (o : Outcome) (k : Cause) → is_out_of_turns (left o k) ≡ is_turn_limit k
-left_is (ends.Optimal x vs cs) k = refl
-left_is (ends.Infeasible cert) k = refl
-left_is (ends.Unbounded x vs cs r) k = refl
-left_is (ends.BestSoFar x vs c) k = refl
-left_is (ends.Unsure c) k = refl
+by_time_is : (s : Frac) (k : Cause) → is_turn_limit (by_time s k) ≡ is_turn_limit k
+by_time_is s Killed = refl
+by_time_is s (NodeLimit n) = refl
+by_time_is s (TurnLimit n) = refl
+by_time_is s Gap = refl
+by_time_is s (TimeLimit x) = refl
+by_time_is s (Wide p) = refl
+by_time_is s Length = refl
+by_time_is s Memory = refl
 
 renamed_within : (timed : Option Frac) (o : Outcome) → is_out_of_turns o ≡ false → is_out_of_turns (renamed timed o) ≡ false
 renamed_within None o within = within
-renamed_within (Some s) o within = left_is o (TimeLimit s)
+renamed_within (Some s) (ends.Optimal x vs cs) within = refl
+renamed_within (Some s) (ends.Infeasible cert) within = refl
+renamed_within (Some s) (ends.Unbounded x vs cs r) within = refl
+renamed_within (Some s) (ends.BestSoFar x vs c) within = by_time_is s c ∙ within
+renamed_within (Some s) (ends.Unsure c) within = by_time_is s c ∙ within
 
 given_up_is : (c : Claim) (k : Cause) → claims_turn_limit (given_up c k) ≡ is_turn_limit k
 given_up_is (Optimal x vs cs) k = refl
@@ -138,13 +153,24 @@ given_up_is (Unbounded x vs cs r) k = refl
 given_up_is (BestSoFar x vs c b) k = refl
 given_up_is (Unsure c b) k = refl
 
-checked_is : (found : Claim) (turns : ℕ) (node : Option ℕ) → claims_turn_limit found ≡ false → claims_turn_limit (checked found turns node) ≡ false
-checked_is found turns None within = within
-checked_is found turns (Some n) within = given_up_is found (wide_check n turns)
+-- a bound is no cause
+without_is : (c : Claim) → claims_turn_limit (unbounded c) ≡ claims_turn_limit c
+without_is (Optimal x vs cs) = refl
+without_is (Infeasible cert) = refl
+without_is (Unbounded x vs cs r) = refl
+without_is (BestSoFar x vs c b) = refl
+without_is (Unsure c b) = refl
+
+checked_is : (found : Claim) (turns : ℕ) (verdict : Judged) → claims_turn_limit found ≡ false → claims_turn_limit (checked found turns verdict) ≡ false
+checked_is found turns (Width None) within = within
+checked_is found turns (Width (Some n)) within = given_up_is found (wide_check n turns)
+checked_is found turns (Bound true) within = within
+checked_is found turns (Bound false) within = without_is found ∙ within
 
 fitted_is : (job : Option (List ℕ)) (found told : Claim) → IsFitted job found told → claims_turn_limit found ≡ false → claims_turn_limit told ≡ false
 fitted_is job found told (inl (short, is)) within = ap claims_turn_limit is ∙ within
-fitted_is job found told (inr (long, is)) within = ap claims_turn_limit is ∙ given_up_is found _
+fitted_is job found told (inr (inl (long, short, is))) within = ap claims_turn_limit is ∙ without_is found ∙ within
+fitted_is job found told (inr (inr (long, longer, is))) within = ap claims_turn_limit is ∙ given_up_is found _
 
 -- the same claim, of rows alone, ends for the same cause
 rows_are : (n : ℕ) (c : Claim) → claims_turn_limit (claim_of_rows n c) ≡ claims_turn_limit c
@@ -159,11 +185,11 @@ formed_is p job form c formed (inl (one, fine, is)) within = ap claims_turn_limi
 formed_is p job form c formed (inr (other_form, is)) within = ap claims_turn_limit is ∙ within
 
 closed_is : (p : Parts) (job : Option (List ℕ)) (form turns : ℕ) (found told : Claim) → IsToldOf p job form turns found told → claims_turn_limit found ≡ false → claims_turn_limit told ≡ false
-closed_is p job form turns found told closed within = fitted_is job closed.formed told closed.fitted (formed_is p job form _ closed.formed closed.forms (checked_is found turns closed.width within))
+closed_is p job form turns found told closed within = fitted_is job closed.formed told closed.fitted (formed_is p job form _ closed.formed closed.forms (checked_is found turns closed.verdict within))
 
 gave_up_is : (osil osol : List ℕ) (c : Claim) → (c ≡ Unsure Memory None) ⊎ IsBestOfSearch osil osol c → claims_turn_limit c ≡ false
 gave_up_is osil osol c (inl is) = ap claims_turn_limit is
-gave_up_is osil osol c (inr best) = told_turned c (early best.moment.best Memory) best.tells ∙ early_is is_turn_limit best.moment.best Memory
+gave_up_is osil osol c (inr best) = told_turned c (early best.moment.best Memory) best.tells.cause ∙ early_is is_turn_limit best.moment.best Memory
 
 -- ---- the laws of the crates below
 
@@ -176,6 +202,20 @@ pub record Laws : Type 0 where
   pub nothing : (o : Options) (h : Handed) → ComesBack o → HandsIn (options_text o) h → h ≡ Nothing
   pub read_options : (bytes : List ℕ) (o : Options) (f : OsolFault) → IsOptionsText bytes o → DecodeFails bytes f → f ≡ options_faults.Memory
   pub read_instance : (bytes : List ℕ) (p : Parts) (f : OsilFault) → IsInstanceText bytes p → instances.DecodeFails bytes f → f ≡ instance_faults.Memory
+
+-- whatever is asked of a search, its moments are those of one of which nothing is
+comes_from : (P : Problem) (t : Terms) (a : Asked) (start : Option Found) (m : SearchMoment) (ks : List Carried) (xs : List (Option Ratio)) → ComesAsked P t a start m ks xs → ComesFrom P t start m
+comes_from P t a start m ks xs asked_first = begins
+comes_from P t a start m ks xs (asked_on {m = before} {k} {ks = ls} {x} {xs = ys} c far v new is) = goes_on (comes_from P t a start before (k ∷ ls) (x ∷ ys) c) (inr (inr v))
+comes_from P t a start m ks xs (asked_level {m = before} c none next) = goes_on (comes_from P t a start before [] [] c) next
+
+-- so it ends as that one does, or near enough to its bound
+asked_within : (P : Problem) (t : Terms) (a : Asked) (start : Option Found) (o : Outcome) (b : Option ProvedBound) (c : Clock) → (IsAnswerFrom P t start o c → is_out_of_turns o ≡ false) → AskedSearch P t a start o b c → is_out_of_turns o ≡ false
+asked_within P t a start o b c within s = by s.ends within
+  where
+    by : {p : Outcome} {d : Clock} → EndsAsked P t a s.last s.numbers p d → (IsAnswerFrom P t start p d → is_out_of_turns p ≡ false) → is_out_of_turns p ≡ false
+    by (near n) within = early_is is_turn_limit s.last.best Gap
+    by (ends_so far next) within = within (searched (record { last = s.last; comes = comes_from P t a start s.last s.carried s.numbers s.comes; ends = next }))
 
 ok_or_not : (a : Options) (f : OsolFault) → ◌≡◌ {A = Result Options OsolFault} (Ok a) (Err f) → ⊥
 ok_or_not a f e = cc
@@ -229,9 +269,10 @@ module _ (laws : Laws) (osil osol taken : List ℕ) (p : Parts) (text : IsInstan
       let enough : safe_limit (width (program s.given.parts)) (height (program s.given.parts)) ≡ Some its.limit = ap₂ safe_limit wide high ∙ told in
       let turns : s.given.options.turns ≡ its.limit = turns_are s.given.options s.given.options_text its in
       let found : is_out_of_turns s.outcome ≡ false =
-      laws.within (program s.given.parts) (job_terms s.given.options stop) s.start s.outcome _ its.limit (laws.numbers s.given.parts) (subst (λ (x : Parts). IsPlain (program x)) same plain) (subst (λ (x : Parts). HaveOneRange (program x)) same ranges) (subst (λ (x : Parts). BeginsFeasible (program x)) same feasible) enough (omega (arith, turns))
-      (subst (λ (P : Problem). IsAnswerFrom P (job_terms s.given.options stop) s.start s.outcome (record { turns = s.turns; looks = looks })) (alone_is s.given.parts (subst (λ (x : Parts). length x.goals ≡ 1) same single)) (searched s.ends)) in
-      ap (λ (x : Report). says_turn_limit x.claim) s.is ∙ ap says_turn_limit (noted_claim s.note (claim_report s.given.options.job s.told)) ∙ closed_is s.given.parts s.given.options.job s.given.options.form s.turns s.found s.told s.closed (told_turned s.found (renamed timed s.outcome) s.tells ∙ renamed_within timed s.outcome found)
+      asked_within (alone (program s.given.parts)) (job_terms s.given.options stop) (job_asked s.given.options) s.start s.outcome s.bound _
+      (laws.within (program s.given.parts) (job_terms s.given.options stop) s.start s.outcome _ its.limit (laws.numbers s.given.parts) (subst (λ (x : Parts). IsPlain (program x)) same plain) (subst (λ (x : Parts). HaveOneRange (program x)) same ranges) (subst (λ (x : Parts). BeginsFeasible (program x)) same feasible) enough (omega (arith, turns)))
+      (subst (λ (P : Problem). AskedSearch P (job_terms s.given.options stop) (job_asked s.given.options) s.start s.outcome s.bound (record { turns = s.turns; looks = looks })) (alone_is s.given.parts (subst (λ (x : Parts). length x.goals ≡ 1) same single)) s.ends) in
+      ap (λ (x : Report). says_turn_limit x.claim) s.is ∙ ap says_turn_limit (noted_claim s.note (claim_report s.given.options.job s.told)) ∙ closed_is s.given.parts s.given.options.job s.given.options.form s.turns s.found s.told s.closed (told_turned s.found (renamed timed s.outcome) s.tells.cause ∙ renamed_within timed s.outcome found)
 
   -- no result is handed in
   handed_within : (r : Report) → TakesOptions true osil osol taken → TakesHanded osil taken r → says_turn_limit r.claim ≡ false

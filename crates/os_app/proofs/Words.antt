@@ -1,6 +1,8 @@
 -- What the words of a run decide of it.
-use Rattle.std.proofs.Common.{◌≡◌, ◌∙◌, ℕ, ◌⊎◌, inl, inr, true, List, Option, Some, None, arith, refl, sym, subst}
+use Rattle.std.proofs.Common.{◌≡◌, ◌∙◌, ℕ, ◌<◌, ◌⊎◌, inl, inr, true, List, length, map, Option, Some, None, arith, refl, sym, subst}
+use Rattle.std.proofs.lemmas.List.{length-map}
 use Rattle.std.proofs.lemmas.Option.{none-some, same_Some}
+use Rattle.evidence.proofs.Columns.{by_lt}
 use Rattle.os_server.specs.declared.serve.Served.{Served}
 use Rattle.os_server.specs.declared.serve.Served.TheVariants.{Ended, CutShort, ReadFault, WriteFault, Memory}
 use Rattle.serving.specs.declared.ending.Ending.{Ending}
@@ -9,6 +11,7 @@ use Rattle.os_app.specs.Statuses.{serve_status}
 use Rattle.serving.specs.Serving as serving
 use Rattle.os_app.specs.Statuses.{session_status}
 pub use Rattle.command_line.proofs.Texts.{true_or_false}
+use Rattle.command_line.proofs.Commands.{name_asks_nothing}
 use Rattle.command_line.specs.Words.{Command, Session, Check, Solve, Generate, Call, Compact, Serve, asks, asks_for_links, names_files, AsksForNoLink, IsCheck, IsNoCommand, NamesNoFile}
 use Rattle.os_app.specs.Runs.{ProgramRun, ServesSession, IsUnheard, LeavesInput, RunEnds, served, hosted, unheard, AllFilesRead, Checks, EndsSo, asks_to_serve}
 use Rattle.serving.specs.declared.setup.Setup.{Setup}
@@ -21,6 +24,10 @@ some_or_none asked it some none = none-some it (sym none ∙ some)
 -- words ask for one thing
 pub one_command : (asked : Option Command) (a b : Command) → asked ≡ Some a → asked ≡ Some b → a ≡ b
 one_command asked a b first second = same_Some a b (sym first ∙ second)
+
+-- words that ask for something are more than the program's name
+pub more_words : {A : Type 0} (f : A → List ℕ) (words : List A) (it : Command) → asks (map f words) ≡ Some it → 1 < length words
+more_words f words it asked = by_lt 1 (length words) (λ more. more) (λ few. absurd (none-some it (sym (name_asks_nothing (map f words) (omega (arith, length-map words f, few))) ∙ asked)))
 
 -- a check is no other command
 abbrev pub IsOther : Command → Type 0

@@ -1,5 +1,5 @@
 //! What each command does, and the status that it ends with.
-ghost use Rattle.std.specs.Prelude.{◌≡◌, ℕ, List, map, Some, IfErr, IfOk, OnErr};
+ghost use Rattle.std.specs.Prelude.{◌≡◌, ◌≤◌, ◌<◌, ℕ, List, length, map, Some, IfErr, IfOk, OnErr};
 ghost use Rattle.std.specs.Process.{exit_status};
 ghost use Rattle.std.specs.String.{string_bytes};
 ghost use Rattle.os_io.specs.Files.{Held};
@@ -143,6 +143,8 @@ pub fn run_at_once<'w, T: Clock, F: Files, K: Stores, O: Sink, N: Listener>(
     ensures unread { NamesNoFile (map string_bytes words.now) → files.new ≡ files.old }
     ensures unlinked { AsksForNoLink (map string_bytes words.now) → net.new ≡ net.old }
     ensures unkept { NamesNoJournal (map string_bytes words.now) → stores.new ≡ stores.old }
+    ensures usage { IfOk result (λ status. length words.now ≤ 1 → IsTold 2 usage status (O.tells output.old) (O.tells output.new)) }
+    ensures has_words { OnErr result (1 < length words.now) }
 {
     match read_words(alloc, words) {
         Ok(Some(Asked::Session { journal })) => Err(Waits::Session { journal }),
@@ -246,7 +248,7 @@ where
 /// it, or would be too long; 5 where there was no memory; 6 where the listener failed; 7 where the bytes that came are no reply; 8 where the input ended
 /// inside a request; and 9 where the journal is damaged, and `damaged at` and the place were written in a line. Where there was no
 /// memory to read the words or to make the text that they ask for, or the journal wasn't opened, nothing is taken and no link is asked
-/// for, and nothing but that line is written.
+/// for, and nothing but that line is written. Where there are no words behind the program's name the usage takes no memory.
 pub fn run<F: Files, K: Stores, I: Source, O: Sink, N: Listener, R: Threads + Wait + Clock + Sync>(
     rt: &R,
     alloc: Global,
@@ -278,6 +280,7 @@ where
     ensures unread { NamesNoFile (map string_bytes words.now) → files.new ≡ files.old }
     ensures unlinked { AsksForNoLink (map string_bytes words.now) → net.new ≡ net.old }
     ensures unkept { NamesNoJournal (map string_bytes words.now) → stores.new ≡ stores.old }
+    ensures usage { length words.now ≤ 1 → IsTold 2 usage result (O.tells output.old) (O.tells output.new) }
 {
     match run_at_once(rt, alloc, words, files, stores, output, net) {
         Ok(status) => status,

@@ -11,32 +11,34 @@ use Rattle.fraction.specs.declared.frac.Frac.{Frac}
 use Rattle.decimal_text.specs.Count.{IsCount, most_count}
 use Rattle.decimal_text.specs.Exact.{ratio_text}
 use Rattle.decimal_text.proofs.RoundTrips.{count_read}
-use Rattle.decimal_text.proofs.OneRatio.{written_ratio}
 use Rattle.document_tags.specs.Elements.{unless_empty}
 use Rattle.tree_grammar.specs.Elements as tree
 use Rattle.document_tags.specs.Writing.{with_attribute, leaf, group, bare_root}
 use Rattle.tag_tests.specs.Forms.{AreTaken}
 use Rattle.tag_tests.proofs.Forms.{taken_both}
 use Rattle.tag_tests.proofs.Characters.{chars_taken}
+use Rattle.osol_grammar.specs.declared.gaps.Gap.{Gap}
 use Rattle.osol_grammar.specs.declared.limit.Limit.{Limit}
 use Rattle.osol_grammar.specs.declared.limit.Limit.TheVariants as limits
-use Rattle.osol_grammar.specs.declared.limit.Limit.TheVariants.{Rounds, Names, Form}
+use Rattle.osol_grammar.specs.declared.limit.Limit.TheVariants.{Rounds, Names, Form, Bound}
 use Rattle.osol_grammar.specs.declared.options.Options.{Options}
 use Rattle.osol_grammar.specs.declared.place.Place.{Place}
 use Rattle.osol_grammar.specs.declared.place.Place.TheVariants.{Outside, Osol, General, JobId, Job, MaxTime, Optimization, Variables, InitialValues, Var, SolverOptions, SolverOption}
 use Rattle.osol_grammar.specs.declared.standing.Standing.{Standing as State}
 use Rattle.osol_grammar.specs.Limits.{limit_row, amount_text}
-use Rattle.osol_grammar.specs.Options.{made, amount, with_amount, no_options, IsOption, IsAmountText, SaysAmount}
+use Rattle.osol_grammar.specs.Options.{made, amount, with_amount, no_options, IsOption, IsGapOption, IsAmountText, SaysAmount}
 use Rattle.osol_grammar.specs.Marked.{osol}
 use Rattle.osol_grammar.specs.Meaning.{IsOptions, IsOptionsText}
-use Rattle.osol_grammar.specs.Writing.{is_told, told_limits, option_nodes, time_nodes, values_nodes, first_nodes, limit_nodes, options_nodes, options_text}
-use Rattle.osol_grammar.specs.Back.{IsJobName, IsNameOrNone, IsTimeOrNone, AreFirstOrNone, ComesBack}
+use Rattle.osol_grammar.specs.Gaps.{SaysGap, gap_text}
+use Rattle.osol_grammar.specs.Writing.{is_told, told_limits, option_nodes, time_nodes, values_nodes, first_nodes, gap_nodes, options_nodes, options_text}
+use Rattle.osol_grammar.specs.Back.{IsJobName, IsNameOrNone, IsTimeOrNone, AreFirstOrNone, IsGapOrNone, ComesBack}
 use Rattle.osol_grammar.specs.Times.{SaysTime}
 use Rattle.osol_grammar.specs.FirstValues.{most_variables, SaysIndex, SaysValue, HasFirst, more_first}
-use Rattle.osol_grammar.proofs.SaidTimes.{time_read}
+use Rattle.osol_grammar.proofs.SaidTimes.{amount_read, time_read}
+use Rattle.osol_grammar.proofs.SaidGaps.{gap_read}
 use Rattle.osol_grammar.proofs.SaidValues.{index_once, cut_values, cut_more, cut_some, cut_none, cut_all, not_yet}
-use Rattle.osol_grammar.proofs.LimitTable.{each_passes, option_once}
-use Rattle.osol_grammar.proofs.WrittenText.{optimization, text_document, text_not_blank}
+use Rattle.osol_grammar.proofs.LimitTable.{rest_with, each_passes, option_once, not_gap}
+use Rattle.osol_grammar.proofs.WrittenText.{told_nodes, optimization, text_document, text_not_blank}
 
 abbrev at : Place → ℕ → ℕ → ℕ → ℕ → List ℕ → Options → State
 at p n j i u t o = record { place = p; depth = 0; count = n; job_at = j; time_at = i; unit = u; text = t; options = o }
@@ -50,8 +52,11 @@ Say s ms o = (z : State) × AreTaken osol s ms z × (o ≡ z.options)
 abbrev AreWithin : Options → Type 0
 AreWithin o = (l : Limit) → ((limit_row l).least ≤ amount o l) × (amount o l ≤ (limit_row l).most)
 
+abbrev named_option : (name value : List ℕ) → List Attribute
+named_option name value = with_attribute (codes "name") name (with_attribute (codes "value") value (with_attribute (codes "solver") (codes "os_cert") []))
+
 abbrev option_of : Limit → ℕ → List Attribute
-option_of l n = with_attribute (codes "name") (limit_row l).name (with_attribute (codes "value") (amount_text l n) (with_attribute (codes "solver") (codes "os_cert") []))
+option_of l n = named_option (limit_row l).name (amount_text l n)
 
 option_is : (l : Limit) (n : ℕ) → IsOption l (option_of l n)
 option_is l n = record { named = refl; meant = refl }
@@ -64,6 +69,7 @@ amount_said limits.Nodes n few count = count
 amount_said limits.Turns n few count = count
 amount_said Rounds n few count = count
 amount_said Names n few count = count
+amount_said Bound n few count = count
 
 amount_is : (l : Limit) (n : ℕ) → (limit_row l).least ≤ n → n ≤ (limit_row l).most → SaysAmount l (option_of l n) n
 amount_is l n above below =
@@ -75,17 +81,36 @@ abbrev with_amounts : Options → Options → List Limit → Options
 with_amounts q o [] = q
 with_amounts q o (l ∷ ls) = with_amounts (with_amount q l (amount o l)) o ls
 
-limits_say : (ls : List Limit) (n j i u : ℕ) (t : List ℕ) (o q : Options) (es : List Event) → AreWithin o → ((k : ℕ) → Say (at SolverOptions k j i u t (with_amounts q o ls)) (spread es) o)
-    → Say (at SolverOptions n j i u t q) (spread (nodes_events (option_nodes o ls) es)) o
-limits_say [] n j i u t o q es within more = more n
-limits_say (l ∷ ls) n j i u t o q es within more =
+limits_say : (ls : List Limit) (n j i u : ℕ) (t : List ℕ) (o q : Options) (behind : tree.Nodes) (es : List Event) → AreWithin o → ((k : ℕ) → Say (at SolverOptions k j i u t (with_amounts q o ls)) (spread (nodes_events behind es)) o)
+    → Say (at SolverOptions n j i u t q) (spread (nodes_events (option_nodes o ls behind) es)) o
+limits_say [] n j i u t o q behind es within more = more n
+limits_say (l ∷ ls) n j i u t o q behind es within more =
     let a = amount o l in
+    let as' = option_of l a in
     let p = with_amount q l a in
     let is = option_is l a in
     let says = amount_is l a (within l).0 (within l).1 in
-    let pass = λ (bad : (k : Limit) × IsOption k (option_of l a) × ((m : ℕ) → SaysAmount k (option_of l a) m → ⊥)). bad.2 a (subst (λ (k : Limit). SaysAmount k (option_of l a) a) (sym (option_once bad.0 l (option_of l a) bad.1 is)) says) in
-    let rest = limits_say ls (n + 1) j i u t o p es within more in
-    (rest.0, (at SolverOption (n + 1) j i u t p, ((pass, tt), (p, inl (l, a, is, says, refl), refl)), (at SolverOptions (n + 1) j i u t p, (tt, refl), rest.1)), rest.2)
+    let pass = λ (bad : (k : Limit) × IsOption k as' × ((m : ℕ) → SaysAmount k as' m → ⊥)). bad.2 a (subst (λ (k : Limit). SaysAmount k as' a) (sym (option_once bad.0 l as' bad.1 is)) says) in
+    let rest = limits_say ls (n + 1) j i u t o p behind es within more in
+    (rest.0, (at SolverOption (n + 1) j i u t p, ((pass, ((λ bad. not_gap l as' is bad.0), tt)), (p, inl (l, a, is, says, refl), refl)), (at SolverOptions (n + 1) j i u t p, (tt, refl), rest.1)), rest.2)
+
+-- they leave the gap
+gap_stays : (q o : Options) (ls : List Limit) → (with_amounts q o ls).gap ≡ q.gap
+gap_stays q o [] = refl
+gap_stays q o (l ∷ ls) = gap_stays (with_amount q l (amount o l)) o ls ∙ (rest_with q l (amount o l)).3
+
+-- ---- the gap, behind them
+
+gap_says : (gap : Option Gap) (n j i u : ℕ) (t : List ℕ) (o q : Options) (es : List Event) → q.gap ≡ None → IsGapOrNone gap → ((k : ℕ) → Say (at SolverOptions k j i u t (record q { gap = gap })) (spread es) o)
+    → Say (at SolverOptions n j i u t q) (spread (nodes_events (gap_nodes gap tree.none) es)) o
+gap_says None n j i u t o q es none is more = subst (λ (g : Option Gap). Say (at SolverOptions n j i u t (record q { gap = g })) (spread es) o) (sym none) (more n)
+gap_says (Some g) n j i u t o q es none is more =
+    let as' = named_option (codes "gap") (gap_text g) in
+    let own : IsGapOption as' = record { named = refl; meant = refl } in
+    let says : SaysGap as' g = gap_read g is in
+    let p = record q { gap = Some g } in
+    let rest = more (n + 1) in
+    (rest.0, (at SolverOption (n + 1) j i u t p, (((λ bad. not_gap bad.0 as' bad.1 own), ((λ bad. bad.1 g says), tt)), (p, inr (inl (g, own, says, refl)), refl)), (at SolverOptions (n + 1) j i u t p, (tt, refl), rest.1)), rest.2)
 
 abbrev named : Option (List ℕ) → Options
 named job = record no_options { job = job }
@@ -111,13 +136,15 @@ told_or_not o q l ls same = by (is_told o l) refl
         (sym same ∙ ap (λ (n : ℕ). with_amount q l n) (sym (untold (limit_row l).always (amount o l) (limit_row l).default e))))
 
 -- so all that is told says the options
-all_said : (job : Option (List ℕ)) (seconds : Option Frac) (first : Option (List (Option Frac))) (amounts : Limit → ℕ) → made job seconds first amounts ≡ with_amounts (begun job seconds first) (made job seconds first amounts) (told_limits (made job seconds first amounts))
-all_said job seconds first amounts =
-    let o = made job seconds first amounts in
+all_said : (job : Option (List ℕ)) (seconds : Option Frac) (first : Option (List (Option Frac))) (gap : Option Gap) (amounts : Limit → ℕ) → made job seconds first gap amounts ≡ record (with_amounts (begun job seconds first) (made job seconds first gap amounts) (told_limits (made job seconds first gap amounts))) { gap = gap }
+all_said job seconds first gap amounts =
+    let o = made job seconds first gap amounts in
     let limited = with_amount (with_amount (begun job seconds first) limits.Nodes o.nodes) limits.Turns o.turns in
     let rounded = with_amount limited Rounds o.rounds in
     let labelled = with_amount rounded Names o.names in
-    sym (told_or_not o limited Rounds (Names ∷ Form ∷ []) refl ∙ told_or_not o rounded Names (Form ∷ []) refl ∙ told_or_not o labelled Form [] refl)
+    let formed = with_amount labelled Form o.form in
+    let told = told_or_not o limited Rounds (Names ∷ Form ∷ Bound ∷ []) refl ∙ told_or_not o rounded Names (Form ∷ Bound ∷ []) refl ∙ told_or_not o labelled Form (Bound ∷ []) refl ∙ told_or_not o formed Bound [] refl in
+    ap (λ (p : Options). let z : Options = record p { gap = gap } in z) (sym told)
 
 -- ---- the first values
 
@@ -132,7 +159,7 @@ index_is : (n : ℕ) (x : Frac) → n < most_variables → SaysIndex (value_of_v
 index_is n x low = (count_read n (omega (arith, low)), low)
 
 value_is : (n : ℕ) (x : Frac) → SaysValue (value_of_var n x) x
-value_is n x = inl (written_ratio (ratio x) (x.above, x.reduced) (x.numer_within, x.denom_within))
+value_is n x = amount_read x
 
 -- behind the values us the values vs are read
 values_say : (vs us : List (Option Frac)) (d n j i u : ℕ) (t : List ℕ) (o q : Options) (es : List Event) → d ≡ length us → length us + length vs ≤ most_variables → ((k : ℕ) → Say (at InitialValues k j i u t (with_cut q (us ++ vs))) (spread es) o)
@@ -169,13 +196,17 @@ first_says (Some vs) n j i u t o q behind es are more =
     (rest.0, (at Variables (n + 1) j i u t (record q { first = None }), (tt, refl), (at InitialValues (n + 1 + 1) j i u t (record q { first = None }), (tt, refl), rest.1)), rest.2)
 
 -- and what stands round them
-optimization_says : (n j i u : ℕ) (t : List ℕ) (o q : Options) → AreFirstOrNone o.first → AreWithin o → o ≡ with_amounts (record q { first = o.first }) o (told_limits o) → Say (at Osol n j i u t (record q { first = None })) (spread (nodes_events (optimization o) (Close (codes "osol") ∷ []))) o
-optimization_says n j i u t o q are within is =
+optimization_says : (n j i u : ℕ) (t : List ℕ) (o q : Options) → q.gap ≡ None → AreFirstOrNone o.first → IsGapOrNone o.gap → AreWithin o → o ≡ record (with_amounts (record q { first = o.first }) o (told_limits o)) { gap = o.gap }
+    → Say (at Osol n j i u t (record q { first = None })) (spread (nodes_events (optimization o) (Close (codes "osol") ∷ []))) o
+optimization_says n j i u t o q none are above within is =
     let r = record q { first = o.first } in
     let p = with_amounts r o (told_limits o) in
-    let limits = λ (m : ℕ). limits_say (told_limits o) (m + 1) j i u t o r (Close (codes "solverOptions") ∷ Close (codes "optimization") ∷ Close (codes "osol") ∷ []) within
-    (λ k. (at Outside k j i u t p, (at Optimization k j i u t p, (tt, refl), (at Osol k j i u t p, (tt, refl), (at Outside k j i u t p, (tt, refl), refl))), is)) in
-    let rest = first_says o.first (n + 1) j i u t o q (group (codes "solverOptions") (limit_nodes o) tree.none) (Close (codes "optimization") ∷ Close (codes "osol") ∷ []) are
+    let z : Options = record p { gap = o.gap } in
+    let ends = Close (codes "solverOptions") ∷ Close (codes "optimization") ∷ Close (codes "osol") ∷ [] in
+    let gap = λ (m : ℕ). gap_says o.gap m j i u t o p ends (gap_stays r o (told_limits o) ∙ none) above
+    (λ k. (at Outside k j i u t z, (at Optimization k j i u t z, (tt, refl), (at Osol k j i u t z, (tt, refl), (at Outside k j i u t z, (tt, refl), refl))), is)) in
+    let limits = λ (m : ℕ). limits_say (told_limits o) (m + 1) j i u t o r (gap_nodes o.gap tree.none) ends within gap in
+    let rest = first_says o.first (n + 1) j i u t o q (group (codes "solverOptions") (told_nodes o) tree.none) (Close (codes "optimization") ∷ Close (codes "osol") ∷ []) are
     (λ k. let told = limits k in (told.0, (at SolverOptions (k + 1) j i u t r, (tt, refl), told.1), told.2)) in
     (rest.0, (at Optimization (n + 1) j i u t (record q { first = None }), (tt, refl), rest.1), rest.2)
 
@@ -205,13 +236,13 @@ timed_says text s n j t o q es says more = by text says more
     by (c ∷ cs) says more = opened (map Char (c ∷ cs) ++ (Finish (codes "maxTime") ∷ Finish (codes "job") ∷ spread es)) (heard_says (c ∷ cs) says more)
 
 -- what stands behind the job's name says the time, if there is one, and the rest
-rest_says : (job : Option (List ℕ)) (seconds : Option Frac) (first : Option (List (Option Frac))) (amounts : Limit → ℕ) (n j : ℕ) (t : List ℕ) → IsTimeOrNone seconds → AreFirstOrNone first → AreWithin (made job seconds first amounts)
-    → Say (at Osol n j 0 1 t (named job)) (spread (nodes_events (time_nodes seconds (optimization (made job seconds first amounts))) (Close (codes "osol") ∷ []))) (made job seconds first amounts)
-rest_says job None first amounts n j t is are within = optimization_says n j 0 1 t (made job None first amounts) (named job) are within (all_said job None first amounts)
-rest_says job (Some s) first amounts n j t is are within =
-    let o = made job (Some s) first amounts in
+rest_says : (job : Option (List ℕ)) (seconds : Option Frac) (first : Option (List (Option Frac))) (gap : Option Gap) (amounts : Limit → ℕ) (n j : ℕ) (t : List ℕ) → IsTimeOrNone seconds → AreFirstOrNone first → IsGapOrNone gap → AreWithin (made job seconds first gap amounts)
+    → Say (at Osol n j 0 1 t (named job)) (spread (nodes_events (time_nodes seconds (optimization (made job seconds first gap amounts))) (Close (codes "osol") ∷ []))) (made job seconds first gap amounts)
+rest_says job None first gap amounts n j t is are above within = optimization_says n j 0 1 t (made job None first gap amounts) (named job) refl are above within (all_said job None first gap amounts)
+rest_says job (Some s) first gap amounts n j t is are above within =
+    let o = made job (Some s) first gap amounts in
     let text = ratio_text (ratio s) in
-    timed_says text s n j t o (named job) (after_time o) (time_read s is) (optimization_says (n + 1 + 1) j (n + 1 + 1) 1 text o (timed job (Some s)) are within (all_said job (Some s) first amounts))
+    timed_says text s n j t o (named job) (after_time o) (time_read s is) (optimization_says (n + 1 + 1) j (n + 1 + 1) 1 text o (timed job (Some s)) refl are above within (all_said job (Some s) first gap amounts))
 
 -- ---- the job's name
 
@@ -229,15 +260,16 @@ named_says name q o more is says =
 
 -- ---- the whole document
 
-root_says : (job : Option (List ℕ)) (seconds : Option Frac) (first : Option (List (Option Frac))) (amounts : Limit → ℕ) → IsNameOrNone job → IsTimeOrNone seconds → AreFirstOrNone first → AreWithin (made job seconds first amounts) → IsOptions (bare_root (codes "osol") (options_nodes (made job seconds first amounts))) (made job seconds first amounts)
-root_says None seconds first amounts is time are within =
-    let rest = rest_says None seconds first amounts 1 0 [] time are within in
+root_says : (job : Option (List ℕ)) (seconds : Option Frac) (first : Option (List (Option Frac))) (gap : Option Gap) (amounts : Limit → ℕ) → IsNameOrNone job → IsTimeOrNone seconds → AreFirstOrNone first → IsGapOrNone gap → AreWithin (made job seconds first gap amounts)
+    → IsOptions (bare_root (codes "osol") (options_nodes (made job seconds first gap amounts))) (made job seconds first gap amounts)
+root_says None seconds first gap amounts is time are above within =
+    let rest = rest_says None seconds first gap amounts 1 0 [] time are above within in
     (rest.0, (at Osol 1 0 0 1 [] no_options, (tt, refl), rest.1), rest.2)
-root_says (Some []) seconds first amounts is time are within = absurd (is.some refl)
-root_says (Some (c ∷ cs)) seconds first amounts is time are within =
+root_says (Some []) seconds first gap amounts is time are above within = absurd (is.some refl)
+root_says (Some (c ∷ cs)) seconds first gap amounts is time are above within =
     let name = c ∷ cs in
-    let o = made (Some name) seconds first amounts in
-    let rest = named_says name no_options o (nodes_events (time_nodes seconds (optimization o)) (Close (codes "osol") ∷ [])) is (rest_says (Some name) seconds first amounts 3 3 name time are within) in
+    let o = made (Some name) seconds first gap amounts in
+    let rest = named_says name no_options o (nodes_events (time_nodes seconds (optimization o)) (Close (codes "osol") ∷ [])) is (rest_says (Some name) seconds first gap amounts 3 3 name time are above within) in
     (rest.0, (at Osol 1 0 0 1 [] no_options, (tt, refl), (at General 2 0 0 1 [] no_options, (tt, refl), (at JobId 3 3 0 1 [] no_options, (((λ twice. omega (arith, twice)), tt), refl), rest.1))), rest.2)
 
 pub text_says : (o : Options) → ComesBack o → IsOptionsText (options_text o) o
@@ -246,6 +278,6 @@ text_says o back = inr (
   record {
     root = bare_root (codes "osol") (options_nodes o);
     document = text_document o back;
-    is = root_says o.job o.seconds o.first (amount o) back.job back.seconds back.first (λ l. (back.above l, back.below l));
+    is = root_says o.job o.seconds o.first o.gap (amount o) back.job back.seconds back.first back.gap (λ l. (back.above l, back.below l));
   },
 )

@@ -2,6 +2,7 @@ pub mod LimitTable
 pub mod SaidAmounts
 pub mod SaidTimes
 mod SaidValues
+pub mod SaidGaps
 pub mod OneState
 pub mod OneAnswer
 pub mod WrittenLimits

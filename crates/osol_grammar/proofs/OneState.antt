@@ -7,8 +7,9 @@ use Rattle.decimal_text.proofs.OneNumber.{count_once}
 use Rattle.document_tags.specs.Elements.{value_of}
 use Rattle.document_tags.proofs.SomeAnd.{some_once}
 use Rattle.tag_tests.specs.Forms.{LeavesOne}
+use Rattle.osol_grammar.specs.declared.gaps.Gap.{Gap}
 use Rattle.osol_grammar.specs.declared.limit.Limit.{Limit}
-use Rattle.osol_grammar.specs.declared.limit.Limit.TheVariants.{Nodes, Turns, Rounds, Names, Form}
+use Rattle.osol_grammar.specs.declared.limit.Limit.TheVariants.{Nodes, Turns, Rounds, Names, Form, Bound}
 use Rattle.osol_grammar.specs.Limits.{IsFormWord}
 use Rattle.osol_grammar.specs.declared.options.Options.{Options}
 use Rattle.osol_grammar.specs.declared.place.Place.TheVariants.{Job, MaxTime, Var, SolverOption}
@@ -20,7 +21,8 @@ use Rattle.osol_grammar.specs.Options.{IsAmountText, SaysAmount, with_amount, wi
 use Rattle.osol_grammar.specs.Table.{kind, into, Begins, Ends, Leaves}
 use Rattle.tag_tests.specs.Places.{Kind, begins, ends}
 use Rattle.osol_grammar.specs.Marked.{osol}
-use Rattle.osol_grammar.proofs.LimitTable.{option_once}
+use Rattle.osol_grammar.proofs.LimitTable.{option_once, not_gap}
+use Rattle.osol_grammar.proofs.SaidGaps.{gap_once}
 use Rattle.osol_grammar.proofs.SaidTimes.{time_once}
 use Rattle.osol_grammar.proofs.SaidValues.{index_once, value_once}
 
@@ -39,6 +41,7 @@ amount_text_once Turns = count_once
 amount_text_once Rounds = count_once
 amount_text_once Names = count_once
 amount_text_once Form = form_once
+amount_text_once Bound = count_once
 
 amount_once : (l : Limit) (as' : List Attribute) (n m : ℕ) → SaysAmount l as' n → SaysAmount l as' m → n ≡ m
 amount_once l as' n m h k = some_once (IsAmountText l) (amount_text_once l) (value_of (codes "value") as') n m h.0 k.0
@@ -48,9 +51,14 @@ says_once as' o p q (inl (l, n, is, says, e)) (inl (k, m, at, tells, f)) =
     let same : l ≡ k = option_once l k as' is at in
     let amounts = amount_once k as' n m (subst (λ (i : Limit). SaysAmount i as' n) same says) tells in
     e ∙ ap (λ (i : Limit). with_amount o i n) same ∙ ap (λ (x : ℕ). with_amount o k x) amounts ∙ sym f
-says_once as' o p q (inl (l, n, is, says, e)) (inr h) = absurd (h.0 l is)
-says_once as' o p q (inr h) (inl (k, m, at, tells, f)) = absurd (h.0 k at)
-says_once as' o p q (inr h) (inr g) = h.1 ∙ sym g.1
+says_once as' o p q (inr (inl (g, is, says, e))) (inr (inl (h, at, tells, f))) = e ∙ ap (λ (x : Gap). let z : Options = record o { gap = Some x } in z) (gap_once as' g h says tells) ∙ sym f
+says_once as' o p q (inr (inr h)) (inr (inr g)) = h.2 ∙ sym g.2
+says_once as' o p q (inl (l, n, is, says, e)) (inr (inl (h, at, tells, f))) = absurd (not_gap l as' is at)
+says_once as' o p q (inl (l, n, is, says, e)) (inr (inr h)) = absurd (h.0 l is)
+says_once as' o p q (inr (inl (g, is, says, e))) (inl (k, m, at, tells, f)) = absurd (not_gap k as' at is)
+says_once as' o p q (inr (inl (g, is, says, e))) (inr (inr h)) = absurd (h.1 is)
+says_once as' o p q (inr (inr h)) (inl (k, m, at, tells, f)) = absurd (h.0 k at)
+says_once as' o p q (inr (inr h)) (inr (inl (g, at, tells, f))) = absurd (h.1 at)
 
 begins_once : (s : State) (as' : List Attribute) (l : Led Place) (a b : State) → Begins s as' l a → Begins s as' l b → a ≡ b
 begins_once s as' (To SolverOption) a b (o, x, e) (p, y, f) = e ∙ ap (λ (q : Options). let z : State = record (into s SolverOption) { options = q } in z) (says_once as' s.options o p x y) ∙ sym f

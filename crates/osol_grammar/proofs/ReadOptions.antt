@@ -1,6 +1,6 @@
 -- The options that a document says may be written: their job's name is one, of characters of XML without white space round them and of at most 256 bytes, and their limits are such as they may be.
-use Rattle.std.proofs.Common.{◌≡◌, ℕ, zero, suc, ◌<◌, ◌≤◌, inl, inr, List, [], ◌∷◌, ◌++◌, length, leb, refl, sym, subst}
-use Rattle.std.specs.Prelude.{map}
+use Rattle.std.proofs.Common.{◌≡◌, ℕ, zero, suc, ◌<◌, ◌≤◌, inl, inr, Option, None, Some, List, [], ◌∷◌, ◌++◌, length, leb, refl, sym, subst}
+use Rattle.std.specs.Prelude.{IsSomeAnd, map, codes}
 use Rattle.std.proofs.lemmas.Bool.{cases_lt, leb-true}
 use Rattle.tree_grammar.specs.Characters.{IsXmlText}
 use Rattle.tree_grammar.specs.Document.{Doc}
@@ -8,7 +8,7 @@ use Rattle.tree_grammar.specs.Elements.{Attribute, Nodes, none, element, chars, 
 use Rattle.doc_tree.specs.Marks.{Char, spread}
 use Rattle.tree_grammar.proofs.XmlTexts.{clean_nothing}
 use Rattle.document_tags.specs.Characters.{NodesOfCharacters, IsOfCharacters}
-use Rattle.document_tags.specs.Elements.{unless_empty}
+use Rattle.document_tags.specs.Elements.{unless_empty, value_of}
 use Rattle.decimal_text.specs.Space.{trimmed}
 use Rattle.decimal_text.proofs.Trims.{space_low, trimmed_keeps, trimmed_again}
 use Rattle.tag_tests.specs.Tests.{AllPass}
@@ -16,6 +16,7 @@ use Rattle.tag_tests.specs.Forms.{AreTaken}
 use Rattle.tag_tests.proofs.Forms.{taken_parts}
 use Rattle.tag_tests.proofs.Characters.{chars_leave}
 use Rattle.tag_tests.proofs.KeptTexts.{kept_xml}
+use Rattle.osol_grammar.specs.declared.gaps.Gap.{Gap}
 use Rattle.osol_grammar.specs.declared.limit.Limit.{Limit}
 use Rattle.osol_grammar.specs.declared.options.Options.{Options}
 use Rattle.osol_grammar.specs.declared.place.Place.{Place}
@@ -24,16 +25,17 @@ use Rattle.tag_tests.specs.declared.places.Led.{Led}
 use Rattle.tag_tests.specs.declared.places.Led.TheVariants.{To, OtherRoot}
 use Rattle.osol_grammar.specs.declared.standing.Standing.{Standing as State}
 use Rattle.osol_grammar.specs.Limits.{limit_row}
-use Rattle.osol_grammar.specs.Options.{amount, no_options, with_first, SaysOption}
-use Rattle.osol_grammar.specs.FirstValues.{SaysIndex}
+use Rattle.osol_grammar.specs.Options.{amount, no_options, SaysOption}
+use Rattle.osol_grammar.specs.Gaps.{IsGapText, SaysGap}
+use Rattle.osol_grammar.specs.FirstValues.{more_first}
 use Rattle.fraction.specs.declared.frac.Frac.{Frac}
 use Rattle.osol_grammar.specs.Table.{start, content, tests, Fails, Begins, is_text, Leaves}
 use Rattle.tag_tests.specs.Places.{led_from, end_kind}
 use Rattle.tag_tests.specs.Contents.{leads_by, keeps_in}
 use Rattle.osol_grammar.specs.Marked.{osol}
 use Rattle.osol_grammar.specs.Meaning.{IsOptionsText}
-use Rattle.osol_grammar.specs.Back.{IsNameOrNone, IsTimeOrNone, AreFirstOrNone, ComesBack}
-use Rattle.osol_grammar.proofs.LimitTable.{amount_with, job_with, time_with, first_with, amount_first, each_passes}
+use Rattle.osol_grammar.specs.Back.{IsNameOrNone, IsTimeOrNone, AreFirstOrNone, IsGapOrNone, ComesBack}
+use Rattle.osol_grammar.proofs.LimitTable.{amount_with, rest_with, amount_beside, each_passes}
 use Rattle.osol_grammar.proofs.SaidValues.{first_back}
 
 -- ---- limits
@@ -43,16 +45,37 @@ none_back = record {
   job = tt;
   seconds = tt;
   first = tt;
+  gap = tt;
   above = λ l. leb-true (limit_row l).least (amount no_options l) (each_passes (λ k. leb (limit_row k).least (amount no_options k)) refl l);
   below = λ l. leb-true (amount no_options l) (limit_row l).most (each_passes (λ k. leb (amount no_options k) (limit_row k).most) refl l);
 }
 
+-- so are they with other first values and another gap
+beside_back : (o : Options) (first : Option (List (Option Frac))) (gap : Option Gap) → AreFirstOrNone first → IsGapOrNone gap → ComesBack o → ComesBack (record o { first = first; gap = gap })
+beside_back o first gap are is back = record {
+  job = back.job;
+  seconds = back.seconds;
+  first = are;
+  gap = is;
+  above = λ l. subst (λ (k : ℕ). (limit_row l).least ≤ k) (sym (amount_beside o first gap l)) (back.above l);
+  below = λ l. subst (λ (k : ℕ). k ≤ (limit_row l).most) (sym (amount_beside o first gap l)) (back.below l);
+}
+
+gap_above : (as' : List Attribute) (g : Gap) → SaysGap as' g → IsGapOrNone (Some g)
+gap_above as' g says = by (value_of (codes "value") as') says
+  where
+    by : (text : Option (List ℕ)) → IsSomeAnd text (λ t. IsGapText t g) → IsGapOrNone (Some g)
+    by None says = absurd says
+    by (Some t) says = says.above
+
 option_back : (as' : List Attribute) (o p : Options) → SaysOption as' o p → ComesBack o → ComesBack p
-option_back as' o p (inr h) back = subst ComesBack (sym h.1) back
+option_back as' o p (inr (inr h)) back = subst ComesBack (sym h.2) back
+option_back as' o p (inr (inl (g, is, says, e))) back = subst ComesBack (sym e) (beside_back o o.first (Some g) back.first (gap_above as' g says) back)
 option_back as' o p (inl (l, n, is, says, e)) back = subst ComesBack (sym e) (record {
-  job = subst IsNameOrNone (sym (job_with o l n)) back.job;
-  seconds = subst IsTimeOrNone (sym (time_with o l n)) back.seconds;
-  first = subst AreFirstOrNone (sym (first_with o l n)) back.first;
+  job = subst IsNameOrNone (sym (rest_with o l n).0) back.job;
+  seconds = subst IsTimeOrNone (sym (rest_with o l n).1) back.seconds;
+  first = subst AreFirstOrNone (sym (rest_with o l n).2) back.first;
+  gap = subst IsGapOrNone (sym (rest_with o l n).3) back.gap;
   above = λ k. elim (amount_with o l n k) [
     | inl own ↦ subst (λ (x : ℕ). (limit_row k).least ≤ x) (sym own.1) (subst (λ (i : Limit). (limit_row i).least ≤ n) (sym own.0) says.1)
     | inr other ↦ subst (λ (x : ℕ). (limit_row k).least ≤ x) (sym other) (back.above k)
@@ -62,21 +85,6 @@ option_back as' o p (inl (l, n, is, says, e)) back = subst ComesBack (sym e) (re
     | inr other ↦ subst (λ (x : ℕ). x ≤ (limit_row k).most) (sym other) (back.below k)
   ];
 })
-
-value_back : (as' : List Attribute) (o : Options) (n : ℕ) (x : Frac) → SaysIndex as' n → ComesBack o → ComesBack (with_first o n x)
-value_back as' o n x says back = record {
-  job = back.job;
-  seconds = back.seconds;
-  first = first_back o.first n x says.1 back.first;
-  above = value_above o n x back;
-  below = value_below o n x back;
-}
-  where
-    value_above : (o : Options) (n : ℕ) (x : Frac) → ComesBack o → (l : Limit) → (limit_row l).least ≤ amount (with_first o n x) l
-    value_above o n x back l = subst (λ (k : ℕ). (limit_row l).least ≤ k) (sym (amount_first o n x l)) (back.above l)
-
-    value_below : (o : Options) (n : ℕ) (x : Frac) → ComesBack o → (l : Limit) → amount (with_first o n x) l ≤ (limit_row l).most
-    value_below o n x back l = subst (λ (k : ℕ). k ≤ (limit_row l).most) (sym (amount_first o n x l)) (back.below l)
 
 -- ---- the texts of documents
 
@@ -100,7 +108,7 @@ record IsGood (s : State) : Type 0 where
 
 begin_good : (s z : State) (as' : List Attribute) (l : Led Place) → Begins s as' l z → IsGood s → IsGood z
 begin_good s z as' (To SolverOption) (o, says, e) g = subst IsGood (sym e) (record { text = g.text; back = option_back as' s.options o says g.back })
-begin_good s z as' (To Var) (n, x, is, says, e) g = subst IsGood (sym e) (record { text = g.text; back = value_back as' s.options n x is g.back })
+begin_good s z as' (To Var) (n, x, is, says, e) g = subst IsGood (sym e) (record { text = g.text; back = let o = s.options in beside_back o (more_first o.first n x) o.gap (first_back o.first n x is.1 g.back.first) g.back.gap g.back })
 begin_good s z as' (To JobId) e g = subst IsGood (sym e) (record { text = clean_nothing.text; back = g.back })
 begin_good s z as' (To MaxTime) (n, is, e) g = subst IsGood (sym e) (record { text = clean_nothing.text; back = g.back })
 begin_good s z as' OtherRoot e g = absurd e
@@ -123,9 +131,9 @@ module _ (of_characters : (bytes : List ℕ) (root : Element) → Doc bytes root
       let short : length (trimmed s.text) ≤ 256 = elim (cases_lt 256 (length (trimmed s.text))) [ inl long ↦ absurd (pass.0 long) | inr few ↦ few ] in
       subst IsGood (sym e) (record {
         text = g.text;
-        back = record { job = none_or_name (trimmed s.text) short (trimmed_again s.text) (trimmed_xml s.text g.text); seconds = g.back.seconds; first = g.back.first; above = g.back.above; below = g.back.below };
+        back = record { job = none_or_name (trimmed s.text) short (trimmed_again s.text) (trimmed_xml s.text g.text); seconds = g.back.seconds; first = g.back.first; gap = g.back.gap; above = g.back.above; below = g.back.below };
       })
-  end_good s z zero MaxTime pass (x, says, e) g = subst IsGood (sym e) (record { text = g.text; back = record { job = g.back.job; seconds = says.is; first = g.back.first; above = g.back.above; below = g.back.below } })
+  end_good s z zero MaxTime pass (x, says, e) g = subst IsGood (sym e) (record { text = g.text; back = record { job = g.back.job; seconds = says.is; first = g.back.first; gap = g.back.gap; above = g.back.above; below = g.back.below } })
   end_good s z zero p pass e g = subst IsGood (sym e) (record { text = g.text; back = g.back })
   end_good s z (suc d) p pass e g = subst IsGood (sym e) (record { text = g.text; back = g.back })
 

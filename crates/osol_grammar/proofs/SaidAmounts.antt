@@ -5,7 +5,7 @@ use Rattle.tree_grammar.specs.Elements.{Attribute}
 use Rattle.document_tags.specs.Elements.{value_of}
 use Rattle.decimal_text.specs.Count.{IsCount}
 use Rattle.osol_grammar.specs.declared.limit.Limit.{Limit}
-use Rattle.osol_grammar.specs.declared.limit.Limit.TheVariants.{Nodes, Turns, Rounds, Names, Form}
+use Rattle.osol_grammar.specs.declared.limit.Limit.TheVariants.{Nodes, Turns, Rounds, Names, Form, Bound}
 use Rattle.osol_grammar.specs.Limits.{limit_row}
 use Rattle.osol_grammar.specs.Options.{IsAmountText, SaysAmount}
 
@@ -14,13 +14,15 @@ counts Nodes text n other = (λ x. x, λ x. x)
 counts Turns text n other = (λ x. x, λ x. x)
 counts Rounds text n other = (λ x. x, λ x. x)
 counts Names text n other = (λ x. x, λ x. x)
+counts Bound text n other = (λ x. x, λ x. x)
 counts Form text n other = absurd (other refl)
 
-pub no_form : (l : Limit) → (l ≡ Nodes) ⊎ (l ≡ Turns) ⊎ (l ≡ Rounds) ⊎ (l ≡ Names) → l ≡ Form → ⊥
+pub no_form : (l : Limit) → (l ≡ Nodes) ⊎ (l ≡ Turns) ⊎ (l ≡ Rounds) ⊎ (l ≡ Names) ⊎ (l ≡ Bound) → l ≡ Form → ⊥
 no_form l (inl e) f = cc
 no_form l (inr (inl e)) f = cc
 no_form l (inr (inr (inl e))) f = cc
-no_form l (inr (inr (inr e))) f = cc
+no_form l (inr (inr (inr (inl e)))) f = cc
+no_form l (inr (inr (inr (inr e)))) f = cc
 
 -- the count of a value is its amount, and none is none
 pub counted : (l : Limit) (as' : List Attribute) (text : List ℕ) (r : Option ℕ) → (l ≡ Form → ⊥) → value_of (codes "value") as' ≡ Some text

@@ -1,5 +1,5 @@
--- A text says one time, and the time that was written of seconds is read as these.
-use Rattle.std.proofs.Common.{◌≡◌, ◌*◌, ◌<◌, inl, inr, ℕ, ℤ, pos, Ok, List, refl, ap, sym, subst, arith}
+-- A text says one number and one time, and the number that was written, or the time that was written of seconds, is read as these.
+use Rattle.std.proofs.Common.{◌≡◌, ◌*◌, ◌<◌, inl, inr, ℕ, ℤ, pos, Ok, List, refl, sym, subst, arith}
 use Rattle.rational.specs.Ratio.{Ratio, whole, product, IsSame}
 use Rattle.rational.specs.Width.{IsReduced, IsWithin, ReducedFits}
 use Rattle.rational.proofs.Scaling.{IsSame-trans}
@@ -8,7 +8,7 @@ use Rattle.fraction.specs.declared.frac.Frac.{Frac}
 use Rattle.fraction.proofs.Order.{same_fraction}
 use Rattle.decimal_text.specs.declared.fault.DecimalFault.{DecimalFault}
 use Rattle.decimal_text.specs.declared.fault.DecimalFault.TheVariants.{NotNumber, Wide, NotDecimal, Memory}
-use Rattle.decimal_text.specs.Decimal.{DecimalGrammar, IsDecimal, IsWideDecimal}
+use Rattle.decimal_text.specs.Decimal.{DecimalGrammar, IsWideDecimal}
 use Rattle.decimal_text.specs.Exact.{RatioText, ratio_text}
 use Rattle.decimal_text.specs.Fault.{RefusesText, RefusesRatio}
 use Rattle.decimal_text.specs.Space.{trimmed}
@@ -40,6 +40,10 @@ no_ratio text Memory refuses y form = refuses
 pub no_amount : (text : List ℕ) (fault other : DecimalFault) → RefusesRatio text fault → RefusesText DecimalGrammar (IsWideDecimal text) (trimmed text) other → (y : Frac) → IsAmount text y → ⊥
 no_amount text fault other refuses refuses_too y (inl form) = no_ratio text fault refuses y form
 no_amount text fault other refuses refuses_too y (inr is) = decimal_refused (ratio y) text other is.1 refuses_too
+
+-- a number that was written is read
+pub amount_read : (x : Frac) → IsAmount (ratio_text (ratio x)) x
+amount_read x = inl (written_ratio (ratio x) (x.above, x.reduced) (x.numer_within, x.denom_within))
 
 -- ---- times
 
@@ -80,4 +84,4 @@ by_one n d =
     rw (times_one n, below) refl
 
 pub time_read : (s : Frac) → IsTime s → SaysTime 1 (ratio_text (ratio s)) s
-time_read s is = record { amount = s; written = inl (written_ratio (ratio s) (s.above, s.reduced) (s.numer_within, s.denom_within)); times = by_one s.numer s.denom; is = is }
+time_read s is = record { amount = s; written = amount_read s; times = by_one s.numer s.denom; is = is }

@@ -1,5 +1,5 @@
 -- The options of limits, told.
-use Rattle.std.proofs.Common.{◌≡◌, ◌∙◌, ℕ, Option, None, Some, Result, List, [], ◌++◌, refl, ap, subst}
+use Rattle.std.proofs.Common.{◌≡◌, ◌∙◌, ℕ, Option, None, Some, Result, List, [], ◌∷◌, ◌++◌, refl, ap, subst}
 use Rattle.std.specs.Prelude.{OnOk, codes, decimal}
 use Rattle.fraction.specs.Frac.{ratio}
 use Rattle.decimal_text.specs.Exact.{ratio_text}
@@ -11,9 +11,7 @@ use Rattle.document_tags.proofs.Tellings.{told_after, ends_told, attributes_then
 use Rattle.fraction.specs.declared.frac.Frac.{Frac}
 use Rattle.osol_grammar.specs.declared.limit.Limit.{Limit}
 use Rattle.osol_grammar.specs.declared.options.Options.{Options}
-use Rattle.osol_grammar.specs.Limits.{limit_row, amount_text}
-use Rattle.osol_grammar.specs.Options.{amount}
-use Rattle.osol_grammar.specs.Writing.{limit_node, job_nodes, time_nodes, value_nodes, first_nodes}
+use Rattle.osol_grammar.specs.Writing.{option_node, limit_node, option_nodes, job_nodes, time_nodes, value_nodes, first_nodes}
 
 abbrev three : (name value : List ℕ) → List Attribute
 three name value = with_attribute (codes "name") name (with_attribute (codes "value") value (with_attribute (codes "solver") (codes "os_cert") []))
@@ -22,13 +20,21 @@ waiting : (a b c : Building) (name value : List ℕ) → a.attributes ≡ [] →
 waiting a b c name value no_wait first second =
     ap (λ (l : List Attribute). l ++ with_attribute (codes "solver") (codes "os_cert") []) (second.waiting ∙ ap (λ (l : List Attribute). l ++ with_attribute (codes "value") value []) (first.waiting ∙ ap (λ (l : List Attribute). l ++ with_attribute (codes "name") name []) no_wait))
 
-pub limit_told : {X E : Type 0} (r : Result X E) (a b c d e : Building) (o : Options) (l : Limit) (name value : List ℕ) → a.attributes ≡ [] → name ≡ (limit_row l).name → value ≡ amount_text l (amount o l)
-    → ToldAttributes a b (with_attribute (codes "name") name []) → ToldAttributes b c (with_attribute (codes "value") value [])
-    → Told c d (opening (codes "solverOption") (c.attributes ++ with_attribute (codes "solver") (codes "os_cert") [])) → OnOk r (Told d e (closing (codes "solverOption"))) → OnOk r (Told a e (λ k. nodes_events (limit_node o l none) k))
-limit_told {X} {E} r a b c d e o l name value no_wait is_name is_value first second begins ends =
-    let attributes : c.attributes ++ with_attribute (codes "solver") (codes "os_cert") [] ≡ three (limit_row l).name (amount_text l (amount o l)) = waiting a b c name value no_wait first second ∙ ap (λ (n : List ℕ). three n value) is_name ∙ ap (λ (v : List ℕ). three (limit_row l).name v) is_value in
-    let opened : Told c d (opening (codes "solverOption") (three (limit_row l).name (amount_text l (amount o l)))) = subst (λ (as' : List Attribute). Told c d (opening (codes "solverOption") as')) attributes begins in
-    ends_told r a d e (opening (codes "solverOption") (three (limit_row l).name (amount_text l (amount o l)))) (closing (codes "solverOption")) (told_after a c d _ (attributes_then a b c _ _ first second) opened) ends
+pub option_told : {X E : Type 0} (r : Result X E) (a b c d e : Building) (name value : List ℕ) → a.attributes ≡ [] → ToldAttributes a b (with_attribute (codes "name") name []) → ToldAttributes b c (with_attribute (codes "value") value [])
+    → Told c d (opening (codes "solverOption") (c.attributes ++ with_attribute (codes "solver") (codes "os_cert") [])) → OnOk r (Told d e (closing (codes "solverOption"))) → OnOk r (Told a e (λ k. nodes_events (option_node name value none) k))
+option_told {X} {E} r a b c d e name value no_wait first second begins ends =
+    let opened : Told c d (opening (codes "solverOption") (three name value)) = subst (λ (as' : List Attribute). Told c d (opening (codes "solverOption") as')) (waiting a b c name value no_wait first second) begins in
+    ends_told r a d e (opening (codes "solverOption") (three name value)) (closing (codes "solverOption")) (told_after a c d _ (attributes_then a b c _ _ first second) opened) ends
+
+-- an option whose name and value are these
+pub told_so : {X E : Type 0} (r : Result X E) (a b : Building) (name value n v : List ℕ) → name ≡ n → value ≡ v → OnOk r (Told a b (λ k. nodes_events (option_node name value none) k)) → OnOk r (Told a b (λ k. nodes_events (option_node n v none) k))
+told_so {X} {E} r a b name value n v is_name is_value told =
+    subst (λ (x : List ℕ). OnOk r (Told a b (λ k. nodes_events (option_node x v none) k))) is_name (subst (λ (x : List ℕ). OnOk r (Told a b (λ k. nodes_events (option_node name x none) k))) is_value told)
+
+-- the options of limits, and then more
+pub limits_then : (o : Options) (ls : List Limit) (more : Nodes) (k : List Event) → nodes_events (option_nodes o ls none) (nodes_events more k) ≡ nodes_events (option_nodes o ls more) k
+limits_then o [] more k = refl
+limits_then o (l ∷ ls) more k = ap (λ (es : List Event). nodes_events (limit_node o l none) es) (limits_then o ls more k)
 
 -- the job's name, and then more
 pub job_then : (job : Option (List ℕ)) (more : Nodes) (k : List Event) → nodes_events (job_nodes job none) (nodes_events more k) ≡ nodes_events (job_nodes job more) k

@@ -7,25 +7,28 @@ use Rattle.std.proofs.lemmas.Bool.{leb-true}
 use Rattle.std.proofs.lemmas.List.{reverse-append, reverse-reverse}
 use Rattle.tree_grammar.specs.Elements as tree
 use Rattle.tree_grammar.specs.Elements.{none}
-use Rattle.tree_grammar.proofs.XmlTexts.{Printable, is_printable, each_append}
-use Rattle.tree_grammar.specs.Characters.{IsXmlText, Each}
+use Rattle.tree_grammar.proofs.XmlTexts.{Printable, is_printable, text_append}
+use Rattle.tree_grammar.specs.Characters.{IsXmlText}
 use Rattle.fraction.specs.Frac.{ratio}
 use Rattle.fraction.specs.declared.frac.Frac.{Frac}
 use Rattle.decimal_text.specs.Exact.{denominator_text, ratio_text}
 use Rattle.decimal_text.specs.Space.{is_space, without_leading_space, trimmed}
 use Rattle.document_tags.specs.Texts.{document_limit, IsDocument}
 use Rattle.document_tags.specs.Writing.{text_nodes, leaf, group, bare_root}
-use Rattle.document_tags.proofs.PrintableTexts.{fixed_text, number_text, signed_printable, decimal_printable, printable_text}
+use Rattle.document_tags.proofs.PrintableTexts.{fixed_text, number_text, digits_printable, printable_text}
 use Rattle.document_tags.proofs.XmlNodes.{AreFlat, none_flat, text_flat, element_flat, still_flat, root_is_document}
 use Rattle.document_tags.proofs.Lengths.{nodes_size, text_size, decimal_size, written_short}
+use Rattle.osol_grammar.specs.declared.gaps.Gap.{Gap}
 use Rattle.osol_grammar.specs.declared.limit.Limit.{Limit}
-use Rattle.osol_grammar.specs.declared.limit.Limit.TheVariants.{Nodes, Turns, Rounds, Names, Form}
+use Rattle.osol_grammar.specs.declared.limit.Limit.TheVariants.{Nodes, Turns, Rounds, Names, Form, Bound}
 use Rattle.osol_grammar.specs.declared.options.Options.{Options}
 use Rattle.osol_grammar.specs.Limits.{all, limit_row, amount_text}
 use Rattle.osol_grammar.specs.Options.{amount}
-use Rattle.osol_grammar.specs.Writing.{is_told, told_limits, job_nodes, time_nodes, values_nodes, first_nodes, option_nodes, limit_nodes, options_nodes, options_element, options_text}
+use Rattle.osol_grammar.specs.Gaps.{percent, gap_text}
+use Rattle.osol_grammar.specs.Writing.{is_told, told_limits, job_nodes, time_nodes, values_nodes, first_nodes, option_node, option_nodes, gap_nodes, limit_nodes, options_nodes, options_element, options_text}
 use Rattle.osol_grammar.specs.Back.{IsNameOrNone, AreFirstOrNone, ComesBack}
 use Rattle.osol_grammar.proofs.LimitTable.{each_passes}
+use Rattle.osol_grammar.proofs.SaidGaps.{ratio_each}
 
 amount_xml : (l : Limit) (n : ℕ) → IsXmlText (amount_text l n)
 amount_xml Form zero = fixed_text (codes "whole") refl
@@ -34,6 +37,7 @@ amount_xml Nodes n = number_text n
 amount_xml Turns n = number_text n
 amount_xml Rounds n = number_text n
 amount_xml Names n = number_text n
+amount_xml Bound n = number_text n
 
 amount_size : (l : Limit) (n : ℕ) → length (amount_text l n) ≤ 64
 amount_size Form zero = omega arith
@@ -42,23 +46,34 @@ amount_size Nodes n = decimal_size n
 amount_size Turns n = decimal_size n
 amount_size Rounds n = decimal_size n
 amount_size Names n = decimal_size n
+amount_size Bound n = decimal_size n
 
-limits_flat : (o : Options) (ls : List Limit) → AreFlat 1 (option_nodes o ls) (option_nodes o ls)
-limits_flat o [] = none_flat 1
-limits_flat o (l ∷ more) =
-    let name = fixed_text (limit_row l).name (each_passes (λ k. list_all is_printable (limit_row k).name) refl l) in
-    element_flat 0 (codes "solverOption") _ none (option_nodes o more) none (option_nodes o more) refl (name, (amount_xml l (amount o l), (fixed_text (codes "os_cert") refl, tt))) (none_flat 0) (limits_flat o more)
+ratio_xml : (s : Frac) → IsXmlText (ratio_text (ratio s))
+ratio_xml s = printable_text (ratio_text (ratio s)) (ratio_each Printable digits_printable (lit≤ tt, lit< tt) (lit≤ tt, lit< tt) s)
+
+percent_xml : (b : Bool) → IsXmlText (percent b)
+percent_xml true = fixed_text (codes "%") refl
+percent_xml false = fixed_text [] refl
+
+-- an option whose name and value are texts of XML, and then more
+option_flat : (name value : List ℕ) (more : tree.Nodes) → IsXmlText name → IsXmlText value → AreFlat 1 more more → AreFlat 1 (option_node name value more) (option_node name value more)
+option_flat name value more is_name is_value rest = element_flat 0 (codes "solverOption") _ none more none more refl (is_name, (is_value, (fixed_text (codes "os_cert") refl, tt))) (none_flat 0) rest
+
+limits_flat : (o : Options) (ls : List Limit) (more : tree.Nodes) → AreFlat 1 more more → AreFlat 1 (option_nodes o ls more) (option_nodes o ls more)
+limits_flat o [] more rest = rest
+limits_flat o (l ∷ ls) more rest = option_flat (limit_row l).name (amount_text l (amount o l)) (option_nodes o ls more) (fixed_text (limit_row l).name (each_passes (λ k. list_all is_printable (limit_row k).name) refl l)) (amount_xml l (amount o l)) (limits_flat o ls more rest)
+
+gap_flat : (gap : Option Gap) → AreFlat 1 (gap_nodes gap none) (gap_nodes gap none)
+gap_flat None = none_flat 1
+gap_flat (Some g) = option_flat (codes "gap") (gap_text g) none (fixed_text (codes "gap") refl) (text_append (ratio_text (ratio g.number)) (percent g.is_percent) (ratio_xml g.number) (percent_xml g.is_percent)) (none_flat 1)
+
+-- the options that are told
+abbrev pub told_nodes : Options → tree.Nodes
+told_nodes o = limit_nodes o (gap_nodes o.gap none)
 
 -- what stands behind the job's name and the time
 abbrev pub optimization : Options → tree.Nodes
-optimization o = group (codes "optimization") (first_nodes o.first (group (codes "solverOptions") (limit_nodes o) none)) none
-
-ratio_xml : (s : Frac) → IsXmlText (ratio_text (ratio s))
-ratio_xml s = printable_text (ratio_text (ratio s)) (each_append Printable (signed_decimal s.numer) (denominator_text s.denom) (signed_printable s.numer) (under (s.denom == 1) s.denom))
-  where
-    under : (b : Bool) (d : ℕ) → Each Printable (cond b [] (47 ∷ decimal d))
-    under true d = tt
-    under false d = ((lit≤ tt, lit< tt), decimal_printable d)
+optimization o = group (codes "optimization") (first_nodes o.first (group (codes "solverOptions") (told_nodes o) none)) none
 
 -- the first values
 values_flat : (n : ℕ) (vs : List (Option Frac)) → AreFlat 1 (values_nodes n vs) (values_nodes n vs)
@@ -74,8 +89,8 @@ first_flat (Some vs) more rest =
 
 optimization_flat : (o : Options) → AreFlat 4 (optimization o) (optimization o)
 optimization_flat o =
-    let limits = group (codes "solverOptions") (limit_nodes o) none in
-    let inner = element_flat 2 (codes "solverOptions") [] (limit_nodes o) none (limit_nodes o) none refl tt (still_flat 1 2 (limit_nodes o) (limit_nodes o) (lit≤ tt) (limits_flat o (told_limits o))) (none_flat 3) in
+    let limits = group (codes "solverOptions") (told_nodes o) none in
+    let inner = element_flat 2 (codes "solverOptions") [] (told_nodes o) none (told_nodes o) none refl tt (still_flat 1 2 (told_nodes o) (told_nodes o) (lit≤ tt) (limits_flat o (told_limits o) (gap_nodes o.gap none) (gap_flat o.gap))) (none_flat 3) in
     element_flat 3 (codes "optimization") [] (first_nodes o.first limits) none (first_nodes o.first limits) none refl tt (first_flat o.first limits inner) (none_flat 4)
 
 time_flat : (seconds : Option Frac) (more : tree.Nodes) → AreFlat 4 more more → AreFlat 4 (time_nodes seconds more) (time_nodes seconds more)
@@ -124,13 +139,24 @@ job_size None more is = omega arith
 job_size (Some job) more is = let text = text_size job in let short = is.short in omega (arith, text, short)
 
 -- a name of a limit has at most 50 bytes, so each option has at most 1000
-limits_size : (o : Options) (ls : List Limit) → nodes_size (option_nodes o ls) ≤ 1000 * length ls
-limits_size o [] = omega arith
-limits_size o (l ∷ more) =
-    let rest = limits_size o more in
+limits_size : (o : Options) (ls : List Limit) (more : tree.Nodes) → nodes_size (option_nodes o ls more) ≤ 1000 * length ls + nodes_size more
+limits_size o [] more = omega arith
+limits_size o (l ∷ ls) more =
+    let rest = limits_size o ls more in
     let name = leb-true (length (limit_row l).name) 50 (each_passes (λ k. leb (length (limit_row k).name) 50) refl l) in
     let said = amount_size l (amount o l) in
     omega (arith, rest, name, said)
+
+percent_size : (b : Bool) → length (percent b) ≤ 1
+percent_size true = omega arith
+percent_size false = omega arith
+
+gap_size : (gap : Option Gap) → nodes_size (gap_nodes gap none) ≤ 2000
+gap_size None = omega arith
+gap_size (Some g) =
+    let number = ratio_size g.number in
+    let sign = percent_size g.is_percent in
+    omega (arith, number, sign, length-append (ratio_text (ratio g.number)) (percent g.is_percent))
 
 -- no more are told than there are
 filter_few : {X : Type 0} (test : X → Bool) (xs : List X) → length (filter test xs) ≤ length xs
@@ -146,10 +172,11 @@ text_short o back =
     let whole = written_short (options_element o) in
     let job = job_size o.job (time_nodes o.seconds (optimization o)) back.job in
     let time = time_size o.seconds (optimization o) in
-    let first = first_size o.first (group (codes "solverOptions") (limit_nodes o) none) back.first in
-    let limits = limits_size o (told_limits o) in
+    let first = first_size o.first (group (codes "solverOptions") (told_nodes o) none) back.first in
+    let limits = limits_size o (told_limits o) (gap_nodes o.gap none) in
+    let gap = gap_size o.gap in
     let few = filter_few (is_told o) all in
-    omega (arith, whole, job, time, first, limits, few)
+    omega (arith, whole, job, time, first, limits, gap, few)
 
 pub text_document : (o : Options) → ComesBack o → IsDocument (options_text o) (bare_root (codes "osol") (options_nodes o))
 text_document o back =

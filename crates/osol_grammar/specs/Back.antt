@@ -1,8 +1,9 @@
 -- The options that come back from their text.
-use Rattle.std.specs.Prelude.{◌≡◌, ◌≢◌, ℕ, ◌-◌, ◌≤◌, Option, None, Some, List, [], length}
+use Rattle.std.specs.Prelude.{◌≡◌, ◌≢◌, ℕ, ◌-◌, ◌≤◌, pos, ◌≤ℤ◌, Option, None, Some, List, [], length}
 use Rattle.tree_grammar.specs.Characters.{IsXmlText}
 use Rattle.fraction.specs.declared.frac.Frac.{Frac}
 use Rattle.decimal_text.specs.Space.{trimmed}
+use Rattle.osol_grammar.specs.declared.gaps.Gap.{Gap}
 use Rattle.osol_grammar.specs.declared.limit.Limit.{Limit}
 use Rattle.osol_grammar.specs.declared.options.Options.{Options}
 use Rattle.osol_grammar.specs.Limits.{limit_row}
@@ -36,10 +37,16 @@ abbrev pub AreFirstOrNone : Option (List (Option Frac)) → Type 0
 AreFirstOrNone None = Unit {0}
 AreFirstOrNone (Some vs) = AreFirstValues vs
 
--- there is no job's name or it is one, the seconds are a time where there are some, so are the first values, and each limit is one that it may be
+-- no gap, or one from 0 on
+abbrev pub IsGapOrNone : Option Gap → Type 0
+IsGapOrNone None = Unit {0}
+IsGapOrNone (Some g) = pos 0 ≤ℤ g.number.numer
+
+-- there is no job's name or it is one, the seconds are a time where there are some, so are the first values and the gap, and each limit is one that it may be
 pub record ComesBack (o : Options) : Type 0 where
   pub job : IsNameOrNone o.job
   pub seconds : IsTimeOrNone o.seconds
   pub first : AreFirstOrNone o.first
+  pub gap : IsGapOrNone o.gap
   pub above : (l : Limit) → (limit_row l).least ≤ amount o l
   pub below : (l : Limit) → amount o l ≤ (limit_row l).most

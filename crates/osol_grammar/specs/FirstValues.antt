@@ -1,5 +1,5 @@
 -- The values of the point that a search begins with (Optimization Services option language, `initialVariableValues`).
-use Rattle.std.specs.Prelude.{◌≡◌, ℕ, zero, suc, ◌<◌, IsTrue, Option, None, Some, IsSomeAnd, List, [], ◌∷◌, get_or, codes}
+use Rattle.std.specs.Prelude.{ℕ, zero, suc, ◌<◌, IsTrue, Option, None, Some, IsSomeAnd, List, [], ◌∷◌, get_or, codes}
 use Rattle.std.specs.Option.{is_some}
 use Rattle.fraction.specs.declared.frac.Frac.{Frac}
 use Rattle.tree_grammar.specs.Elements.{Attribute}

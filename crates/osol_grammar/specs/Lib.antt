@@ -1,6 +1,7 @@
 pub mod Limits
 pub mod Times
 pub mod FirstValues
+pub mod Gaps
 pub mod Options
 pub mod Table
 pub mod Marked

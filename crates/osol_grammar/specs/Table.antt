@@ -11,14 +11,16 @@ use Rattle.tag_tests.specs.Places.{child, Kind, begins, text, ends, ends_over}
 use Rattle.tag_tests.specs.Contents.{ChildPlaces, root, reads, leads_by, kind_by, keeps_in}
 use Rattle.tag_tests.specs.Characters.{heard}
 use Rattle.osol_grammar.specs.declared.fault.Refusal.{Refusal}
-use Rattle.osol_grammar.specs.declared.fault.Refusal.TheVariants.{Root, JobTwice, TimeTwice, BadUnit, BadTime, BadIndex, IndexTwice, BadValue, BadLimit, LongJob}
+use Rattle.osol_grammar.specs.declared.fault.Refusal.TheVariants.{Root, JobTwice, TimeTwice, BadUnit, BadTime, BadIndex, IndexTwice, BadValue, BadLimit, BadGap, LongJob}
+use Rattle.osol_grammar.specs.declared.gaps.Gap.{Gap}
 use Rattle.osol_grammar.specs.declared.limit.Limit.{Limit}
 use Rattle.osol_grammar.specs.declared.options.Options.{Options}
 use Rattle.osol_grammar.specs.declared.place.Place.{Place}
 use Rattle.osol_grammar.specs.declared.place.Place.TheVariants.{Outside, Osol, General, JobId, Job, MaxTime, Optimization, Variables, InitialValues, Var, SolverOptions, SolverOption}
 use Rattle.osol_grammar.specs.declared.standing.Standing.{Standing as State}
 use Rattle.osol_grammar.specs.declared.standing.Refused.{Refused}
-use Rattle.osol_grammar.specs.Options.{no_options, with_first, IsOption, SaysAmount, SaysOption}
+use Rattle.osol_grammar.specs.Options.{no_options, with_first, IsOption, IsGapOption, SaysAmount, SaysOption}
+use Rattle.osol_grammar.specs.Gaps.{SaysGap}
 use Rattle.osol_grammar.specs.FirstValues.{SaysIndex, SaysValue, HasFirst}
 use Rattle.osol_grammar.specs.Times.{unit_named, SaysTime}
 
@@ -66,7 +68,7 @@ tests (begins OtherRoot as') = Root ∷ []
 tests (begins (To JobId) as') = JobTwice ∷ []
 tests (begins (To MaxTime) as') = TimeTwice ∷ BadUnit ∷ []
 tests (begins (To Var) as') = BadIndex ∷ IndexTwice ∷ BadValue ∷ []
-tests (begins (To SolverOption) as') = BadLimit ∷ []
+tests (begins (To SolverOption) as') = BadLimit ∷ BadGap ∷ []
 tests (ends JobId) = LongJob ∷ []
 tests (ends MaxTime) = BadTime ∷ []
 tests k = []
@@ -75,7 +77,7 @@ abbrev pub attributes : Kind Place → List Attribute
 attributes (begins l as') = as'
 attributes k = []
 
--- WHEN EACH TEST FAILS: always; a `jobID` has begun before; a `maxTime` has; its unit isn't one of those that are read; its characters are no time; a first value has no index that a variable may have; another one had it before; it has no value that is a number; an option of a limit has no value that is an amount that the limit may have; the job's name, without the white space round it, has more than 256 bytes
+-- WHEN EACH TEST FAILS: always; a `jobID` has begun before; a `maxTime` has; its unit isn't one of those that are read; its characters are no time; a first value has no index that a variable may have; another one had it before; it has no value that is a number; an option of a limit has no value that is an amount that the limit may have; one of the gap has no value that is a gap; the job's name, without the white space round it, has more than 256 bytes
 abbrev pub Fails : State → Kind Place → Refusal → Type 0
 Fails s k Root = Unit {0}
 Fails s k JobTwice = 0 < s.job_at
@@ -86,6 +88,7 @@ Fails s k BadIndex = (n : ℕ) → SaysIndex (attributes k) n → ⊥
 Fails s k IndexTwice = (n : ℕ) × SaysIndex (attributes k) n × HasFirst s.options.first n
 Fails s k BadValue = (x : Frac) → SaysValue (attributes k) x → ⊥
 Fails s k BadLimit = (l : Limit) × IsOption l (attributes k) × ((n : ℕ) → SaysAmount l (attributes k) n → ⊥)
+Fails s k BadGap = IsGapOption (attributes k) × ((g : Gap) → SaysGap (attributes k) g → ⊥)
 Fails s k LongJob = 256 < length (trimmed s.text)
 
 -- HOW IT REFUSES: with the ordinal of the element whose start tag comes, or that of the `jobID` or the `maxTime` whose end tag comes

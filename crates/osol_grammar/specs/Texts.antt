@@ -3,7 +3,7 @@ use Rattle.std.specs.Prelude.{◌≡◌, ℕ, List, ◌++◌, codes}
 use Rattle.doc_tree.specs.Words.{tree_words}
 use Rattle.document_tags.specs.Faults.{refusal_at, IsTreeText}
 use Rattle.osol_grammar.specs.declared.fault.Refusal.{Refusal}
-use Rattle.osol_grammar.specs.declared.fault.Refusal.TheVariants.{Root, JobTwice, TimeTwice, BadUnit, BadTime, BadIndex, IndexTwice, BadValue, BadLimit, LongJob}
+use Rattle.osol_grammar.specs.declared.fault.Refusal.TheVariants.{Root, JobTwice, TimeTwice, BadUnit, BadTime, BadIndex, IndexTwice, BadValue, BadLimit, BadGap, LongJob}
 use Rattle.osol_grammar.specs.declared.fault.OsolFault.{OsolFault}
 use Rattle.osol_grammar.specs.declared.fault.OsolFault.TheVariants.{Tree, Refused, Memory}
 
@@ -17,6 +17,7 @@ refusal_name BadIndex = codes "BadIndex"
 refusal_name IndexTwice = codes "IndexTwice"
 refusal_name BadValue = codes "BadValue"
 refusal_name BadLimit = codes "BadLimit"
+refusal_name BadGap = codes "BadGap"
 refusal_name LongJob = codes "LongJob"
 
 -- what a fault displays

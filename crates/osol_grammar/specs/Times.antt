@@ -1,5 +1,5 @@
 -- For how long a job may be searched, as a document says it (Optimization Services option language, `maxTime`): a number of units, exactly.
-use Rattle.std.specs.Prelude.{◌≡◌, ◌≢◌, ◌⊎◌, ℕ, pos, cond, bytes_eq, Option, None, Some, List, codes}
+use Rattle.std.specs.Prelude.{◌≢◌, ◌⊎◌, ℕ, pos, cond, bytes_eq, Option, None, Some, List, codes}
 use Rattle.std.specs.declared.cmp.Ordering.TheVariants.{Less, Greater}
 use Rattle.rational.specs.Ratio.{whole, product, order, IsSame}
 use Rattle.fraction.specs.Frac.{ratio}

@@ -8,10 +8,12 @@ use Rattle.fraction.specs.Frac.{ratio}
 use Rattle.fraction.specs.declared.frac.Frac.{Frac}
 use Rattle.decimal_text.specs.Exact.{ratio_text}
 use Rattle.document_tags.specs.Writing.{with_attribute, leaf, group, rooted}
+use Rattle.osol_grammar.specs.declared.gaps.Gap.{Gap}
 use Rattle.osol_grammar.specs.declared.limit.Limit.{Limit}
 use Rattle.osol_grammar.specs.declared.options.Options.{Options}
 use Rattle.osol_grammar.specs.Limits.{all, limit_row, amount_text}
 use Rattle.osol_grammar.specs.Options.{amount}
+use Rattle.osol_grammar.specs.Gaps.{gap_text}
 
 -- the job's name, if there is one, and then more
 abbrev pub job_nodes : Option (List ℕ) → tree.Nodes → tree.Nodes
@@ -40,24 +42,31 @@ first_nodes (Some vs) more = group (codes "variables") (group (codes "initialVar
 abbrev pub is_told : Options → Limit → Bool
 is_told o l = (limit_row l).always || not (amount o l == (limit_row l).default)
 
--- the option of a limit, and then more
-abbrev pub limit_node : Options → Limit → tree.Nodes → tree.Nodes
-limit_node o l more = element (codes "solverOption") (with_attribute (codes "name") (limit_row l).name (with_attribute (codes "value") (amount_text l (amount o l)) (with_attribute (codes "solver") (codes "os_cert") []))) none more
+-- an option of this name with this value, and then more; that of a limit; and that of the gap, if there is one
+abbrev pub option_node : (name value : List ℕ) → tree.Nodes → tree.Nodes
+option_node name value more = element (codes "solverOption") (with_attribute (codes "name") name (with_attribute (codes "value") value (with_attribute (codes "solver") (codes "os_cert") []))) none more
 
--- the options of these limits
-abbrev pub option_nodes : Options → List Limit → tree.Nodes
-option_nodes o [] = none
-option_nodes o (l ∷ more) = limit_node o l (option_nodes o more)
+abbrev pub limit_node : Options → Limit → tree.Nodes → tree.Nodes
+limit_node o l more = option_node (limit_row l).name (amount_text l (amount o l)) more
+
+abbrev pub gap_nodes : Option Gap → tree.Nodes → tree.Nodes
+gap_nodes None more = more
+gap_nodes (Some g) more = option_node (codes "gap") (gap_text g) more
+
+-- the options of these limits, and then more
+abbrev pub option_nodes : Options → List Limit → tree.Nodes → tree.Nodes
+option_nodes o [] more = more
+option_nodes o (l ∷ ls) more = limit_node o l (option_nodes o ls more)
 
 -- the option of each limit that is told
 abbrev pub told_limits : Options → List Limit
 told_limits o = filter (is_told o) all
 
-abbrev pub limit_nodes : Options → tree.Nodes
-limit_nodes o = option_nodes o (told_limits o)
+abbrev pub limit_nodes : Options → tree.Nodes → tree.Nodes
+limit_nodes o more = option_nodes o (told_limits o) more
 
 abbrev pub options_nodes : Options → tree.Nodes
-options_nodes o = job_nodes o.job (time_nodes o.seconds (group (codes "optimization") (first_nodes o.first (group (codes "solverOptions") (limit_nodes o) none)) none))
+options_nodes o = job_nodes o.job (time_nodes o.seconds (group (codes "optimization") (first_nodes o.first (group (codes "solverOptions") (limit_nodes o (gap_nodes o.gap none)) none)) none))
 
 -- the root that options are written as
 abbrev pub options_element : Options → Element

@@ -4,7 +4,7 @@ ghost use Rattle.std.specs.Prelude.{◌≡◌, ◌≤◌, ◌↔◌, ℕ, IsTrue
 ghost use Rattle.document_tags.specs.Elements.{value_of};
 ghost use Rattle.osol_grammar.specs.declared.limit.Limit as kinds;
 ghost use Rattle.osol_grammar.specs.Limits as table;
-ghost use Rattle.osol_grammar.specs.Options.{IsOption, SaysAmount};
+ghost use Rattle.osol_grammar.specs.Options.{IsOption, IsGapOption, SaysAmount};
 ghost use Rattle.decimal_text.specs.Count.{IsCount};
 
 use crate::limit::{LIMITS, Limit};
@@ -47,6 +47,19 @@ pub(crate) fn limit_of(attributes: &Attributes<'_>) -> Option<Limit>
     }
 }
 
+/// Whether an option with these attributes is that of the gap.
+pub(crate) fn is_gap(attributes: &Attributes<'_>) -> bool
+    ensures { IsTrue result ↔ IsGapOption attributes.now }
+{
+    if !is_meant(attributes) {
+        return false;
+    }
+    match value(attributes, b"name") {
+        Some(name) => name == b"gap".as_slice(),
+        None => false,
+    }
+}
+
 /// The form that a word says, if it says one.
 fn form_of(word: &[u8]) -> Option<u32>
     ensures { MatchOption result ((n : ℕ) → table.IsFormWord word.now n → ⊥) (λ n. table.IsFormWord word.now n × (n ≤ 1)) }
@@ -79,6 +92,8 @@ pub(crate) fn amount_of(attributes: &Attributes<'_>, limit: Limit) -> Option<u32
     let text = value(attributes, b"value")?;
     match limit {
         Limit::Form => form_of(text),
-        Limit::Nodes | Limit::Turns | Limit::Rounds | Limit::Names => count_of(text, limit),
+        Limit::Nodes | Limit::Turns | Limit::Rounds | Limit::Names | Limit::Bound => {
+            count_of(text, limit)
+        }
     }
 }

@@ -26,6 +26,8 @@ pub enum Refusal {
     BadValue,
     /// The value of a limit's option is wanting, isn't a count, or of the form one of its words, or isn't one that the limit may have.
     BadLimit,
+    /// The gap is wanting, isn't a number that fits, or is below 0.
+    BadGap,
     /// The job's name, without the white space round it, has more than 256 bytes.
     LongJob,
 }
@@ -58,6 +60,7 @@ impl fmt::Display for Refusal {
             Refusal::IndexTwice => write!(f, "IndexTwice"),
             Refusal::BadValue => write!(f, "BadValue"),
             Refusal::BadLimit => write!(f, "BadLimit"),
+            Refusal::BadGap => write!(f, "BadGap"),
             Refusal::LongJob => write!(f, "LongJob"),
         }
     }

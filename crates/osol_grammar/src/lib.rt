@@ -12,6 +12,7 @@
 
 mod amounts;
 mod fault;
+mod gaps;
 mod laws;
 mod limit;
 mod options;
@@ -24,6 +25,7 @@ mod values;
 mod writing;
 
 pub use fault::{OsolFault, Refusal};
+pub use gaps::Gap;
 pub use laws::{
     comes_back, document_has_one_refusal, document_says_one, options_are_not_refused,
     options_have_names, read_options_come_back,

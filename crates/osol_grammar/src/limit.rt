@@ -13,15 +13,18 @@ pub(crate) enum Limit {
     Names,
     /// Whether its certificate is told with multipliers of rows alone.
     Form,
+    /// Whether a search that is given up has a bound.
+    Bound,
 }
 
 /// All limits, in the order in which their options are written.
-pub(crate) const LIMITS: [Limit; 5] = [
+pub(crate) const LIMITS: [Limit; 6] = [
     Limit::Nodes,
     Limit::Turns,
     Limit::Rounds,
     Limit::Names,
     Limit::Form,
+    Limit::Bound,
 ];
 
 /// What is known of a limit: the name of its option, the least and the greatest amount that it may have, the amount that it
@@ -78,6 +81,13 @@ impl Limit {
             },
             Limit::Form => LimitRow {
                 name: b"form",
+                least: 0,
+                most: 1,
+                default: 0,
+                always: false,
+            },
+            Limit::Bound => LimitRow {
+                name: b"bound",
                 least: 0,
                 most: 1,
                 default: 0,

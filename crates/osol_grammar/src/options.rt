@@ -1,5 +1,6 @@
 //! What a job asks for beside its instance.
 
+use crate::gaps::Gap;
 use crate::limit::Limit;
 use crate::values::{Values, is_said, with_value};
 use fraction::Frac;
@@ -7,19 +8,23 @@ use os_io::{Memory, Text};
 use std::alloc::Global;
 
 /// The job's name, if it has one, for how many seconds it may be searched, if that is limited, the values of the point that the search
-/// begins with, if any, and how much may be done for it: so many nodes of the tree of cases, 1 to 1,000,000, so many turns of the simplex method, 1 to 100,000,000, and so many rows that rounds add, 0 to 100. The values of its
-/// result are told with names where `names` is 1, and without them where it is 0; its certificate is told with multipliers
-/// of rows alone where `form` is 1 and the checker accepts it so, else whole.
+/// begins with, if any, how near its best point has to be to the bound for the search to stop, if that is enough, and how much may be
+/// done for it: so many nodes of the tree of cases, 1 to 1,000,000, so many turns of the simplex method, 1 to 100,000,000, and so many
+/// rows that rounds add, 0 to 100. The values of its result are told with names where `names` is 1, and without them where it is 0; its
+/// certificate is told with multipliers of rows alone where `form` is 1 and the checker accepts it so, else whole; and where `bound` is
+/// 1, and not where it is 0, a search that is given up has a bound.
 #[derive(Drop)]
 pub struct Options {
     pub job: Option<Text>,
     pub seconds: Option<Frac>,
     pub first: Option<Values>,
+    pub gap: Option<Gap>,
     pub nodes: u32,
     pub turns: u32,
     pub rounds: u32,
     pub names: u32,
     pub form: u32,
+    pub bound: u32,
 }
 
 impl Options {
@@ -28,7 +33,8 @@ impl Options {
     ghost use Rattle.osol_grammar.specs.Options as said;
     ghost use Rattle.osol_grammar.specs.Meaning.{IsNoOptions};
 
-    /// No options: no job's name, no time, no first values, 10,000 nodes, 1,000,000 turns, no rounds, no names, and the whole form.
+    /// No options: no job's name, no time, no first values, no gap, 10,000 nodes, 1,000,000 turns, no rounds, no names, the whole form, and
+    /// no bound.
     pub fn none() -> Options
         ensures { IsNoOptions result }
     {
@@ -36,11 +42,13 @@ impl Options {
             job: None,
             seconds: None,
             first: None,
+            gap: None,
             nodes: Limit::Nodes.row().default,
             turns: Limit::Turns.row().default,
             rounds: Limit::Rounds.row().default,
             names: Limit::Names.row().default,
             form: Limit::Form.row().default,
+            bound: Limit::Bound.row().default,
         }
     }
 
@@ -54,6 +62,7 @@ impl Options {
             Limit::Rounds => self.rounds,
             Limit::Names => self.names,
             Limit::Form => self.form,
+            Limit::Bound => self.bound,
         }
     }
 
@@ -94,6 +103,7 @@ impl Options {
             Limit::Rounds => self.rounds = amount,
             Limit::Names => self.names = amount,
             Limit::Form => self.form = amount,
+            Limit::Bound => self.bound = amount,
         }
     }
 }

@@ -11,8 +11,9 @@ ghost use Rattle.tag_tests.specs.Contents.{keeps_in};
 ghost use Rattle.osol_grammar.specs.Table as table;
 ghost use Rattle.osol_grammar.specs.Marked.{by_kinds};
 
-use crate::amounts::{amount_of, limit_of};
+use crate::amounts::{amount_of, is_gap, limit_of};
 use crate::fault::Refusal;
+use crate::gaps::gap_of;
 use crate::options::Options;
 use crate::place::{Place, around, leads};
 use crate::times::{time_of, unit_of};
@@ -159,6 +160,11 @@ impl Standing {
             match amount_of(attributes, limit) {
                 Some(amount) => self.options.set(limit, amount),
                 None => return Err(self.refused(Refusal::BadLimit)),
+            }
+        } else if is_gap(attributes) {
+            match gap_of(attributes) {
+                Some(gap) => self.options.gap = Some(gap),
+                None => return Err(self.refused(Refusal::BadGap)),
             }
         }
         self.go(Place::SolverOption);

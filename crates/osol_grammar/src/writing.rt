@@ -6,6 +6,7 @@ ghost use Rattle.document_tags.specs.Telling.{Told, whole_element};
 ghost use Rattle.osol_grammar.specs.Limits.{form_word, amount_text};
 ghost use Rattle.osol_grammar.specs.Writing as writing;
 
+use crate::gaps::{Gap, gap_text};
 use crate::limit::{LIMITS, Limit};
 use crate::options::Options;
 use crate::values::Values;
@@ -116,10 +117,21 @@ fn text_of(limit: Limit, amount: u32, digits: &mut Buffer) -> &[u8]
 {
     match limit {
         Limit::Form => word_of(amount),
-        Limit::Nodes | Limit::Turns | Limit::Rounds | Limit::Names => {
+        Limit::Nodes | Limit::Turns | Limit::Rounds | Limit::Names | Limit::Bound => {
             digits.format(amount).as_bytes()
         }
     }
+}
+
+/// Tells an option.
+fn tell_option(b: &mut TreeBuilder, name: &[u8], value: &[u8]) -> Result<(), Memory>
+    requires { b.old.attributes ≡ [] }
+    ensures { OnOk result (Told b.old b.new (λ k. nodes_events (writing.option_node name.now value.now none) k)) }
+{
+    attribute(b, b"name", name)?;
+    attribute(b, b"value", value)?;
+    open_after(b, b"solverOption", b"solver", b"os_cert")?;
+    close(b, b"solverOption")
 }
 
 /// Tells the option of a limit.
@@ -129,16 +141,13 @@ fn tell_limit(b: &mut TreeBuilder, options: &Options, limit: Limit) -> Result<()
 {
     let mut digits = Buffer::new();
     let value = text_of(limit, options.amount(limit), &mut digits);
-    attribute(b, b"name", limit.row().name)?;
-    attribute(b, b"value", value)?;
-    open_after(b, b"solverOption", b"solver", b"os_cert")?;
-    close(b, b"solverOption")
+    tell_option(b, limit.row().name, value)
 }
 
 /// Tells the options of all limits that are written.
 fn tell_limits(b: &mut TreeBuilder, options: &Options) -> Result<(), Memory>
     requires { b.old.attributes ≡ [] }
-    ensures { OnOk result (Told b.old b.new (nodes_events (writing.limit_nodes options.now))) }
+    ensures { OnOk result (Told b.old b.new (λ k. nodes_events (writing.limit_nodes options.now none) k)) }
 {
     for limit in LIMITS {
         if is_told(options, limit) {
@@ -146,6 +155,18 @@ fn tell_limits(b: &mut TreeBuilder, options: &Options) -> Result<(), Memory>
         }
     }
     Ok(())
+}
+
+/// Tells the option of the gap, if there is one.
+fn tell_gap(alloc: Global, b: &mut TreeBuilder, gap: Option<Gap>) -> Result<(), Memory>
+    requires { b.old.attributes ≡ [] }
+    ensures { OnOk result (Told b.old b.new (λ k. nodes_events (writing.gap_nodes gap none) k)) }
+{
+    let Some(gap) = gap else {
+        return Ok(());
+    };
+    let value = gap_text(alloc, gap)?;
+    tell_option(b, b"gap", value.as_slice())
 }
 
 /// Tells a whole document.
@@ -160,13 +181,15 @@ fn tell_options(alloc: Global, b: &mut TreeBuilder, options: &Options) -> Result
     tell_first(alloc, b, &options.first)?;
     open(b, b"solverOptions")?;
     tell_limits(b, options)?;
+    tell_gap(alloc, b, options.gap)?;
     close(b, b"solverOptions")?;
     close(b, b"optimization")?;
     close(b, b"osol")
 }
 
 /// The text of options: a document with the namespace of the option language, the job's name, the time and the first values where there are
-/// any, and the option of each limit, those of rounds, of names and of the form only where they aren't as without them.
+/// any, the option of each limit, those of rounds, of names, of the form and of a bound only where they aren't as without them, and that
+/// of the gap where there is one.
 pub fn encode(alloc: Global, options: &Options) -> Result<Text, Memory>
     ensures { IfOk result (λ text. text ≡ writing.options_text options.now) }
 {

@@ -1,8 +1,9 @@
 -- The search `fast` is legal, and none of its choices has two answers.
-use Rattle.std.proofs.Common.{◌≡◌, ℕ, ◌+◌, ◌⊎◌, inl, inr, ℤ, Some, List, sym, ◌∙◌, ap, subst, arith}
+use Rattle.std.proofs.Common.{◌≡◌, ℕ, ◌+◌, ◌⊎◌, inl, inr, ℤ, Some, List, refl, sym, ◌∙◌, ap, subst, arith}
 use Rattle.std.proofs.Math.Path.{fun_ext}
+use Rattle.std.proofs.lemmas.Int.{ints}
 use Rattle.std.specs.Option.{is_some}
-use Rattle.rational.specs.Ratio.{Ratio, IsSame}
+use Rattle.rational.specs.Ratio.{Ratio, IsAtMost, IsSame}
 use Rattle.evidence.specs.Instance.{Instance, width, height}
 use Rattle.evidence.specs.Point.{value_at}
 use Rattle.evidence.proofs.Columns.{by_lt}
@@ -12,10 +13,11 @@ use Rattle.bases.proofs.Lists as Lists
 use Rattle.simplex_rules.specs.declared.columns.Status.{Status}
 use Rattle.simplex_rules.specs.Statuses.{basic_in, HasDictionary}
 use Rattle.simplex_rules.specs.Fast.{IsUnbeaten}
+use Rattle.simplex_rules.proofs.OneEnd.{one_reduced}
 use Rattle.simplex_rules.proofs.FastRules as Runs
 use Rattle.simplex_rules.proofs.FastRules.{AreOrdered, by_order, greater_ordered, unbeaten_once}
 use Rattle.search_rules.specs.RuleSearch.{BranchView, AreLegalSearches, AreSingleSearches}
-use Rattle.search_rules.specs.FastSearch.{floor_of, infinite, finite, penalty, middle, IsFractional, Later, BeatsBy, IsFirstUneither, IsByPenalty, fast_search}
+use Rattle.search_rules.specs.FastSearch.{floor_of, infinite, finite, penalty, middle, IsFractional, Later, BeatsBy, IsFirstUneither, IsByPenalty, IsStepOf, fast_search}
 
 module _ (I : Instance) (ss : List Status) (u : Entries) (x : List Ratio) where
   later_ordered : (f : ℕ → Ratio) (Beats : ℕ → ℕ → Type 0) → AreOrdered Beats → AreOrdered (Later I ss u x f Beats)
@@ -47,6 +49,12 @@ penalties_once h i j k l p q =
 uneither_once : (h : BranchView) (i j : ℕ) → IsFirstUneither h i → IsFirstUneither h j → i ≡ j
 uneither_once h i j p q = by_lt i j (λ l. absurd (p.other (q.below i l))) (λ a. by_lt j i (λ l. absurd (q.other (p.below j l))) (λ b. omega arith))
 
+one_step : (I : Instance) (g h : Ratio) → IsStepOf I g → IsStepOf I h → g ≡ h
+one_step I g h p q = one_reduced g h h (let s = q.step in s.number) p.reduced q.reduced (same g h (q.greatest g p.step) (p.greatest h q.step)) refl
+  where
+    same : (x y : Ratio) → IsAtMost x y → IsAtMost y x → IsSame x y
+    same x y a b = omega (arith, ints)
+
 pub legal_fast : AreLegalSearches fast_search
 legal_fast = record { runs = Runs.legal; splits = λ h j k p. p.branch; divides = λ h j p. p.branch }
 
@@ -55,6 +63,7 @@ single_fast = record {
   runs = Runs.single;
   splits = λ h i j k l p q. penalties_once h i j k l p q;
   divides = λ h i j p q. uneither_once h i j p q;
+  steps = λ I g h p q. one_step I g h p q;
   either = λ h i j k p q. q.other (p.either j (let b = q.branch in b.variable));
   split_unmet = λ h j k p met. let a = p.unbeaten in let f = a.wanted in let m = met j a.inside in f.1 (m.whole f.0);
   divided_unmet = λ h j p met. let m = met j (let b = p.branch in b.variable) in p.other m.either;

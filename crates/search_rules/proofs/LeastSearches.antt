@@ -14,7 +14,7 @@ use Rattle.search_rules.specs.Branching.{Case}
 use Rattle.search_rules.specs.Cuts.{Trial, NoCut, WideCut, Cut}
 use Rattle.search_rules.specs.Search as Plain
 use Rattle.search_rules.specs.Search.{SearchMoment, NextOfSearch, Outcome, To, Out, GoesFromTrial, GoesFromBest, GoesFrom, IsVisit, IsNextInSearch, ComesInSearch, Search, IsCaseRun, IsSearchAnswer}
-use Rattle.search_rules.specs.RuleSearch.{MomentBy, NextBy, On, Off, with_basis, best_value, bland_search, TriedBy, BestBy, GoesBy, IsVisitBy, IsNextBy, ComesBy, begins, goes_on, SearchBy, IsRunOfCase, IsAnswerBy, searched, given_up, given_up_after}
+use Rattle.search_rules.specs.RuleSearch.{MomentBy, NextBy, On, Off, kept_for, with_basis, best_value, bland_search, TriedBy, BestBy, GoesBy, IsVisitBy, IsNextBy, ComesBy, begins, goes_on, SearchBy, IsAnswerBy, searched, given_up, given_up_after}
 
 module _ (P : Problem) (t : Terms) where
   tried_on : (g : Given) (C : Case) (rest : List Case) (m : SearchMoment) (x : List Ratio) (trial : Trial) (a : NextOfSearch) → GoesFromTrial P t C rest m x trial a → TriedBy bland_search P t g C rest m x trial a
@@ -35,9 +35,9 @@ module _ (P : Problem) (t : Terms) where
     best_on : (b : Ratio) (x : List Ratio) (ms : List Multiplier) (a : NextOfSearch) (ray : Option (List Ratio)) → C.ray ≡ ray → GoesFromBest P t ray C rest m before b x ms a
         → ((h : Given) → BestBy bland_search P t ray h C rest m b x ms a) ⊎ ((ss : List Status) × EndsAtBasis C.program (is_some ray) t before (Best b x ms) m.clock ss × BestBy bland_search P t ray (Some ss) C rest m b x ms a)
     best_on b x ms a None e (inl p) = inl (λ h. inl p)
-    best_on b x ms a None e (inr (hope, inl p)) = inl (λ h. inr (hope, inl p))
-    best_on b x ms a None e (inr (hope, inr (inl p))) = inl (λ h. inr (hope, inr (inl p)))
-    best_on b x ms a None e (inr (hope, inr (inr (ss, trial, may, other, ends, tries, p)))) = inr (ss, ends, inr (hope, inr (inr (ss, trial, may, other, refl, tries, tried_on (Some ss) C rest m x trial a p))))
+    best_on b x ms a None e (inr (hope, inl p)) = inl (λ h. inr (hope, inr (λ s none q. none, inl p)))
+    best_on b x ms a None e (inr (hope, inr (inl p))) = inl (λ h. inr (hope, inr (λ s none q. none, inr (inl p))))
+    best_on b x ms a None e (inr (hope, inr (inr (ss, trial, may, other, ends, tries, p)))) = inr (ss, ends, inr (hope, inr (λ s none q. none, inr (inr (ss, trial, may, other, refl, tries, tried_on (Some ss) C rest m x trial a p)))))
     best_on b x ms a (Some r) e p = inl (λ h. p)
 
     goes_by : (e : End) (a : NextOfSearch) → GoesFrom P t C rest m before e a → OnBy e a
@@ -51,9 +51,10 @@ module _ (P : Problem) (t : Terms) where
 
     best_back : (h : Given) (b : Ratio) (x : List Ratio) (ms : List Multiplier) (a : NextOfSearch) (ray : Option (List Ratio)) → ((ss : List Status) → h ≡ Some ss → EndsAtBasis C.program (is_some ray) t before (Best b x ms) m.clock ss) → BestBy bland_search P t ray h C rest m b x ms a → GoesFromBest P t ray C rest m before b x ms a
     best_back h b x ms a None at (inl p) = inl p
-    best_back h b x ms a None at (inr (hope, inl p)) = inr (hope, inl p)
-    best_back h b x ms a None at (inr (hope, inr (inl p))) = inr (hope, inr (inl p))
-    best_back h b x ms a None at (inr (hope, inr (inr (ss, trial, may, other, e, tries, p)))) = inr (hope, inr (inr (ss, trial, may, other, at ss e, tries, tried_back h C rest m x trial a p)))
+    best_back h b x ms a None at (inr (hope, inl (s, none, q, e))) = absurd none
+    best_back h b x ms a None at (inr (hope, inr (off, inl p))) = inr (hope, inl p)
+    best_back h b x ms a None at (inr (hope, inr (off, inr (inl p)))) = inr (hope, inr (inl p))
+    best_back h b x ms a None at (inr (hope, inr (off, inr (inr (ss, trial, may, other, e, tries, p))))) = inr (hope, inr (inr (ss, trial, may, other, at ss e, tries, tried_back h C rest m x trial a p)))
     best_back h b x ms a (Some r) at p = p
 
     goes_back : (h : Given) (e : End) (a : NextOfSearch) → ((ss : List Status) → h ≡ Some ss → ((k : ℕ) → e ≡ Clash k → ⊥) → EndsAtBasis C.program (is_some C.ray) t before e m.clock ss) → GoesBy bland_search P t h C rest m (Ends e) a → GoesFrom P t C rest m before e a
@@ -75,7 +76,7 @@ module _ (P : Problem) (t : Terms) where
       C = v.visit.case
 
       of : (h : Given) → RunBy bland C.program (is_some C.ray) t g (best_value m.level m.best) (looked_once m.clock) (Ends v.end) v.clock h → GoesBy bland_search P t h C v.visit.rest (record m { clock = v.clock }) (Ends v.end) a → (h : Given) × IsVisitBy bland_search P t (held m g) (with_basis h a)
-      of h r p = (h, record { finish = Ends v.end; clock = v.clock; basis = h; visit = record { case = C; rest = v.visit.rest; is = v.visit.is; begins = v.visit.begins; run = r }; after = a; goes = p; is = refl })
+      of h r p = (kept_for (is_some C.ray) h a, record { finish = Ends v.end; clock = v.clock; basis = h; visit = record { case = C; rest = v.visit.rest; is = v.visit.is; begins = v.visit.begins; run = r }; after = a; goes = p; is = refl })
 
       by : OnBy C v.visit.rest (record m { clock = v.clock }) (looked_once m.clock) v.end a → (h : Given) × IsVisitBy bland_search P t (held m g) (with_basis h a)
       by (inl f) = let r = run_on C.program (is_some C.ray) t g (best_value m.level m.best) (looked_once m.clock) v.end v.clock v.visit.run in of r.0 r.1 (f r.0)
@@ -100,7 +101,7 @@ module _ (P : Problem) (t : Terms) where
           let run = subst (λ f. RunBy bland C.program (is_some C.ray) t s.basis (best_value m.level m.best) (looked_once m.clock) f v.clock v.basis) f v.visit.run in
           let goes = subst (λ f. GoesBy bland_search P t v.basis C v.visit.rest (record m { clock = v.clock }) f v.after) f v.goes in (
             v.after,
-            v.basis,
+            kept_for (is_some C.ray) v.basis v.after,
             v.is,
             record {
               end = e;

@@ -9,7 +9,7 @@ use Rattle.simplex_rules.specs.RuleRuns.{Finish, Ends, Passed}
 use Rattle.search_rules.specs.Branching.{Case}
 use Rattle.search_rules.specs.Cuts.{Trial, NoCut, WideCut, Cut}
 use Rattle.search_rules.specs.Search.{SearchMoment, NextOfSearch, Outcome}
-use Rattle.search_rules.specs.RuleSearch.{BranchView, SearchRules, MomentBy, NextBy, On, BranchesBy, MeetsBy, TriedBy, HopesBy, BestBy, GoesBy, IsRunOfCase, IsNextBy, ComesBy, begins, goes_on, SearchBy, IsAnswerBy, searched, given_up, given_up_after}
+use Rattle.search_rules.specs.RuleSearch.{BranchView, SearchRules, MomentBy, NextBy, On, BranchesBy, MeetsBy, TriedBy, HopesBy, RoundsBy, BestBy, GoesBy, IsRunOfCase, IsNextBy, ComesBy, begins, goes_on, SearchBy, IsAnswerBy, searched, given_up, given_up_after}
 
 module _ (S : SearchRules) (Splits : BranchView → ℕ → ℤ → Type 0) (Divides : BranchView → ℕ → Type 0) (P : Problem) (t : Terms) where
   abbrev others : SearchRules
@@ -39,9 +39,13 @@ module _ (S : SearchRules) (Splits : BranchView → ℕ → ℤ → Type 0) (Div
     hopes b x ms n (inr (inl (never, p))) = inr (inl (never, branches C refl x n p))
     hopes b x ms n (inr (inr (ss, trial, may, unmet, e, from, p))) = inr (inr (ss, trial, may, unmet, e, from, tries x trial n p))
 
+    rounds : (b : Ratio) (x : List Ratio) (ms : List Multiplier) (n : NextOfSearch) → RoundsBy S P t g C rest m b x ms n → RoundsBy others P t g C rest m b x ms n
+    rounds b x ms n (inl p) = inl p
+    rounds b x ms n (inr (off, p)) = inr (off, hopes b x ms n p)
+
     bests : (ray : Option (List Ratio)) (b : Ratio) (x : List Ratio) (ms : List Multiplier) (n : NextOfSearch) → BestBy S P t ray g C rest m b x ms n → BestBy others P t ray g C rest m b x ms n
     bests None b x ms n (inl p) = inl p
-    bests None b x ms n (inr (hope, p)) = inr (hope, hopes b x ms n p)
+    bests None b x ms n (inr (hope, p)) = inr (hope, rounds b x ms n p)
     bests (Some r) b x ms n p = meets C refl x ms n p
 
     goes : (f : Finish) (n : NextOfSearch) → GoesBy S P t g C rest m f n → GoesBy others P t g C rest m f n

@@ -7,7 +7,7 @@ use Rattle.rational.specs.Ratio.{Ratio, product, IsSame, IsNumber, IsAtMost}
 use Rattle.rational.proofs.Scaling.{IsSame-trans}
 use Rattle.evidence.specs.Instance.{Variable, Goal, Instance, Problem, IsInstance, IsProblem, no_variable, width, cost_at, variable_at, minimising}
 use Rattle.evidence.specs.Point.{value_at, objective, IsFeasible}
-use Rattle.evidence.specs.Cases.{Multiplier, Node, ClashAt, FarkasBy, BoundBy, SplitAt, ZeroAt, IsBound, IsZeroBranch}
+use Rattle.evidence.specs.Cases.{Multiplier, Node, ClashAt, FarkasBy, BoundBy, GridBy, SplitAt, ZeroAt, IsBound, IsGrid, IsZeroBranch}
 use Rattle.evidence.specs.Rounds as With
 use Rattle.evidence.specs.Rounds.{Certificate, RoundBy, derive}
 use Rattle.evidence.specs.Levels.{IsReachedEnd}
@@ -25,7 +25,7 @@ use Rattle.search_rules.specs.Cuts.{MakesCut, Trial, NoCut, WideCut, Cut, TriesM
 use Rattle.search_rules.specs.Rays.{IsScaled}
 use Rattle.search_rules.specs.Search.{Found, Level, SearchMoment, To, first, undivided, shown_at, reached, closed_by_leaf, branch, divide, with_cut, next_level_at, IsPassed, IsHopeful, IsValue, AreValuesAt, Branches, MayCut, TakesFound, TakesPoint, MeetsPoint, GoesFromTrial, ImprovesBest, GoesFromBest, GoesFrom, ClosesLevel, IsNextInSearch, ComesInSearch, begins, goes_on}
 use Rattle.search_rules.specs.Outcomes.{IsPoint, Proves, CertificateProves}
-use Rattle.search_rules.proofs.Nodes.{ProvesAll, no_nodes, Within, Leads, leads_first, leads_on, leads_out, clash_first, farkas_first, bound_first, split_first, zero_first, at_most-trans, at_most-below, at_most-same, minimising_by-same}
+use Rattle.search_rules.proofs.Nodes.{ProvesAll, no_nodes, Within, Leads, leads_first, leads_on, leads_out, clash_first, farkas_first, bound_first, grid_first, split_first, zero_first, at_most-trans, at_most-below, at_most-same, minimising_by-same}
 use Rattle.search_rules.proofs.Cases.{IsCase, itself, case_cut, IsEndless, IsOpen, open_most, open_least, open_zero, open_own, open_undivided, feasible, objective_of}
 use Rattle.search_rules.proofs.Endless.{endless_case}
 use Rattle.search_rules.proofs.Rays.{scaled_as}
@@ -135,6 +135,17 @@ module _ (P : Problem) (C : Case) (rest : List Case) (m : SearchMoment) (h : Hol
       closes : (z : Option Ratio) → Within l z (Some p.found) → (more : List Node) → ProvesAll rest more z → ProvesAll (C ∷ rest) (BoundBy ms ∷ more) z
       closes None w more o = absurd w
       closes (Some a) w more o = bound_first C rest ms b a more n bound (at_most-trans a (minimising L (reached l p.found)) b number w p.passed) o
+
+  -- or by one that isn't once it is rounded
+  pub rounded_holds : (found : Found) (g : Ratio) (ms : List Multiplier) → m.best ≡ Some found → IsGrid C.program g ms (minimising L (reached l found)) → Holds P (closed_by_leaf m rest (GridBy g ms))
+  rounded_holds found g ms is grid = same_best rest (GridBy g ms) others (λ z w more o. closes z (subst (Within l z) is w) more o)
+    where
+      number : IsNumber (minimising L (reached l found))
+      number = minimising-number L (reached l found) (best_number P l found h.level (h.best found is))
+
+      closes : (z : Option Ratio) → Within l z (Some found) → (more : List Node) → ProvesAll rest more z → ProvesAll (C ∷ rest) (GridBy g ms ∷ more) z
+      closes None w more o = absurd w
+      closes (Some a) w more o = grid_first C rest g ms (minimising L (reached l found)) a more number grid w o
 
   -- a leaf at a point that becomes the best
   pub taken_holds : (b : Ratio) (x : List Ratio) (ms : List Multiplier) (vs : List Ratio) → IsBest C.program b x ms → IsHopeful l m.best b → AreMetBelow C.program x (width C.program) → PointFits P x → AreValuesAt P x vs → Holds P (closed_by_leaf (record m { best = Some (record { point = x; values = vs }) }) rest (BoundBy ms))

@@ -1,11 +1,11 @@
 -- What the nodes of a level show, with trees for the cases still open.
 use Rattle.std.proofs.Common.{◌≡◌, inl, ℕ, ◌+◌, ◌<◌, ℤ, pos, neg_ℤ, ◌+ℤ◌, ◌*ℤ◌, Option, None, Some, List, [], ◌∷◌, ◌++◌, map, append_assoc, append-nil, arith, refl, sym, ◌∙◌, ap, subst}
 use Rattle.std.proofs.lemmas.Int.{ints}
-use Rattle.rational.specs.Ratio.{Ratio, IsSame, IsBelow, IsNumber, IsAtMost}
+use Rattle.rational.specs.Ratio.{Ratio, whole, sum, product, IsSame, IsBelow, IsNumber, IsAtMost}
 use Rattle.rational.proofs.Integers.{more-times, most-from_times, neg-times}
 use Rattle.rational.proofs.Scaling.{times_swap}
 use Rattle.evidence.specs.Instance.{Instance, Sense, Minimum, Maximum, width, height, column_at, minimising, minimising_by}
-use Rattle.evidence.specs.Cases.{Multiplier, Clash, Farkas, Bound, Zero, Node, ClashAt, FarkasBy, BoundBy, SplitAt, ZeroAt, preorder, IsEmpty, IsFarkas, IsBound, IsBranch, IsZeroBranch, low_sum, at_most, high_case}
+use Rattle.evidence.specs.Cases.{Multiplier, Clash, Farkas, Bound, Grid, Zero, Node, ClashAt, FarkasBy, BoundBy, GridBy, SplitAt, ZeroAt, preorder, IsEmpty, IsFarkas, IsBound, IsGrid, IsBranch, IsZeroBranch, low_sum, at_most, high_case}
 use Rattle.evidence.specs.PendingNodes.{anything, ProvesAll as AllProve}
 use Rattle.evidence.proofs.RowBranches.{low_variable, high_variable}
 use Rattle.evidence.proofs.PendingNodes.{split_back}
@@ -57,6 +57,11 @@ pub bound_first : (C : Case) (rest : List Case) (ms : List Multiplier) (b w : Ra
 bound_first C rest ms b w after n h le o =
     let J = C.program in
     (Bound ms, after, refl, record { legal = h.legal; costs = h.costs; reaches = at_most-trans w b (low_sum J (minimising J J.goal.constant) ms) n le h.reaches }, tt, o)
+
+pub grid_first : (C : Case) (rest : List Case) (g : Ratio) (ms : List Multiplier) (v w : Ratio) (after : List Node) → IsNumber v → IsGrid C.program g ms v → IsAtMost w v → ProvesAll rest after (Some w) → ProvesAll (C ∷ rest) (GridBy g ms ∷ after) (Some w)
+grid_first C rest g ms v w after n h le o =
+    let J = C.program in
+    (Grid g ms, after, refl, record { legal = h.legal; costs = h.costs; step = h.step; steps = h.steps; rounded = h.rounded; reaches = at_most-trans w v (sum (minimising J J.goal.constant) (product (whole h.steps) g)) n le h.reaches }, tt, o)
 
 pub split_first : (C : Case) (rest : List Case) (j : ℕ) (k : ℤ) (after : List Node) (z : Option Ratio) → IsBranch C.program j k → ProvesAll (split_cases C j k rest) after z → ProvesAll (C ∷ rest) (SplitAt j k ∷ after) z
 split_first C rest j k after z br s =

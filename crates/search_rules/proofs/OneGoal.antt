@@ -3,7 +3,7 @@ use Rattle.std.proofs.Common.{◌≡◌, ℕ, inl, inr, ℤ, Option, None, Some,
 use Rattle.std.specs.List.{All}
 use Rattle.std.proofs.lemmas.List.Elements.{All-head, All-cons, All-nil}
 use Rattle.rational.specs.Ratio.{Ratio}
-use Rattle.evidence.specs.Instance.{Range, Variable, Goal, Instance, Problem, IsInstance, IsProblem, IsGoalOfNumbers, alone, no_variable, variable_at}
+use Rattle.evidence.specs.Instance.{Range, Variable, Instance, Problem, IsInstance, IsProblem, IsGoalOfNumbers, alone, no_variable, variable_at}
 use Rattle.evidence.specs.Point.{value_at, IsZeroOr}
 use Rattle.evidence.specs.Cases.{Multiplier, IsZeroBranch}
 use Rattle.evidence.specs.Rounds.{Certificate, Round}
@@ -13,7 +13,6 @@ use Rattle.simplex_rules.specs.Ends.{Terms, Clock, End, Clash, Empty, Best, Endl
 use Rattle.simplex_rules.specs.Runs.{looked_once}
 use Rattle.simplex_rules.proofs.LeastIndices as Indices
 use Rattle.search_rules.specs.Branching.{Case, IsEither, IsSplit}
-use Rattle.search_rules.specs.Cuts.{NoCut, Cut}
 use Rattle.search_rules.specs.Search as Rules
 use Rattle.search_rules.specs.Search.{Found, SearchMoment, NextOfSearch, To, Out, early, MayCut, Branches, TakesFound, TakesPoint, MeetsPoint, GoesFromBest, GoesFrom, StopsBefore, ClosesLevel, IsNextInSearch, ComesInSearch, begins, goes_on}
 use Rattle.search_rules.specs.Outcomes.{IsPoint, IsShown}
@@ -24,7 +23,7 @@ use Rattle.search_rules.proofs.Outcomes as Outcomes
 use Rattle.search_rules.proofs.RuleSearches.{comes_hold}
 use Rattle.search_rules.proofs.NamedSearches.{legal_bland}
 use Rattle.search_rules.proofs.LeastSearches as Least
-use Rattle.search_rules.proofs.LikeSearches.{IsLike, IsLikeAt, search_like, answer_like}
+use Rattle.search_rules.proofs.LikeSearches.{IsLikeAt, search_like, answer_like}
 
 -- no variable of a case may be 0 besides
 abbrev HasOneRange : Instance → Type 0

@@ -3,17 +3,17 @@ use Rattle.std.proofs.Common.{◌≡◌, inl, inr, Option, None, Some, List, [],
 use Rattle.std.specs.List.{All}
 use Rattle.std.specs.Option.{is_some}
 use Rattle.rational.specs.Ratio.{Ratio, IsNumber}
-use Rattle.evidence.specs.Instance.{Instance, Problem, IsInstance, IsProblem, width}
-use Rattle.evidence.specs.Cases.{Multiplier}
-use Rattle.simplex_rules.specs.Ends.{Terms, Clock, End, Clash, Empty, Best, Endless, TurnsOut, TooWide, Stopped}
+use Rattle.evidence.specs.Instance.{Problem, IsInstance, IsProblem, width}
+use Rattle.evidence.specs.Cases.{Multiplier, GridBy}
+use Rattle.simplex_rules.specs.Ends.{Terms, Clock, Clash, Empty, Best, Endless, TurnsOut, TooWide, Stopped}
 use Rattle.simplex_rules.specs.Runs.{looked_once}
 use Rattle.simplex_rules.specs.Rules.{Given}
 use Rattle.simplex_rules.specs.RuleRuns.{Finish, Ends, Passed, ShownBy, RunBy}
 use Rattle.simplex_rules.proofs.RuleEnds.{run_once}
 use Rattle.search_rules.specs.Branching.{Case, AreMetBelow}
 use Rattle.search_rules.specs.Cuts.{Trial, NoCut, WideCut, Cut, TriesBasis}
-use Rattle.search_rules.specs.Search.{SearchMoment, NextOfSearch, Outcome, To, Out, first, branch, divide}
-use Rattle.search_rules.specs.RuleSearch.{BranchView, SearchRules, AreLegalSearches, AreSingleSearches, MomentBy, NextBy, On, Off, with_basis, best_value, BranchesBy, MeetsBy, TriedBy, HopesBy, BestBy, AlongBy, GoesBy, IsVisitBy, IsNextBy, ComesBy, begins, goes_on, SearchBy}
+use Rattle.search_rules.specs.Search.{SearchMoment, NextOfSearch, Outcome, To, first, closed_by_leaf, branch, divide}
+use Rattle.search_rules.specs.RuleSearch.{BranchView, SearchRules, AreLegalSearches, AreSingleSearches, MomentBy, NextBy, On, Off, kept_for, with_basis, best_value, BranchesBy, MeetsBy, TriedBy, HopesBy, RoundsBy, BestBy, AlongBy, GoesBy, IsVisitBy, IsNextBy, ComesBy, begins, goes_on, SearchBy}
 use Rattle.search_rules.proofs.Rays.{one_ray}
 use Rattle.search_rules.proofs.OneCut.{trial_once}
 use Rattle.search_rules.proofs.Moments.{Holds, holds_first, this}
@@ -64,11 +64,17 @@ module _ (S : SearchRules) (legal : AreLegalSearches S) (single : AreSingleSearc
           let k : trial ≡ tried = trial_once C.program fine x us trial tried (subst (λ ss. TriesBasis C.program x ss trial) r tries) tries_too in
           tried_once x tried a b (subst (λ k. TriedBy S P t g C rest m x k a) k p) q
 
+      rounds_once : (c : Ratio) (x : List Ratio) (ms : List Multiplier) (a b : NextOfSearch) → RoundsBy S P t g C rest m c x ms a → RoundsBy S P t g C rest m c x ms b → a ≡ b
+      rounds_once c x ms a b (inl (s, p, r, e)) (inl (u, q, o, f)) = e ∙ ap (λ s. To (closed_by_leaf m rest (GridBy s ms))) (single.steps C.program s u p q) ∙ sym f
+      rounds_once c x ms a b (inl (s, p, r, e)) (inr (off, q)) = absurd (off s p r)
+      rounds_once c x ms a b (inr (off, q)) (inl (s, p, r, e)) = absurd (off s p r)
+      rounds_once c x ms a b (inr (off, p)) (inr (nor, q)) = hopes_once c x ms a b p q
+
       best_once : (before : Clock) (ray : Option (List Ratio)) (c : Ratio) (x : List Ratio) (ms : List Multiplier) (a b : NextOfSearch) → BestBy S P t ray g C rest m c x ms a → BestBy S P t ray g C rest m c x ms b → a ≡ b
       best_once before None c x ms a b (inl (p, e)) (inl (q, f)) = e ∙ sym f
       best_once before None c x ms a b (inl (p, e)) (inr (q, f)) = absurd (not_both P good t C rest m fine before m.level m.best c p q)
       best_once before None c x ms a b (inr (p, e)) (inl (q, f)) = absurd (not_both P good t C rest m fine before m.level m.best c q p)
-      best_once before None c x ms a b (inr (p, e)) (inr (q, f)) = hopes_once c x ms a b e f
+      best_once before None c x ms a b (inr (p, e)) (inr (q, f)) = rounds_once c x ms a b e f
       best_once before (Some r) c x ms a b p q = meets_once x ms a b p q
 
   along_once : (g : Given) (C : Case) (rest : List Case) (m : SearchMoment) (x d : List Ratio) (numbers : All IsNumber d) (a b : NextOfSearch) → AlongBy S P t g C rest m x d a → AlongBy S P t g C rest m x d b → a ≡ b
@@ -110,7 +116,11 @@ module _ (S : SearchRules) (legal : AreLegalSearches S) (single : AreSingleSearc
       let g = subst (λ c. GoesBy S P t v.basis C w.visit.rest (record m { clock = c }) w.finish v.after) r.1 g in
       let g = subst (λ z. GoesBy S P t z C w.visit.rest (record m { clock = w.clock }) w.finish v.after) r.2 g in
       let o : v.after ≡ w.after = goes_once w.basis C w.visit.rest (record m { clock = w.clock }) n w.finish v.after w.after (visit_true S legal P t s w.finish w.clock w.basis w.visit h) g w.goes in
-      v.is ∙ ap (λ z. with_basis z v.after) r.2 ∙ ap (with_basis w.basis) o ∙ sym w.is
+      v.is
+      ∙ ap (λ D. with_basis (kept_for (is_some D.ray) v.basis v.after) v.after) p
+      ∙ ap (λ z. with_basis (kept_for (is_some C.ray) z v.after) v.after) r.2
+      ∙ ap (λ n. with_basis (kept_for (is_some C.ray) w.basis n) n) o
+      ∙ sym w.is
 
   waits : (s : MomentBy) (a : NextBy) → IsVisitBy S P t s a → s.moment.waiting ≡ [] → ⊥
   waits s a v e = let q = v.visit.is in cc
@@ -127,7 +137,7 @@ module _ (S : SearchRules) (legal : AreLegalSearches S) (single : AreSingleSearc
   next_once s a b h (inr (inr v)) (inr (inr w)) = visit_once s a b h v w
 
   -- the moments from one on, to the end
-  data Halts : MomentBy → Outcome → Clock → Type 0 where
+  pub data Halts : MomentBy → Outcome → Clock → Type 0 where
     now : {m : MomentBy} {o : Outcome} {c : Clock} → IsNextBy S P t m (Off o c) → Halts m o c
     later : {m n : MomentBy} {o : Outcome} {c : Clock} → IsNextBy S P t m (On n) → Halts n o c → Halts m o c
 
@@ -135,7 +145,7 @@ module _ (S : SearchRules) (legal : AreLegalSearches S) (single : AreSingleSearc
   from_first m o c begins h = h
   from_first m o c (goes_on {m = before} p next) h = from_first before o c p (later next h)
 
-  halts_once : (m : MomentBy) (o : Outcome) (c : Clock) → Holds P m.moment → Halts m o c → (n : MomentBy) (p : Outcome) (d : Clock) → n ≡ m → Halts n p d → (o ≡ p) × (c ≡ d)
+  pub halts_once : (m : MomentBy) (o : Outcome) (c : Clock) → Holds P m.moment → Halts m o c → (n : MomentBy) (p : Outcome) (d : Clock) → n ≡ m → Halts n p d → (o ≡ p) × (c ≡ d)
   halts_once m o c h (now a) n p d e (now b) = let q = next_once m (Off o c) (Off p d) h a (subst (λ k. IsNextBy S P t k (Off p d)) e b) in (cc, cc)
   halts_once m o c h (now a) n p d e (later {n = k} b i) = let q = next_once m (Off o c) (On k) h a (subst (λ i. IsNextBy S P t i (On k)) e b) in absurd (cc)
   halts_once m o c h (later {n = k} a i) n p d e (now b) = let q = next_once m (On k) (Off p d) h a (subst (λ i. IsNextBy S P t i (Off p d)) e b) in absurd (cc)

@@ -1,24 +1,24 @@
 -- What holds at each moment of a search by legal rules stays so, and its outcome is shown.
-use Rattle.std.proofs.Common.{◌≡◌, inl, inr, ℤ, pos, ◌+ℤ◌, false, Option, None, Some, List, [], ◌∷◌, refl, sym, ◌∙◌, ap, subst}
+use Rattle.std.proofs.Common.{◌≡◌, inl, inr, pos, ◌+ℤ◌, false, Option, None, Some, List, [], ◌∷◌, refl, sym, ◌∙◌, ap, subst}
 use Rattle.std.specs.List.{All}
 use Rattle.std.specs.Option.{is_some}
 use Rattle.rational.specs.Ratio.{Ratio}
 use Rattle.evidence.specs.Instance.{Problem, IsProblem}
-use Rattle.evidence.specs.Cases.{Multiplier, ClashAt, FarkasBy, BoundBy, SplitAt}
+use Rattle.evidence.specs.Cases.{Multiplier, ClashAt, FarkasBy, BoundBy, GridBy, SplitAt}
 use Rattle.simplex_rules.specs.declared.columns.Status.{Status}
-use Rattle.simplex_rules.specs.Ends.{Terms, Clock, End, Clash, Empty, Best, Endless, TurnsOut, TooWide, Stopped, IsRelaxed, IsBest}
+use Rattle.simplex_rules.specs.Ends.{Terms, Clock, Clash, Empty, Best, Endless, TurnsOut, TooWide, Stopped, IsRelaxed, IsBest}
 use Rattle.simplex_rules.specs.Runs.{looked_once}
 use Rattle.simplex_rules.specs.Rules.{Given}
 use Rattle.simplex_rules.specs.RuleRuns.{Finish, Ends, Passed, ShownBy}
 use Rattle.simplex_rules.proofs.RuleMoments.{run_true}
 use Rattle.search_rules.specs.Branching.{Case, split_cases}
 use Rattle.search_rules.specs.Cuts.{Trial, NoCut, WideCut, Cut, TriesBasis}
-use Rattle.search_rules.specs.Search.{Level, SearchMoment, NextOfSearch, Outcome, To, Out, closed_by_leaf, branch, divide, with_cut, IsHopeful, MayCut, ClosesLevel, StopsBefore}
+use Rattle.search_rules.specs.Search.{SearchMoment, NextOfSearch, Outcome, To, Out, closed_by_leaf, branch, divide, with_cut, IsHopeful, MayCut, ClosesLevel, StopsBefore}
 use Rattle.search_rules.specs.Outcomes.{IsShown}
-use Rattle.search_rules.specs.RuleSearch.{SearchRules, AreLegalSearches, MomentBy, NextBy, On, Off, with_basis, best_value, BranchesBy, MeetsBy, TriedBy, HopesBy, BestBy, GoesBy, IsRunOfCase, IsNextBy, ComesBy, begins, goes_on, SearchBy, IsAnswerBy, searched, given_up, given_up_after}
+use Rattle.search_rules.specs.RuleSearch.{SearchRules, AreLegalSearches, MomentBy, On, Off, kept_for, with_basis, best_value, BranchesBy, MeetsBy, TriedBy, HopesBy, RoundsBy, BestBy, GoesBy, IsRunOfCase, IsNextBy, ComesBy, begins, goes_on, SearchBy, IsAnswerBy, searched, given_up, given_up_after}
 use Rattle.search_rules.proofs.Nodes.{Leads, clash_first, farkas_first, split_first}
 use Rattle.search_rules.proofs.Cases.{IsOpen, open_most, open_least}
-use Rattle.search_rules.proofs.Moments.{Holds, holds_first, clocked, passed_holds, same_best, both_open, divide_holds, takes_hold, cut_of, this, others, so_far, open_along, cut_holds, closes_hold}
+use Rattle.search_rules.proofs.Moments.{Holds, holds_first, clocked, passed_holds, rounded_holds, same_best, both_open, divide_holds, takes_hold, cut_of, this, others, so_far, open_along, cut_holds, closes_hold}
 use Rattle.search_rules.proofs.Outcomes.{early_shown, given_shown, stops_shown, closes_shown, takes_shown}
 
 module _ (S : SearchRules) (legal : AreLegalSearches S) (P : Problem) (t : Terms) where
@@ -56,12 +56,18 @@ module _ (S : SearchRules) (legal : AreLegalSearches S) (P : Problem) (t : Terms
     hopes_hold b x ms n best hope (inr (inl (never, p))) = here_hold x n p
     hopes_hold b x ms n best hope (inr (inr (ss, trial, may, other, e, tries, p))) = tried_holds x ss trial n may tries p
 
+    rounds_hold : (b : Ratio) (x : List Ratio) (ms : List Multiplier) (n : SearchMoment) → IsBest C.program b x ms → IsHopeful m.level m.best b → RoundsBy S P t g C rest m b x ms (To n) → Holds P n
+    rounds_hold b x ms n best hope (inl (s, steps, p, e)) =
+        let q : closed_by_leaf m rest (GridBy s ms) ≡ n = cc in
+        subst (Holds P) q (rounded_holds P C rest m h opened (others P C rest m is h) (so_far P C rest m is h) p.found s ms p.is p.grid)
+    rounds_hold b x ms n best hope (inr (off, p)) = hopes_hold b x ms n best hope p
+
     best_holds : (b : Ratio) (x : List Ratio) (ms : List Multiplier) (n : SearchMoment) → (is_some C.ray ≡ false → IsBest C.program b x ms) → (ray : Option (List Ratio)) → C.ray ≡ ray → BestBy S P t ray g C rest m b x ms (To n) → Holds P n
     best_holds b x ms n is_best None e (inl (p, f)) =
         let best : IsBest C.program b x ms = is_best (ap is_some e) in
         let q : closed_by_leaf m rest (BoundBy ms) ≡ n = cc in
         subst (Holds P) q (passed_holds P C rest m h opened (others P C rest m is h) (so_far P C rest m is h) b ms best.number best.bound p)
-    best_holds b x ms n is_best None e (inr (hope, p)) = hopes_hold b x ms n (is_best (ap is_some e)) hope p
+    best_holds b x ms n is_best None e (inr (hope, p)) = rounds_hold b x ms n (is_best (ap is_some e)) hope p
     best_holds b x ms n is_best (Some r) e p = meets_hold g C rest m h opened (others P C rest m is h) (so_far P C rest m is h) x ms n (λ none. let no : Some r ≡ None = sym e ∙ none in absurd (cc)) p
 
     goes_hold : (f : Finish) (n : SearchMoment) → ShownBy (is_some C.ray) C.program f → GoesBy S P t g C rest m f (To n) → Holds P n
@@ -102,9 +108,10 @@ module _ (S : SearchRules) (legal : AreLegalSearches S) (P : Problem) (t : Terms
 
     best_shown : (b : Ratio) (x : List Ratio) (ms : List Multiplier) (o : Outcome) (d : Clock) → IsRelaxed C.program x → (ray : Option (List Ratio)) → BestBy S P t ray g C rest m b x ms (Out o d) → IsShown P o
     best_shown b x ms o d relaxed None (inl (p, e)) = absurd (cc)
-    best_shown b x ms o d relaxed None (inr (hope, inl p)) = takes_shown P m h t C rest opened x ms o d relaxed p
-    best_shown b x ms o d relaxed None (inr (hope, inr (inl (never, p)))) = branches_go_on x o d p
-    best_shown b x ms o d relaxed None (inr (hope, inr (inr (ss, trial, may, other, e, tries, p)))) = tried_shown x trial o d p
+    best_shown b x ms o d relaxed None (inr (hope, inl (s, steps, p, e))) = absurd (cc)
+    best_shown b x ms o d relaxed None (inr (hope, inr (off, inl p))) = takes_shown P m h t C rest opened x ms o d relaxed p
+    best_shown b x ms o d relaxed None (inr (hope, inr (off, inr (inl (never, p))))) = branches_go_on x o d p
+    best_shown b x ms o d relaxed None (inr (hope, inr (off, inr (inr (ss, trial, may, other, e, tries, p))))) = tried_shown x trial o d p
     best_shown b x ms o d relaxed (Some r) p = meets_shown C opened x ms o d relaxed p
 
     goes_shown : (f : Finish) (o : Outcome) (d : Clock) → ShownBy (is_some C.ray) C.program f → GoesBy S P t g C rest m f (Out o d) → IsShown P o
@@ -145,23 +152,23 @@ module _ (S : SearchRules) (legal : AreLegalSearches S) (P : Problem) (t : Terms
       let C = v.visit.case in
       goes_hold v.basis C v.visit.rest (record (s.moment) { clock = v.clock }) v.visit.is (clocked P s.moment v.clock h) v.finish n.moment
       (visit_true s v.finish v.clock v.basis v.visit h)
-      (subst (λ a. GoesBy S P t v.basis C v.visit.rest (record (s.moment) { clock = v.clock }) v.finish a) (on_is v.basis v.after n v.is) v.goes)
+      (subst (λ a. GoesBy S P t v.basis C v.visit.rest (record (s.moment) { clock = v.clock }) v.finish a) (on_is (kept_for (is_some C.ray) v.basis v.after) v.after n v.is) v.goes)
 
   pub comes_hold : IsProblem P → (s : MomentBy) → ComesBy S P t s → Holds P s.moment
   comes_hold n s begins = holds_first P n
   comes_hold n s (goes_on {m = before} c next) = next_holds before s (comes_hold n before c) next
 
+  pub next_shown : (s : MomentBy) (o : Outcome) (d : Clock) → Holds P s.moment → IsNextBy S P t s (Off o d) → IsShown P o
+  next_shown s o d h (inl (a, none, c, e)) = closes_shown P s.moment h none t o d s.moment.best s.moment.level.later refl refl (subst (λ a. ClosesLevel P t s.moment s.moment.best s.moment.level.later a) (off_is s.basis a o d e) c)
+  next_shown s o d h (inr (inl (a, some, p, e))) = stops_shown P s.moment h t o d (subst (λ a. StopsBefore P t s.moment a) (off_is s.basis a o d e) p)
+  next_shown s o d h (inr (inr v)) =
+      let C = v.visit.case in
+      goes_shown v.basis C v.visit.rest (record (s.moment) { clock = v.clock }) v.visit.is (clocked P s.moment v.clock h) v.finish o d
+      (visit_true s v.finish v.clock v.basis v.visit h)
+      (subst (λ a. GoesBy S P t v.basis C v.visit.rest (record (s.moment) { clock = v.clock }) v.finish a) (off_is (kept_for (is_some C.ray) v.basis v.after) v.after o d v.is) v.goes)
+
   pub outcome_shown : (o : Outcome) (d : Clock) → IsProblem P → SearchBy S P t o d → IsShown P o
-  outcome_shown o d n s = by s.last (comes_hold n s.last s.comes) s.ends
-    where
-      by : (s : MomentBy) → Holds P s.moment → IsNextBy S P t s (Off o d) → IsShown P o
-      by s h (inl (a, none, c, e)) = closes_shown P s.moment h none t o d s.moment.best s.moment.level.later refl refl (subst (λ a. ClosesLevel P t s.moment s.moment.best s.moment.level.later a) (off_is s.basis a o d e) c)
-      by s h (inr (inl (a, some, p, e))) = stops_shown P s.moment h t o d (subst (λ a. StopsBefore P t s.moment a) (off_is s.basis a o d e) p)
-      by s h (inr (inr v)) =
-          let C = v.visit.case in
-          goes_shown v.basis C v.visit.rest (record (s.moment) { clock = v.clock }) v.visit.is (clocked P s.moment v.clock h) v.finish o d
-          (visit_true s v.finish v.clock v.basis v.visit h)
-          (subst (λ a. GoesBy S P t v.basis C v.visit.rest (record (s.moment) { clock = v.clock }) v.finish a) (off_is v.basis v.after o d v.is) v.goes)
+  outcome_shown o d n s = next_shown s.last o d (comes_hold n s.last s.comes) s.ends
 
   pub answer_shown : (o : Outcome) (d : Clock) → IsProblem P → IsAnswerBy S P t o d → IsShown P o
   answer_shown o d n (searched s) = outcome_shown o d n s

@@ -1,19 +1,23 @@
 -- The search `fast`: runs by the rules `fast`, and branching by penalties (Driebeek, An algorithm for the solution of mixed integer programming problems, 1966; Tomlin, An improved branch-and-bound method for integer programming, 1971).
 use Rattle.std.specs.Prelude.{◌≡◌, ℕ, zero, suc, ◌/◌, ◌<◌, ◌⊎◌, ℤ, pos, negsuc, Bool, true, false, cond, nat_lt, IsTrue, Option, None, Some, List}
 use Rattle.std.specs.Option.{is_some}
-use Rattle.rational.specs.Ratio.{Ratio, whole, sum, product, negative, IsBelow, IsSame}
+use Rattle.rational.specs.Ratio.{Ratio, whole, sum, product, negative, IsBelow, IsAtMost, IsSame}
+use Rattle.rational.specs.Width.{IsReduced, IsWithin}
 use Rattle.evidence.specs.Sums.{none, is_below, IsWhole}
 use Rattle.evidence.specs.Instance.{Instance, Range, width, variable_at, column_at}
 use Rattle.evidence.specs.Point.{value_at}
-use Rattle.evidence.specs.Cases.{IsBranch, IsZeroBranch}
+use Rattle.evidence.specs.Cases.{HasStep, IsBranch, IsZeroBranch}
 use Rattle.bases.specs.Dictionary.{Entries}
 use Rattle.bases.specs.Forms.{list_of}
 use Rattle.bases.specs.Program.{goal_column}
 use Rattle.simplex_rules.specs.declared.columns.Status.{Status}
 use Rattle.simplex_rules.specs.declared.columns.Status.TheVariants.{Basic, Lower, Upper, Zero}
 use Rattle.simplex_rules.specs.Statuses.{status_at, basic_in, has_width, HasDictionary}
-use Rattle.simplex_rules.specs.NamedRules.{RuleName, Bland, Fast}
-use Rattle.simplex_rules.specs.Fast.{size, score, is_none, Greater, IsUnbeaten, fast}
+use Rattle.simplex_rules.specs.declared.names.RuleName.{RuleName}
+use Rattle.simplex_rules.specs.declared.names.RuleName.TheVariants.{Bland, Fast}
+use Rattle.scores.specs.Leading.{leading, score}
+use Rattle.scores.specs.Sizes.{size}
+use Rattle.simplex_rules.specs.Fast.{is_none, Greater, IsUnbeaten, fast}
 use Rattle.search_rules.specs.Branching.{IsEither}
 use Rattle.search_rules.specs.RuleSearch.{BranchView, SearchRules, bland_search}
 
@@ -49,6 +53,12 @@ abbrev pub least_below : (ℕ → Option Ratio) → ℕ → Option Ratio
 least_below f zero = None
 least_below f (suc n) = least_penalty (least_below f n) (f n)
 
+-- of two penalties the first is the lesser one
+abbrev pub is_cheaper : Option Ratio → Option Ratio → Bool
+is_cheaper None y = false
+is_cheaper (Some x) None = true
+is_cheaper (Some x) (Some y) = is_below x y
+
 abbrev pub infinite : Option Ratio → Ratio
 infinite None = whole (pos 1)
 infinite (Some x) = none
@@ -78,12 +88,12 @@ module _ (I : Instance) (ss : List Status) (u : Entries) (x : List Ratio) where
   abbrev pub is_whole : ℕ → Bool
   is_whole c = cond (nat_lt c (width I)) (variable_at I c).whole false
 
-  -- what column c costs at least that brings variable j by f down, or up
+  -- what column c costs at least that brings variable j by f down, or up; of cut numbers, so that no product is wide
   abbrev pub penalty_at : Bool → ℕ → Ratio → ℕ → Option Ratio
   penalty_at turned j f c =
       let e = list_of (basic_in ss) u j c in
-      let cost = size (u (goal_column I) c) in
-      let by = score (product cost f) (size e) in
+      let cost = leading (size (u (goal_column I) c)) in
+      let by = score (product cost (leading f)) (size e) in
       cond (can_lower turned (status_at ss c) (column_at I c) e.num) (Some (cond (is_whole c) (greater_of by cost) by)) None
 
   abbrev pub down_at : ℕ → Option Ratio
@@ -98,6 +108,10 @@ module _ (I : Instance) (ss : List Status) (u : Entries) (x : List Ratio) where
   -- where the penalty is 0, how far the value is from whole ones
   abbrev pub middle : ℕ → Ratio
   middle j = cond (is_none (sum (infinite (penalty j)) (finite (penalty j))).num) (let f = rest_of (value_at x j) in lesser_of f (to_one f)) none
+
+  -- the case of at least k + 1 is to come first where going up costs less; and where it costs as much as going down, from a value below 0: cases one in another then lead toward 0
+  abbrev pub goes_up : ℕ → Bool
+  goes_up j = cond (is_cheaper (up_at j) (down_at j)) true (cond (is_cheaper (down_at j) (up_at j)) false (is_below (value_at x j) none))
 
   abbrev pub IsFractional : ℕ → Type 0
   IsFractional j = IsTrue (variable_at I j).whole × (IsWhole (value_at x j) → ⊥)
@@ -126,8 +140,15 @@ pub record IsByPenalty (h : BranchView) (j : ℕ) (k : ℤ) : Type 0 where
   pub dictionary : HasDictionary h.case.program (is_some h.case.ray) statuses entries
   pub unbeaten : IsUnbeaten (width h.case.program) (IsFractional h.case.program statuses entries h.point) (BeatsBy h.case.program statuses entries h.point) j
 
+-- g is the greatest step in which the goal's values go, in lowest terms; without costs there is none
+pub record IsStepOf (I : Instance) (g : Ratio) : Type 0 where
+  pub step : HasStep I g
+  pub reduced : IsReduced g
+  pub within : IsWithin g
+  pub greatest : (h : Ratio) → HasStep I h → IsAtMost h g
+
 abbrev pub fast_search : SearchRules
-fast_search = record { runs = fast; Splits = λ h j k. IsByPenalty h j k; Divides = λ h j. IsFirstUneither h j }
+fast_search = record { runs = fast; Splits = λ h j k. IsByPenalty h j k; Divides = λ h j. IsFirstUneither h j; Steps = λ I g. IsStepOf I g }
 
 -- the search by the rules of this name
 abbrev pub search_rules_of : RuleName → SearchRules

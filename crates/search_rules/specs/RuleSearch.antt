@@ -1,13 +1,14 @@
 -- The search of a problem by rules: which variable divides a case, and by which rules the cases are run, are choices; the dictionary of one run may be where the next begins.
-use Rattle.std.specs.Prelude.{◌≡◌, ℕ, ◌⊎◌, ℤ, Option, None, Some, List, [], ◌∷◌}
+use Rattle.std.specs.Prelude.{◌≡◌, ℕ, ◌⊎◌, ℤ, Bool, true, false, cond, Option, None, Some, List, [], ◌∷◌}
 use Rattle.std.specs.Option.{is_some}
 use Rattle.rational.specs.Ratio.{Ratio}
-use Rattle.evidence.specs.Instance.{Problem, width, minimising}
-use Rattle.evidence.specs.Cases.{Multiplier, ClashAt, FarkasBy, BoundBy, IsBranch, IsZeroBranch}
+use Rattle.evidence.specs.Instance.{Instance, Problem, width, minimising}
+use Rattle.evidence.specs.Cases.{Multiplier, Grid, ClashAt, FarkasBy, BoundBy, GridBy, IsGrid, IsBranch, IsZeroBranch}
+use Rattle.evidence.specs.Width.{TreeFits}
 use Rattle.certificate.specs.declared.causes.Step.TheVariants.{Ray, Round}
 use Rattle.certificate.specs.declared.causes.Cause.TheVariants.{Killed, TurnLimit, Memory}
 use Rattle.simplex_rules.specs.declared.columns.Status.{Status}
-use Rattle.simplex_rules.specs.Ends.{Terms, Clock, End, Clash, Empty, Best, Endless, TurnsOut, TooWide, Stopped}
+use Rattle.simplex_rules.specs.Ends.{Terms, Clock, Clash, Empty, Best, Endless, TurnsOut, TooWide, Stopped}
 use Rattle.simplex_rules.specs.Runs.{looked_once}
 use Rattle.simplex_rules.specs.Rules.{Given, Rules, AreLegalRules, AreSingleRules, bland}
 use Rattle.simplex_rules.specs.RuleRuns.{Finish, Ends, Passed, RunBy}
@@ -28,6 +29,8 @@ pub record SearchRules : Type 1 where
   -- variable j divides the case, by the whole number k, or into 0 and its further ends
   pub Splits : BranchView → ℕ → ℤ → Type 0
   pub Divides : BranchView → ℕ → Type 0
+  -- the step in which the values of a program's goal go, where bounds are rounded by one
+  pub Steps : Instance → Ratio → Type 0
 
 -- all that is asked for the outcome to be shown: a whole variable splits, and one that may be 0 besides divides
 pub record AreLegalSearches (S : SearchRules) : Type 0 where
@@ -40,16 +43,18 @@ pub record AreSingleSearches (S : SearchRules) : Type 0 where
   pub runs : AreSingleRules S.runs
   pub splits : (h : BranchView) (i j : ℕ) (k l : ℤ) → S.Splits h i k → S.Splits h j l → (i ≡ j) × (k ≡ l)
   pub divides : (h : BranchView) (i j : ℕ) → S.Divides h i → S.Divides h j → i ≡ j
+  pub steps : (I : Instance) (g h : Ratio) → S.Steps I g → S.Steps I h → g ≡ h
   pub either : (h : BranchView) (i j : ℕ) (k : ℤ) → S.Splits h i k → S.Divides h j → ⊥
   pub split_unmet : (h : BranchView) (j : ℕ) (k : ℤ) → S.Splits h j k → AreMetBelow h.case.program h.point (width h.case.program) → ⊥
   pub divided_unmet : (h : BranchView) (j : ℕ) → S.Divides h j → AreMetBelow h.case.program h.point (width h.case.program) → ⊥
 
--- the least variable whose value isn't as it must be, from the rows by least indices
+-- the least variable whose value isn't as it must be, from the rows by least indices; no bound is rounded
 abbrev pub bland_search : SearchRules
 bland_search = record {
   runs = bland;
   Splits = λ h j k. IsSplit h.case.program h.point j k;
   Divides = λ h j. IsDividedAt h.case.program h.point j;
+  Steps = λ I g. ⊥;
 }
 
 -- a search under way, and the basis with which the last run ended
@@ -66,10 +71,27 @@ abbrev pub with_basis : Given → NextOfSearch → NextBy
 with_basis g (To m) = On (record { moment = m; basis = g })
 with_basis g (Out o c) = Off o c
 
+abbrev pub begins_along : List Case → Bool
+begins_along [] = false
+begins_along (C ∷ Cs) = is_some C.ray
+
+-- a run along a ray leaves out the goal, so that its dictionary has no costs: its basis isn't kept for a case with a goal
+abbrev pub kept_for : Bool → Given → NextOfSearch → Given
+kept_for false g n = g
+kept_for true g (Out o c) = g
+kept_for true g (To m) = cond (begins_along m.waiting) g None
+
 -- the value that a bound is measured by: the best point's, turned so that less is better
 abbrev pub best_value : Level → Option Found → Option Ratio
 best_value l None = None
 best_value l (Some f) = Some (minimising l.program (reached l f))
+
+-- a bound isn't better than the best value once it is rounded up to a number that the goal can have: its multipliers show that, by sums that fit
+pub record IsRoundedPast (l : Level) (best : Option Found) (I : Instance) (g : Ratio) (ms : List Multiplier) : Type 0 where
+  pub found : Found
+  pub is : best ≡ Some found
+  pub grid : IsGrid I g ms (minimising l.program (reached l found))
+  pub fits : TreeFits I (Grid g ms)
 
 -- P is searched by rules S within these terms
 module _ (S : SearchRules) (P : Problem) (t : Terms) where
@@ -93,9 +115,14 @@ module _ (S : SearchRules) (P : Problem) (t : Terms) where
       ⊎ ((MayCut P t m → ⊥) × BranchesBy g C rest m x next)
       ⊎ ((ss : List Status) × (trial : Trial) × MayCut P t m × (AreMetBelow C.program x (width C.program) → ⊥) × (g ≡ Some ss) × TriesBasis C.program x ss trial × TriedBy g C rest m x trial next)
 
+  abbrev pub RoundsBy : Given → Case → List Case → SearchMoment → Ratio → List Ratio → List Multiplier → NextOfSearch → Type 0
+  RoundsBy g C rest m b x ms next =
+      ((s : Ratio) × S.Steps C.program s × IsRoundedPast m.level m.best C.program s ms × (next ≡ To (closed_by_leaf m rest (GridBy s ms))))
+      ⊎ (((s : Ratio) → S.Steps C.program s → IsRoundedPast m.level m.best C.program s ms → ⊥) × HopesBy g C rest m b x ms next)
+
   abbrev pub BestBy : Option (List Ratio) → Given → Case → List Case → SearchMoment → Ratio → List Ratio → List Multiplier → NextOfSearch → Type 0
   BestBy None g C rest m b x ms next =
-      (IsPassed m.level m.best b × (next ≡ To (closed_by_leaf m rest (BoundBy ms)))) ⊎ (IsHopeful m.level m.best b × HopesBy g C rest m b x ms next)
+      (IsPassed m.level m.best b × (next ≡ To (closed_by_leaf m rest (BoundBy ms)))) ⊎ (IsHopeful m.level m.best b × RoundsBy g C rest m b x ms next)
   BestBy (Some r) g C rest m b x ms next = MeetsBy g C rest m x ms next
 
   abbrev pub AlongBy : Given → Case → List Case → SearchMoment → List Ratio → List Ratio → NextOfSearch → Type 0
@@ -129,7 +156,7 @@ module _ (S : SearchRules) (P : Problem) (t : Terms) where
     pub visit : IsRunOfCase s finish clock basis
     pub after : NextOfSearch
     pub goes : GoesBy basis visit.case visit.rest (record (s.moment) { clock = clock }) finish after
-    pub is : next ≡ with_basis basis after
+    pub is : next ≡ with_basis (kept_for (is_some visit.case.ray) basis after) after
 
   abbrev pub IsNextBy : MomentBy → NextBy → Type 0
   IsNextBy s next =

@@ -32,6 +32,7 @@ whole_search = record {
   runs = bland;
   Splits = λ h j k. IsWholeSplit h.case.program h.point j k;
   Divides = λ h j. ⊥;
+  Steps = λ I g. ⊥;
 }
 
 -- how such a search ends: with a best point, without any, with a point and a ray along which there is no best, or before its end, with the best point so far or none; with one value, and nodes without cuts

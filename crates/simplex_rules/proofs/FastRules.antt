@@ -7,7 +7,7 @@ use Rattle.rational.specs.Ratio.{Ratio, IsBelow, IsSame}
 use Rattle.evidence.specs.Instance.{Range, Instance, width, height, column_at}
 use Rattle.evidence.proofs.Columns.{by_lt, by_bool}
 use Rattle.bases.specs.Dictionary.{Entries}
-use Rattle.bases.specs.Program.{goal_column, rows_with_goal}
+use Rattle.bases.specs.Program.{goal_column, columns, rows_with_goal}
 use Rattle.bases.proofs.Lists as Lists
 use Rattle.simplex_rules.specs.declared.columns.Status.{Status}
 use Rattle.simplex_rules.specs.declared.columns.Status.TheVariants.{Basic, Lower, Upper, Zero}
@@ -16,8 +16,10 @@ use Rattle.simplex_rules.specs.declared.columns.Way.TheVariants.{Fall}
 use Rattle.simplex_rules.specs.Statuses.{is_basic, has_width, less, first_status, HasPlace, IsPlaced}
 use Rattle.simplex_rules.specs.Turns.{IsOut, Helps}
 use Rattle.simplex_rules.specs.Rules.{View, Given, AreLegalRules, AreSingleRules}
-use Rattle.simplex_rules.specs.Fast.{Note, IsUnbeaten, Greater, Lesser, last_status, settled, toward, begun_status, held_status, held_basic, first_note, BeginsFast, leaving_score, helper_ratio, sparse_score, cost_score, is_idle, is_stalled, LeavesIf, EntersIf, ImprovesIf, fast}
+use Rattle.simplex_rules.specs.Fast.{Note, IsUnbeaten, Greater, Lesser, last_status, settled, toward, begun_status, held_status, held_basic, first_note, BeginsFast, out_by, leaving_score, helper_ratio, sparse_score, cost_score, is_idle, is_stalled, IsAnyOut, AreRowSizes, LeavesIf, EntersIf, ImprovesIf, fast}
 use Rattle.evidence.specs.Sums.{none}
+use Rattle.scores.specs.Leading.{score}
+use Rattle.scores.specs.Sizes.{IsTotalSize}
 use Rattle.simplex_rules.proofs.Facts.{some_is}
 use Rattle.simplex_rules.proofs.LeastIndices.{one_out, one_help, one_least}
 
@@ -105,14 +107,38 @@ begins_once g best I zeroed ss ts k l p q =
     p.places c k ∙ ap (λ (u : Entries). begun_status (column_at I c) (u (goal_column I) c) (held_status g I c)) e ∙ sym (q.places c k)) in
     (s, p.note ∙ ap (λ z. first_note best I z p.entries) s ∙ ap (λ z. first_note best I ts z) e ∙ sym q.note)
 
+one_size : (n : ℕ) (f : ℕ → Ratio) (s t : Ratio) → IsTotalSize n f s → IsTotalSize n f t → s ≡ t
+one_size n f s t (inl (h, p)) (inl (i, q)) = p ∙ sym q
+one_size n f s t (inl (h, p)) (inr (i, q)) = absurd (i h)
+one_size n f s t (inr (h, p)) (inl (i, q)) = absurd (h i)
+one_size n f s t (inr (h, p)) (inr (i, q)) = p ∙ sym q
+
 module _ (v : View Note) where
   leaves_legal : (x : Bool) (b : ℕ) (wanted : Way) → LeavesIf v x b wanted → (b < goal_column v.program) × IsOut v.program v.statuses v.entries v.values b wanted
   leaves_legal true b wanted p = (p.inside, p.out)
-  leaves_legal false b wanted (o, p) = (p.inside, o)
+  leaves_legal false b wanted (o, (f, k, p)) = (p.inside, o)
+
+  abbrev scored : ℕ → Ratio → Ratio
+  scored c s = score (out_by (column_at v.program c) (v.values c)) s
+
+  -- of columns x and y whose rows have these sizes the first beats the second
+  abbrev BeatsBy : ℕ → ℕ → Ratio → Ratio → Type 0
+  BeatsBy x y s t = IsBelow (scored y t) (scored x s) ⊎ (IsSame (scored x s) (scored y t) × (x < y))
+
+  -- none beats it by any sizes of the rows, since they are the same
+  resized : (f g : ℕ → Ratio) → AreRowSizes v f → AreRowSizes v g → (b : ℕ) → IsUnbeaten (goal_column v.program) (IsAnyOut v) (Greater (leaving_score v f)) b → IsUnbeaten (goal_column v.program) (IsAnyOut v) (Greater (leaving_score v g)) b
+  resized f g k l b p = record {
+    inside = p.inside;
+    wanted = p.wanted;
+    best = λ x i o beats. p.best x i o (subst (λ s. BeatsBy x b s (f b)) (same x o) (subst (λ s. BeatsBy x b (g x) s) (same b p.wanted) beats));
+  }
+    where
+      same : (x : ℕ) → IsAnyOut v x → g x ≡ f x
+      same x o = one_size (columns v.program) (v.entries x) (g x) (f x) (l x o) (k x o)
 
   leaves_once : (x : Bool) (b c : ℕ) (y z : Way) → LeavesIf v x b y → LeavesIf v x c z → b ≡ c
   leaves_once true b c y z p q = one_out v.program v.statuses v.entries v.values b c y z p q
-  leaves_once false b c y z (o, p) (r, q) = unbeaten_once _ _ _ b c (greater_ordered (leaving_score v)) p q
+  leaves_once false b c y z (o, (f, k, p)) (r, (g, l, q)) = unbeaten_once _ _ _ b c (greater_ordered (leaving_score v g)) (resized f g k l b p) q
 
   enters_inside : (x : Bool) (b : ℕ) (wanted : Way) (n : ℕ) → EntersIf v x b wanted n → n < goal_column v.program
   enters_inside true b wanted n p = p.inside

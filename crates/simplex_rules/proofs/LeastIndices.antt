@@ -11,8 +11,8 @@ use Rattle.simplex_rules.specs.Turns.{IsLeastOut, IsFirstHelp, IsFirstLeast}
 use Rattle.simplex_rules.specs.Ends.{Terms, Clock, End, Clash}
 use Rattle.simplex_rules.specs.Runs as Runs
 use Rattle.simplex_rules.specs.Runs.{Moment, Next, PassesTurn, BeginsTurn, MovesColumn, Repairs, Improves, Chooses, IsNext, ComesInRun, Run, EndsAtBasis}
-use Rattle.simplex_rules.specs.Rules.{Given, Rules, AreLegalRules, AreSingleRules, bland}
-use Rattle.simplex_rules.specs.RuleRuns.{handed_on, Finish, Ends, MomentBy, NextBy, To, Out, PassesTurnBy, BeginsTurnBy, MovesBy, RepairsBy, ImprovesBy, ChoosesBy, IsNextBy, ComesBy, begins, goes_on, RunBy}
+use Rattle.simplex_rules.specs.Rules.{Given, AreLegalRules, AreSingleRules, bland}
+use Rattle.simplex_rules.specs.RuleRuns.{handed_on, Finish, Ends, MomentBy, NextBy, To, Out, PassesTurnBy, BeginsTurnBy, MovesBy, RepairsBy, ImprovesBy, ChoosesBy, WeighsBy, IsNextBy, ComesBy, begins, goes_on, RunBy}
 use Rattle.simplex_rules.proofs.Moments.{fresh_placed}
 use Rattle.simplex_rules.proofs.OneEnd.{one_fresh}
 
@@ -104,8 +104,11 @@ module _ (I : Instance) (zeroed : Bool) (t : Terms) (m : Moment) (u : Entries) (
   improves_on a (inr (inr (n, way, h, e))) = inr (inr (n, way, h, moves_on n way a e))
 
   chooses_on : (a : Next) → Chooses I zeroed t m u w a → ChoosesBy bland I zeroed t (stand m) u w (next_of a)
-  chooses_on a (inl (b, wanted, out, r)) = inl (b, wanted, out, inr (λ c p. p.passes, repairs_on b wanted a r))
+  chooses_on a (inl (b, wanted, out, r)) = inl (b, wanted, out, inr (λ c p. p.passes, inr (tt, repairs_on b wanted a r)))
   chooses_on a (inr (none, i)) = inr (none, improves_on a i)
+
+  weighs_on : (a : Next) → Chooses I zeroed t m u w a → WeighsBy bland I zeroed t (stand m) u w (next_of a)
+  weighs_on a c = inr (tt, chooses_on a c)
 
   moves_back : (n : ℕ) (way : Way) (b : N) → MovesBy bland I zeroed t (stand m) u w n way b → (a : Next) × Is b a × MovesColumn I zeroed t m u w n way a
   moves_back n way b (inl (f, e)) = (_, e, inl (f, refl))
@@ -124,17 +127,22 @@ module _ (I : Instance) (zeroed : Bool) (t : Terms) (m : Moment) (u : Entries) (
 
   chooses_back : (b : N) → ChoosesBy bland I zeroed t (stand m) u w b → (a : Next) × Is b a × Chooses I zeroed t m u w a
   chooses_back b (inl (c, wanted, out, inl (d, p, e))) = absurd p.passes
-  chooses_back b (inl (c, wanted, out, inr (not, o))) = let r = repairs_back c wanted b o in (r.0, r.1, inl (c, wanted, out, r.2))
+  chooses_back b (inl (c, wanted, out, inr (not, inl (wide, e)))) = absurd (wide tt)
+  chooses_back b (inl (c, wanted, out, inr (not, inr (fits, o)))) = let r = repairs_back c wanted b o in (r.0, r.1, inl (c, wanted, out, r.2))
   chooses_back b (inr (none, i)) = let r = improves_back b i in (r.0, r.1, inr (none, r.2))
+
+  weighs_back : (b : N) → WeighsBy bland I zeroed t (stand m) u w b → (a : Next) × Is b a × Chooses I zeroed t m u w a
+  weighs_back b (inl (wide, e)) = absurd (wide tt)
+  weighs_back b (inr (fits, c)) = chooses_back b c
 
 module _ (I : Instance) (zeroed : Bool) (t : Terms) where
   next_on : (m : Moment) (a : Next) → IsNext I zeroed t m a → IsNextBy bland I zeroed t (stand m) (next_of a)
   next_on m a (u, d, inl (f, e)) = (u, d, inl (f, ap next_of e))
-  next_on m a (u, d, inr (w, f, v, c)) = (u, d, inr (w, f, v, chooses_on I zeroed t m u w a c))
+  next_on m a (u, d, inr (w, f, v, c)) = (u, d, inr (w, f, v, weighs_on I zeroed t m u w a c))
 
   next_back : (m : Moment) (b : NextBy (Unit {0})) → IsNextBy bland I zeroed t (stand m) b → (a : Next) × Is b a × IsNext I zeroed t m a
   next_back m b (u, d, inl (f, e)) = (_, e, (u, d, inl (f, refl)))
-  next_back m b (u, d, inr (w, f, v, c)) = let r = chooses_back I zeroed t m u w b c in (r.0, r.1, (u, d, inr (w, f, v, r.2)))
+  next_back m b (u, d, inr (w, f, v, c)) = let r = weighs_back I zeroed t m u w b c in (r.0, r.1, (u, d, inr (w, f, v, r.2)))
 
   comes_on : {g : Given} {best : Option Ratio} {c : Clock} {m : Moment} → ComesInRun I zeroed t c m → ComesBy bland I zeroed t g best c (stand m)
   comes_on {g} {best} {c} (Runs.begins {ss} f) = begins {ss = ss} {k = tt} f

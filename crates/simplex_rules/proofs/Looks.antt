@@ -1,5 +1,5 @@
 -- The stop that looks tell.
-use Rattle.std.proofs.Common.{◌≡◌, ℕ, ◌+◌, Bool, true, false, Some, ap, arith}
+use Rattle.std.proofs.Common.{ℕ, Bool, true, false, Some, ap, arith}
 use Rattle.simplex_rules.specs.Looks.{AgreesWith, stop_after}
 
 -- it agrees with them

@@ -1,6 +1,8 @@
 -- The rules that have a name are legal, and none of their choices has two answers.
 use Rattle.simplex_rules.specs.Rules.{AreLegalRules, AreSingleRules}
-use Rattle.simplex_rules.specs.NamedRules.{RuleName, Bland, Fast, rules_of}
+use Rattle.simplex_rules.specs.declared.names.RuleName.{RuleName}
+use Rattle.simplex_rules.specs.declared.names.RuleName.TheVariants.{Bland, Fast}
+use Rattle.simplex_rules.specs.NamedRules.{rules_of}
 use Rattle.simplex_rules.proofs.LeastIndices as Least
 use Rattle.simplex_rules.proofs.FastRules as Quick
 

@@ -3,10 +3,8 @@ use Rattle.std.proofs.Common.{◌≡◌, ℕ, inl, inr, Bool, true, false, Optio
 use Rattle.rational.specs.Ratio.{Ratio}
 use Rattle.evidence.specs.Instance.{Instance, IsInstance, column_at}
 use Rattle.evidence.proofs.Columns.{by_lt, column-numbers}
-use Rattle.certificate.specs.declared.causes.Step.TheVariants as At
 use Rattle.bases.specs.Dictionary.{Entries, Values}
 use Rattle.bases.specs.Program.{goal_column}
-use Rattle.bases.specs.Pivot.{PivotFits}
 use Rattle.simplex_rules.specs.declared.columns.Status.{Status}
 use Rattle.simplex_rules.specs.declared.columns.Way.{Way}
 use Rattle.simplex_rules.specs.declared.columns.Way.TheVariants.{Fall}
@@ -17,7 +15,7 @@ use Rattle.simplex_rules.specs.Ends.{Terms, Clock, Clash}
 use Rattle.simplex_rules.specs.Reports.{IsBoundAt, bound_sum, movement, multipliers_of}
 use Rattle.simplex_rules.specs.Runs.{HasNoClash}
 use Rattle.simplex_rules.specs.Rules.{View, Given, Swap, Rules, IsSeen, AreLegalRules, AreSingleRules}
-use Rattle.simplex_rules.specs.RuleRuns.{handed_on, Finish, Ends, Passed, MomentBy, NextBy, To, Out, PassesTurnBy, BeginsTurnBy, view, MovesBy, RepairsBy, OutBy, ImprovesBy, ChoosesBy, GoesByValues, IsNextBy, ComesBy, begins, goes_on, IsRunBy, RunBy}
+use Rattle.simplex_rules.specs.RuleRuns.{handed_on, Finish, Ends, Passed, MomentBy, NextBy, To, Out, PassesTurnBy, BeginsTurnBy, view, MovesBy, RepairsBy, EntersBy, OutBy, ImprovesBy, ChoosesBy, WeighsBy, GoesByValues, IsNextBy, ComesBy, begins, goes_on, IsRunBy, RunBy}
 use Rattle.simplex_rules.proofs.Soundness.{bound_number}
 use Rattle.simplex_rules.proofs.OneEnd.{one_reduced, one_dictionary, one_values, one_point, misses_once, moves_once}
 use Rattle.simplex_rules.proofs.RuleMoments.{seen, next_placed}
@@ -90,7 +88,7 @@ module _ (R : Rules) (legal : AreLegalRules R) (single : AreSingleRules R) (I : 
   moves_by_once n way a b (inr (inr (inr (c, k, i, j, d, o, h)))) (inr (inr (inr (e, r, f, g, l, p, q)))) =
       let s : c ≡ e = single.stops V n way c e sees j g in
       let o' : R.Notes V (Swap e n (left_status I u e n way)) k = subst (λ z. R.Notes V (Swap z n (left_status I u z n way)) k) s o in
-      turns_once R.Note t m.clock _ _ k r a b (single.notes V _ k r sees o' p) (subst (λ z. BeginsTurnBy t m.clock (PivotFits u z n) (pivoted ss z n (left_status I u z n way)) k a) s h) q
+      turns_once R.Note t m.clock _ _ k r a b (single.notes V _ k r sees o' p) (subst (λ z. BeginsTurnBy t m.clock (R.SwapFits V z n) (pivoted ss z n (left_status I u z n way)) k a) s h) q
 
   repairs_once : (g : ℕ) (wanted : Way) (a b : NextBy R.Note) → RepairsBy R I zeroed t m u w g wanted a → RepairsBy R I zeroed t m u w g wanted b → a ≡ b
   repairs_once g wanted a b (inl (f, e)) (inl (h, i)) = e ∙ sym i
@@ -99,7 +97,13 @@ module _ (R : Rules) (legal : AreLegalRules R) (single : AreSingleRules R) (I : 
   repairs_once g wanted a b (inr (c, v, k, h, o, i)) (inr (d, x, r, j, p, l)) =
       let q : c ≡ d = single.enters V g wanted c d v x sees h j in
       let o' : R.Notes V (Swap g d (missed_status wanted (column_at I g))) k = subst (λ z. R.Notes V (Swap g z (missed_status wanted (column_at I g))) k) q o in
-      turns_once R.Note t m.clock _ _ k r a b (single.notes V _ k r sees o' p) (subst (λ z. BeginsTurnBy t m.clock (PivotFits u g z) (pivoted ss g z (missed_status wanted (column_at I g))) k a) q i) l
+      turns_once R.Note t m.clock _ _ k r a b (single.notes V _ k r sees o' p) (subst (λ z. BeginsTurnBy t m.clock (R.SwapFits V g z) (pivoted ss g z (missed_status wanted (column_at I g))) k a) q i) l
+
+  enters_once : (g : ℕ) (wanted : Way) (a b : NextBy R.Note) → EntersBy R I zeroed t m u w g wanted a → EntersBy R I zeroed t m u w g wanted b → a ≡ b
+  enters_once g wanted a b (inl (f, e)) (inl (h, i)) = e ∙ sym i
+  enters_once g wanted a b (inl (f, e)) (inr (h, i)) = absurd (f h)
+  enters_once g wanted a b (inr (h, i)) (inl (f, e)) = absurd (f h)
+  enters_once g wanted a b (inr (h, i)) (inr (j, k)) = repairs_once g wanted a b i k
 
   out_once : (g : ℕ) (wanted : Way) (a b : NextBy R.Note) → OutBy R I zeroed t m u w g wanted a → OutBy R I zeroed t m u w g wanted b → a ≡ b
   out_once g wanted a b (inl (c, p, e)) (inl (d, q, f)) =
@@ -107,7 +111,7 @@ module _ (R : Rules) (legal : AreLegalRules R) (single : AreSingleRules R) (I : 
       e ∙ ap (λ z. Out (Passed z (multipliers_of I u goal Fall)) m.clock) s ∙ sym f
   out_once g wanted a b (inl (c, p, e)) (inr (not, q)) = absurd (not c p)
   out_once g wanted a b (inr (not, p)) (inl (d, q, f)) = absurd (not d q)
-  out_once g wanted a b (inr (not, p)) (inr (nor, q)) = repairs_once g wanted a b p q
+  out_once g wanted a b (inr (not, p)) (inr (nor, q)) = enters_once g wanted a b p q
 
   improves_once : (a b : NextBy R.Note) → ImprovesBy R I zeroed t m u w a → ImprovesBy R I zeroed t m u w b → a ≡ b
   improves_once a b (inl (f, z, g, e)) (inl (h, y, i, j)) = e ∙ sym j
@@ -142,6 +146,12 @@ module _ (R : Rules) (legal : AreLegalRules R) (single : AreSingleRules R) (I : 
   steps_once a b (inr (f, g)) (inl (c, v, p, e)) = let l = legal.leaves V c v sees p in absurd (f c l.0 v l.1)
   steps_once a b (inr (f, g)) (inr (h, i)) = improves_once a b g i
 
+  weighs_once : (a b : NextBy R.Note) → WeighsBy R I zeroed t m u w a → WeighsBy R I zeroed t m u w b → a ≡ b
+  weighs_once a b (inl (f, e)) (inl (g, h)) = e ∙ sym h
+  weighs_once a b (inl (f, e)) (inr (g, h)) = absurd (f g)
+  weighs_once a b (inr (g, h)) (inl (f, e)) = absurd (f g)
+  weighs_once a b (inr (f, e)) (inr (g, h)) = steps_once a b e h
+
 module _ (R : Rules) (legal : AreLegalRules R) (single : AreSingleRules R) (I : Instance) (good : IsInstance I) (room : HasNoClash I) (zeroed : Bool) (t : Terms) where
   -- each moment has one next
   pub next_once : (m : MomentBy R.Note) → IsPlaced I m.statuses → (a b : NextBy R.Note) → IsNextBy R I zeroed t m a → IsNextBy R I zeroed t m b → a ≡ b
@@ -154,7 +164,7 @@ module _ (R : Rules) (legal : AreLegalRules R) (single : AreSingleRules R) (I : 
       same (inr (w, h, i, j)) (inl (f, g)) = absurd (f h)
       same (inr (w, h, i, j)) (inr (x, k, l, n)) =
           let q : w ≡ x = one_values I good zeroed m.statuses placed room v w x e i l in
-          steps_once R legal single I good room zeroed t m placed v e x k l a b (subst (λ z. ChoosesBy R I zeroed t m v z a) q j) n
+          weighs_once R legal single I good room zeroed t m placed v e x k l a b (subst (λ z. WeighsBy R I zeroed t m v z a) q j) n
 
   -- the moments from one on, to the end, and what is handed on there
   data Halts : MomentBy R.Note → Finish → Clock → Given → Type 0 where

@@ -15,11 +15,11 @@ use Rattle.simplex_rules.specs.declared.columns.Way.TheVariants.{Rise, Fall}
 use Rattle.simplex_rules.specs.Statuses.{status_at, basic_in, HasDictionary, HasValues, HasPlace, IsPlaced}
 use Rattle.simplex_rules.specs.Turns.{rate, MovesIn, Can, missed_status, reached_status, left_status, NoneOut, Helps, NoneHelps, until_by, across}
 use Rattle.simplex_rules.specs.Widths.{ValuesFit}
-use Rattle.simplex_rules.specs.Ends.{Terms, Clock, End, Clash, Empty, Best, Endless, TurnsOut, TooWide, Stopped}
+use Rattle.simplex_rules.specs.Ends.{Terms, Clock, Empty, Best, Endless, TurnsOut, TooWide, Stopped}
 use Rattle.simplex_rules.specs.Reports.{IsBoundAt, multipliers_of}
 use Rattle.simplex_rules.specs.Runs.{HasNoClash}
 use Rattle.simplex_rules.specs.Rules.{View, Given, Rules, IsSeen, AreLegalRules}
-use Rattle.simplex_rules.specs.RuleRuns.{Finish, Ends, Passed, ShownBy, MomentBy, To, Out, PassesTurnBy, BeginsTurnBy, view, MovesBy, ChoosesBy, IsNextBy, ComesBy, begins, goes_on, RunBy}
+use Rattle.simplex_rules.specs.RuleRuns.{Finish, Ends, Passed, ShownBy, MomentBy, To, Out, PassesTurnBy, BeginsTurnBy, view, MovesBy, ChoosesBy, WeighsBy, IsNextBy, ComesBy, begins, goes_on, RunBy}
 use Rattle.simplex_rules.proofs.Facts.{has_number}
 use Rattle.simplex_rules.proofs.Soundness.{end_missed, farkas, basic_is, relaxed, best, bounds, direction, not_zeroed}
 use Rattle.simplex_rules.proofs.Moments.{placed_set, missed_place, reached_place, flipped_place, misses_end}
@@ -69,13 +69,18 @@ module _ (R : Rules) (legal : AreLegalRules R) (I : Instance) (good : IsInstance
 
   steps_placed : (n : MomentBy R.Note) → ChoosesBy R I zeroed t m u w (To n) → after n
   steps_placed n (inl (b, wanted, out, inl (c, p, e))) = absurd (cc)
-  steps_placed n (inl (b, wanted, out, inr (not, inl (off, e)))) = absurd (cc)
-  steps_placed n (inl (b, wanted, out, inr (not, inr (c, way, k, help, o, e)))) =
+  steps_placed n (inl (b, wanted, out, inr (not, inl (wide, e)))) = absurd (cc)
+  steps_placed n (inl (b, wanted, out, inr (not, inr (fits, inl (off, e))))) = absurd (cc)
+  steps_placed n (inl (b, wanted, out, inr (not, inr (fits, inr (c, way, k, help, o, e))))) =
       let l = legal.leaves V b wanted sees out in
       turns_on R.Note (IsPlaced I) t m.clock _ _ _ n (placed_set I (slice_set m.statuses b (missed_status wanted (column_at I b))) c Basic (placed_set I m.statuses b (missed_status wanted (column_at I b)) placed (missed_place wanted (column_at I b) (w b) (let x = l.1 in x.misses))) tt) e
   steps_placed n (inr (none_out, inl (off, z, f, e))) = absurd (cc)
   steps_placed n (inr (none_out, inr (inl (b, x, off, f, p, q, e)))) = absurd (cc)
   steps_placed n (inr (none_out, inr (inr (c, way, help, e)))) = let h = legal.improves V c way sees help in moves_placed c way n h.1 e
+
+  weighs_placed : (n : MomentBy R.Note) → WeighsBy R I zeroed t m u w (To n) → after n
+  weighs_placed n (inl (wide, e)) = absurd (cc)
+  weighs_placed n (inr (fits, s)) = steps_placed n s
 
   abbrev IsTrueOf : Finish → Type 0
   IsTrueOf e = ShownBy zeroed I e
@@ -108,7 +113,8 @@ module _ (R : Rules) (legal : AreLegalRules R) (I : Instance) (good : IsInstance
   steps_true e d (inl (b, wanted, out, inl (c, p, f))) =
       subst IsTrueOf (let g : Passed c (multipliers_of I u (goal_column I) Fall) ≡ e = cc in g)
       (let q = bounds I good zeroed m.statuses u dict placed room (off_helps (goal_column I) Fall p.none_helps) p.own c p.bound.0 p.bound.1 in (p.own, q.0, q.1))
-  steps_true e d (inl (b, wanted, out, inr (not, inl (off, f)))) =
+  steps_true e d (inl (b, wanted, out, inr (not, inl (wide, f)))) = subst IsTrueOf (let g : Ends (TooWide At.Ratio) ≡ e = cc in g) tt
+  steps_true e d (inl (b, wanted, out, inr (not, inr (fits, inl (off, f))))) =
       let l = legal.leaves V b wanted sees out in
       let o = l.1 in
       let k = misses_end wanted (column_at I b) (w b) o.misses in
@@ -119,7 +125,7 @@ module _ (R : Rules) (legal : AreLegalRules R) (I : Instance) (good : IsInstance
       missed_number : (w : Way) (r : Range) (e : Ratio) → HasNumbers r → end_missed w r ≡ Some e → IsNumber e
       missed_number Rise r e h p = has_number r.lb e h.0 p
       missed_number Fall r e h p = has_number r.ub e h.1 p
-  steps_true e d (inl (b, wanted, out, inr (not, inr (c, way, k, help, o, f)))) = turns_true m.clock _ _ k e d f
+  steps_true e d (inl (b, wanted, out, inr (not, inr (fits, inr (c, way, k, help, o, f))))) = turns_true m.clock _ _ k e d f
   steps_true e d (inr (none_out, inl (off, z, f, g))) = subst IsTrueOf (let k : Ends (TooWide At.Point) ≡ e = cc in k) tt
   steps_true e d (inr (none_out, inr (inl (b, x, off, f, p, q, g)))) =
       subst IsTrueOf (let k : Ends (Best b x (multipliers_of I u (goal_column I) Fall)) ≡ e = cc in k) (
@@ -129,10 +135,14 @@ module _ (R : Rules) (legal : AreLegalRules R) (I : Instance) (good : IsInstance
       )
   steps_true e d (inr (none_out, inr (inr (c, way, help, f)))) = let h = legal.improves V c way sees help in moves_true c way e d none_out h.0 h.1 f
 
+  weighs_true : (e : Finish) (d : Clock) → WeighsBy R I zeroed t m u w (Out e d) → IsTrueOf e
+  weighs_true e d (inl (wide, f)) = subst IsTrueOf (let g : Ends (TooWide At.Values) ≡ e = cc in g) tt
+  weighs_true e d (inr (fits, s)) = steps_true e d s
+
 module _ (R : Rules) (legal : AreLegalRules R) (I : Instance) (good : IsInstance I) (room : HasNoClash I) (zeroed : Bool) (t : Terms) where
   pub next_placed : (m n : MomentBy R.Note) → IsPlaced I m.statuses → IsNextBy R I zeroed t m (To n) → IsPlaced I n.statuses
   next_placed m n p (u, d, inl (f, e)) = absurd (cc)
-  next_placed m n p (u, d, inr (w, f, v, s)) = steps_placed R legal I good room zeroed t m u w p d f v n s
+  next_placed m n p (u, d, inr (w, f, v, s)) = weighs_placed R legal I good room zeroed t m u w p d f v n s
 
   pub comes_placed : {g : Given} {best : Option Ratio} {c : Clock} {m : MomentBy R.Note} → ComesBy R I zeroed t g best c m → IsPlaced I m.statuses
   comes_placed {g} {best} {c} (begins {ss} {k} f) = legal.begins g best I zeroed ss k good room f
@@ -140,7 +150,7 @@ module _ (R : Rules) (legal : AreLegalRules R) (I : Instance) (good : IsInstance
 
   next_true : (m : MomentBy R.Note) (e : Finish) (d : Clock) → IsPlaced I m.statuses → IsNextBy R I zeroed t m (Out e d) → ShownBy zeroed I e
   next_true m e d p (u, dict, inl (f, g)) = subst (ShownBy zeroed I) (let k : Ends (TooWide At.Values) ≡ e = cc in k) tt
-  next_true m e d p (u, dict, inr (w, f, v, s)) = steps_true R legal I good room zeroed t m u w p dict f v e d s
+  next_true m e d p (u, dict, inr (w, f, v, s)) = weighs_true R legal I good room zeroed t m u w p dict f v e d s
 
 pub run_true : (R : Rules) (I : Instance) (zeroed : Bool) (t : Terms) (g : Given) (best : Option Ratio) (c : Clock) (e : Finish) (d : Clock) (h : Given) → AreLegalRules R → IsInstance I → RunBy R I zeroed t g best c e d h → ShownBy zeroed I e
 run_true R I zeroed t given best c e d hand legal good (inl (k, f, g, h, i)) = subst (ShownBy zeroed I) (sym g) (f.inside, f.empty)

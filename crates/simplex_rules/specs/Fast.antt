@@ -1,46 +1,22 @@
 -- The rules `fast`: the dual method from the last dictionary (Lemke, The dual method of solving the linear programming problem, 1954), by scores cut to 31 leading binary digits, and Bland's rule behind long ties.
-use Rattle.std.specs.Prelude.{◌≡◌, ℕ, zero, suc, ◌+◌, ◌-◌, ◌*◌, ◌/◌, ◌^◌, ◌<◌, ◌⊎◌, ℤ, pos, negsuc, unsigned_abs, Bool, true, false, cond, not, nat_eq, nat_lt, Option, None, Some, List, length}
-use Rattle.rational.specs.Ratio.{Ratio, whole, sum, negative, quotient, IsBelow, IsAtMost, IsSame}
-use Rattle.evidence.specs.Sums.{none, total, is_below}
+use Rattle.std.specs.Prelude.{◌≡◌, ℕ, zero, suc, ◌+◌, ◌<◌, ◌⊎◌, ℤ, pos, negsuc, Bool, true, false, cond, not, nat_eq, nat_lt, Option, None, Some, List, length}
+use Rattle.rational.specs.Ratio.{Ratio, whole, sum, product, negative, quotient, IsBelow, IsAtMost, IsSame}
+use Rattle.rational.specs.Width.{ReducedFits, SumFits}
+use Rattle.evidence.specs.Sums.{none, is_below}
 use Rattle.evidence.specs.Instance.{Range, Instance, width, height, column_at}
+use Rattle.scores.specs.Leading.{score}
+use Rattle.scores.specs.Sizes.{size, cut_sum, IsTotalSize}
 use Rattle.bases.specs.Dictionary.{Entries, Values, value_by, IsDictionary}
 use Rattle.bases.specs.Forms.{list_of}
+use Rattle.bases.specs.Pivot.{solved_at, replaced_at}
 use Rattle.bases.specs.Program.{goal_column, columns, rows_with_goal}
 use Rattle.simplex_rules.specs.declared.columns.Status.{Status}
 use Rattle.simplex_rules.specs.declared.columns.Status.TheVariants.{Basic, Lower, Upper, Zero}
 use Rattle.simplex_rules.specs.declared.columns.Way.{Way}
-use Rattle.simplex_rules.specs.declared.columns.Way.TheVariants.{Fall}
+use Rattle.simplex_rules.specs.declared.columns.Way.TheVariants.{Rise, Fall}
 use Rattle.simplex_rules.specs.Statuses.{is_basic, status_at, basic_in, rest_at, has_width, first_status}
 use Rattle.simplex_rules.specs.Turns.{IsOut, Helps, IsLeastOut, IsFirstHelp, IsFirstLimit}
 use Rattle.simplex_rules.specs.Rules.{View, Turn, Swap, Flip, Given, Rules}
-
--- how many binary digits a number has
-abbrev pub digits_by : ℕ → ℕ → ℕ
-digits_by zero n = 0
-digits_by (suc f) n = cond (nat_eq n 0) 0 (suc (digits_by f (n / 2)))
-
-abbrev pub digits : ℕ → ℕ
-digits n = digits_by n n
-
--- a size, times a power of 2 that brings at least 31 digits before the point, without what is behind it
-abbrev pub shift_of : Ratio → ℕ
-shift_of x = digits x.den + 31
-
-abbrev pub scaled : Ratio → ℕ
-scaled x = unsigned_abs x.num * 2 ^ shift_of x / x.den
-
-abbrev pub dropped : Ratio → ℕ
-dropped x = digits (scaled x) - 31
-
--- its 31 leading binary digits, 0 behind them
-abbrev pub leading : Ratio → Ratio
-leading x = record { num = pos (scaled x / 2 ^ dropped x * 2 ^ dropped x); den = 2 ^ shift_of x }
-
-abbrev pub score : Ratio → Ratio → Ratio
-score x y = leading (quotient (leading x) (leading y))
-
-abbrev pub size : Ratio → Ratio
-size x = record { num = pos (unsigned_abs x.num); den = x.den }
 
 -- of the columns below n that are wanted, the one that none beats
 pub record IsUnbeaten (n : ℕ) (Wanted : ℕ → Type 0) (Beats : ℕ → ℕ → Type 0) (c : ℕ) : Type 0 where
@@ -81,6 +57,11 @@ over_by (Some h) x = cond (is_below h x) (sum x (negative h)) none
 abbrev pub out_by : Range → Ratio → Ratio
 out_by r x = sum (under_by r.lb x) (over_by r.ub x)
 
+-- the end that a column misses that is to rise, or to fall
+abbrev pub missed_end : Range → Way → Option Ratio
+missed_end r Rise = r.lb
+missed_end r Fall = r.ub
+
 -- how many of the first n aren't 0
 abbrev pub counted : (ℕ → Ratio) → ℕ → ℕ
 counted f zero = 0
@@ -96,19 +77,17 @@ module _ (v : View Note) where
   abbrev goal : ℕ
   goal = goal_column v.program
 
-  -- 1 and the sizes of a row, and of a column without the goal's
-  abbrev pub row_size : ℕ → Ratio
-  row_size b = total (whole (pos 1)) (columns I) (λ c. size (u b c))
-
+  -- 1 and the sizes of a column without the goal's; its numbers seldom have one denominator
   abbrev pub column_size : ℕ → Ratio
-  column_size c = total (whole (pos 1)) goal (λ b. size (u b c))
+  column_size c = cut_sum (λ b. u b c) goal
 
   -- the helper goal's cost of column c at this basis
   abbrev pub helper_at : ℕ → Ratio
   helper_at c = value_by (columns I) v.note.helper (λ d. list_of (basic_in v.statuses) u d c)
 
-  abbrev pub leaving_score : ℕ → Ratio
-  leaving_score b = score (out_by (column_at I b) (v.values b)) (row_size b)
+  -- by the sizes of the rows
+  abbrev pub leaving_score : (ℕ → Ratio) → ℕ → Ratio
+  leaving_score sizes b = score (out_by (column_at I b) (v.values b)) (sizes b)
 
   abbrev pub helper_ratio : ℕ → ℕ → Ratio
   helper_ratio b c = quotient (size (helper_at c)) (size (u b c))
@@ -128,13 +107,17 @@ module _ (v : View Note) where
   abbrev pub IsAnyOut : ℕ → Type 0
   IsAnyOut k = (way : Way) × IsOut I v.statuses u v.values k way
 
+  abbrev pub AreRowSizes : (ℕ → Ratio) → Type 0
+  AreRowSizes sizes = (b : ℕ) → IsAnyOut b → IsTotalSize (columns I) (u b) (sizes b)
+
   abbrev pub HelpsAny : ℕ → Way → ℕ → Type 0
   HelpsAny g wanted k = (way : Way) × Helps I v.statuses u v.values g wanted k way
 
   -- where no turn helped for long, the least column
   abbrev pub LeavesIf : Bool → ℕ → Way → Type 0
   LeavesIf true b wanted = IsLeastOut I v.statuses u v.values b wanted
-  LeavesIf false b wanted = IsOut I v.statuses u v.values b wanted × IsUnbeaten goal IsAnyOut (Greater leaving_score) b
+  LeavesIf false b wanted =
+      IsOut I v.statuses u v.values b wanted × ((sizes : ℕ → Ratio) × AreRowSizes sizes × IsUnbeaten goal IsAnyOut (Greater (leaving_score sizes)) b)
 
   abbrev pub EntersIf : Bool → ℕ → Way → ℕ → Type 0
   EntersIf true b wanted n = IsUnbeaten goal (HelpsAny b wanted) (Lesser (helper_ratio b) (λ c. none)) n
@@ -143,6 +126,24 @@ module _ (v : View Note) where
   abbrev pub ImprovesIf : Bool → ℕ → Way → Type 0
   ImprovesIf true n way = IsFirstHelp I v.statuses u v.values goal Fall n way
   ImprovesIf false n way = Helps I v.statuses u v.values goal Fall n way × IsUnbeaten goal (HelpsAny goal Fall) (Greater cost_score) n
+
+  -- the distance of each column that is out from the end that it misses; where the least one leaves, none is formed
+  abbrev pub LeaveFitsIf : Bool → Type 0
+  LeaveFitsIf true = Unit {0}
+  LeaveFitsIf false = (b : ℕ) (way : Way) (e : Ratio) → b < goal → IsOut I v.statuses u v.values b way → missed_end (column_at I b) way ≡ Some e → SumFits e (negative (v.values b))
+
+  abbrev pub RatiosFit : ℕ → Way → Type 0
+  RatiosFit b wanted = (c : ℕ) → c < goal → HelpsAny b wanted c → ReducedFits (helper_ratio b c)
+
+  -- the helper goal's cost of column c once b and n have changed places
+  abbrev pub helper_after : ℕ → ℕ → ℕ → Ratio
+  helper_after b n c = sum (helper_at c) (product (helper_at n) (solved_at u b n c))
+
+  -- each entry that comes of the turn, and in the first phase each cost of the helper goal; products on the way may have any width
+  pub record KeptFits (b n : ℕ) : Type 0 where
+    pub row : (c : ℕ) → (c ≡ n → ⊥) → ReducedFits (solved_at u b n c)
+    pub others : (a c : ℕ) → (a ≡ b → ⊥) → (c ≡ n → ⊥) → ReducedFits (replaced_at u b n a c)
+    pub helper : IsAnyOut b → (c : ℕ) → (c ≡ n → ⊥) → ReducedFits (helper_after b n c)
 
   -- the note after a turn: of the first phase, where the leaving column was out; else of the second
   abbrev pub note_after : Turn → Note
@@ -155,10 +156,13 @@ module _ (v : View Note) where
   abbrev pub PassesBest : Ratio → Type 0
   PassesBest c = (v.note.own ≡ true) × ((z : Ratio) × (v.note.best ≡ Some z) × IsAtMost z c)
 
--- where the run before ended, or the first basis; a row that is new is basic
+abbrev pub fresh_status : Instance → ℕ → Status
+fresh_status I c = cond (nat_lt c (width I)) (first_status (column_at I c).lb (column_at I c).ub) Basic
+
+-- where the run before ended, if it was of as many columns; else the first basis
 abbrev pub held_status : Given → Instance → ℕ → Status
-held_status None I c = cond (nat_lt c (width I)) (first_status (column_at I c).lb (column_at I c).ub) Basic
-held_status (Some ts) I c = status_at ts c
+held_status None I c = fresh_status I c
+held_status (Some ts) I c = cond (nat_eq (length ts) (goal_column I)) (status_at ts c) (fresh_status I c)
 
 abbrev pub held_basic : Given → Instance → ℕ → Bool
 held_basic g I c = cond (nat_lt c (goal_column I)) (is_basic (held_status g I c)) true
@@ -224,4 +228,7 @@ fast = record {
   Improves = λ v n way. ImprovesIf v (is_stalled v) n way;
   Stops = λ v n way b. IsFirstLimit v.program v.statuses v.entries v.values n way b;
   Notes = λ v turn k. k ≡ note_after v turn;
+  LeaveFits = λ v. LeaveFitsIf v (is_idle v);
+  EnterFits = λ v b wanted. RatiosFit v b wanted;
+  SwapFits = λ v b n. KeptFits v b n;
 }

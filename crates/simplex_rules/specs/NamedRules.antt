@@ -1,10 +1,8 @@
 -- The rules that have a name.
 use Rattle.simplex_rules.specs.Rules.{Rules, bland}
 use Rattle.simplex_rules.specs.Fast.{fast}
-
-pub data RuleName : Type 0 where
-  Bland : RuleName
-  Fast : RuleName
+use Rattle.simplex_rules.specs.declared.names.RuleName.{RuleName}
+use Rattle.simplex_rules.specs.declared.names.RuleName.TheVariants.{Bland, Fast}
 
 abbrev pub rules_of : RuleName → Rules
 rules_of Bland = bland

@@ -6,7 +6,6 @@ use Rattle.evidence.specs.Cases.{Multiplier, IsBound}
 use Rattle.certificate.specs.declared.causes.Step.TheVariants as At
 use Rattle.bases.specs.Dictionary.{Entries, Values}
 use Rattle.bases.specs.Program.{goal_column}
-use Rattle.bases.specs.Pivot.{PivotFits}
 use Rattle.simplex_rules.specs.declared.columns.Status.{Status}
 use Rattle.simplex_rules.specs.declared.columns.Way.{Way}
 use Rattle.simplex_rules.specs.declared.columns.Way.TheVariants.{Fall}
@@ -16,7 +15,7 @@ use Rattle.simplex_rules.specs.Widths.{ValuesFit, LimitsFit, BoundFits}
 use Rattle.simplex_rules.specs.Ends.{Terms, Clock, End, Clash, Empty, Best, Endless, TurnsOut, TooWide, Stopped, Shown}
 use Rattle.simplex_rules.specs.Reports.{multipliers_of, AreValues, movement, IsBoundAt}
 use Rattle.simplex_rules.specs.Runs.{is_checked, turned, looked_once, HasNoClash, IsFirstEmpty}
-use Rattle.simplex_rules.specs.Rules.{View, Given, Turn, Swap, Flip, Rules}
+use Rattle.simplex_rules.specs.Rules.{View, Given, Swap, Flip, Rules}
 
 -- an end as ever; or a bound that was enough, with the multipliers that show it
 pub data Finish : Type 0 where
@@ -79,18 +78,23 @@ module _ (R : Rules) (I : Instance) (zeroed : Bool) (t : Terms) (m : MomentBy R.
       ((LimitsFit I ss u w n way → ⊥) × (next ≡ Out (Ends (TooWide At.Ratio)) m.clock))
       ⊎ ((x d : List Ratio) × LimitsFit I ss u w n way × NoLimit I ss u w n way × AreValues I w x × AreValues I (movement ss u n way) d × (next ≡ Out (Ends (Endless x d)) m.clock))
       ⊎ ((k : R.Note) × LimitsFit I ss u w n way × R.Stops view n way n × R.Notes view (Flip n way) k × BeginsTurnBy t m.clock (Unit {0}) (flipped I ss n way) k next)
-      ⊎ ((b : ℕ) × (k : R.Note) × LimitsFit I ss u w n way × R.Stops view n way b × (b ≡ n → ⊥) × R.Notes view (Swap b n (left_status I u b n way)) k × BeginsTurnBy t m.clock (PivotFits u b n) (pivoted ss b n (left_status I u b n way)) k next)
+      ⊎ ((b : ℕ) × (k : R.Note) × LimitsFit I ss u w n way × R.Stops view n way b × (b ≡ n → ⊥) × R.Notes view (Swap b n (left_status I u b n way)) k × BeginsTurnBy t m.clock (R.SwapFits view b n) (pivoted ss b n (left_status I u b n way)) k next)
 
   -- column b leaves at the end that it missed; where none helps it, no point is feasible
   abbrev pub RepairsBy : ℕ → Way → NextBy R.Note → Type 0
   RepairsBy b wanted next =
       (NoneHelps I ss u w b wanted × (next ≡ Out (Ends (Empty (multipliers_of I u b wanted))) m.clock))
-      ⊎ ((n : ℕ) × (way : Way) × (k : R.Note) × R.Enters view b wanted n way × R.Notes view (Swap b n (missed_status wanted (column_at I b))) k × BeginsTurnBy t m.clock (PivotFits u b n) (pivoted ss b n (missed_status wanted (column_at I b))) k next)
+      ⊎ ((n : ℕ) × (way : Way) × (k : R.Note) × R.Enters view b wanted n way × R.Notes view (Swap b n (missed_status wanted (column_at I b))) k × BeginsTurnBy t m.clock (R.SwapFits view b n) (pivoted ss b n (missed_status wanted (column_at I b))) k next)
+
+  -- where the numbers fit by which the entering column is chosen
+  abbrev pub EntersBy : ℕ → Way → NextBy R.Note → Type 0
+  EntersBy b wanted next =
+      ((R.EnterFits view b wanted → ⊥) × (next ≡ Out (Ends (TooWide At.Ratio)) m.clock)) ⊎ (R.EnterFits view b wanted × RepairsBy b wanted next)
 
   -- the first phase: a bound is enough, or a column that is out leaves
   abbrev pub OutBy : ℕ → Way → NextBy R.Note → Type 0
   OutBy b wanted next =
-      ((c : Ratio) × IsPast c × (next ≡ Out (Passed c (multipliers_of I u goal Fall)) m.clock)) ⊎ (((c : Ratio) → IsPast c → ⊥) × RepairsBy b wanted next)
+      ((c : Ratio) × IsPast c × (next ≡ Out (Passed c (multipliers_of I u goal Fall)) m.clock)) ⊎ (((c : Ratio) → IsPast c → ⊥) × EntersBy b wanted next)
 
   -- the second phase
   abbrev pub ImprovesBy : NextBy R.Note → Type 0
@@ -104,10 +108,14 @@ module _ (R : Rules) (I : Instance) (zeroed : Bool) (t : Terms) (m : MomentBy R.
       ((b : ℕ) × (wanted : Way) × R.Leaves view b wanted × OutBy b wanted next)
       ⊎ (NoneOut I ss u w × ImprovesBy next)
 
+  -- both phases: where the numbers fit by which the leaving column is chosen
+  abbrev pub WeighsBy : NextBy R.Note → Type 0
+  WeighsBy next = ((R.LeaveFits view → ⊥) × (next ≡ Out (Ends (TooWide At.Values)) m.clock)) ⊎ (R.LeaveFits view × ChoosesBy next)
+
 abbrev pub GoesByValues : (R : Rules) → Instance → Bool → Terms → MomentBy R.Note → Entries → NextBy R.Note → Type 0
 GoesByValues R I zeroed t m u next =
     ((ValuesFit I m.statuses u → ⊥) × (next ≡ Out (Ends (TooWide At.Values)) m.clock))
-    ⊎ ((w : Values) × ValuesFit I m.statuses u × HasValues I m.statuses u w × ChoosesBy R I zeroed t m u w next)
+    ⊎ ((w : Values) × ValuesFit I m.statuses u × HasValues I m.statuses u w × WeighsBy R I zeroed t m u w next)
 
 -- what comes after a moment, read off the dictionary of its basis
 abbrev pub IsNextBy : (R : Rules) → Instance → Bool → Terms → MomentBy R.Note → NextBy R.Note → Type 0

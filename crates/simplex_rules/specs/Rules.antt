@@ -3,6 +3,7 @@ use Rattle.std.specs.Prelude.{◌≡◌, ℕ, ◌<◌, Bool, Option, Some, List}
 use Rattle.rational.specs.Ratio.{Ratio}
 use Rattle.evidence.specs.Instance.{Instance, IsInstance}
 use Rattle.bases.specs.Dictionary.{Entries, Values}
+use Rattle.bases.specs.Pivot.{PivotFits}
 use Rattle.bases.specs.Program.{goal_column}
 use Rattle.simplex_rules.specs.declared.columns.Status.{Status}
 use Rattle.simplex_rules.specs.declared.columns.Way.{Way}
@@ -45,6 +46,10 @@ pub record Rules : Type 1 where
   pub Stops : View Note → ℕ → Way → ℕ → Type 0
   -- the note after a turn
   pub Notes : View Note → Turn → Note → Type 0
+  -- the numbers fit by which the leaving column is chosen; those by which one is chosen that enters for column b; and those that are kept once columns b and n have changed places
+  pub LeaveFits : View Note → Type 0
+  pub EnterFits : View Note → ℕ → Way → Type 0
+  pub SwapFits : View Note → ℕ → ℕ → Type 0
 
 -- what a run sees is right: the dictionary is that of the basis, whose other columns have places, and the values are those of the dictionary
 pub record IsSeen {N : Type 0} (v : View N) : Type 0 where
@@ -72,7 +77,7 @@ pub record AreSingleRules (R : Rules) : Type 0 where
   pub stops : (v : View R.Note) (n : ℕ) (way : Way) (b c : ℕ) → IsSeen v → R.Stops v n way b → R.Stops v n way c → b ≡ c
   pub notes : (v : View R.Note) (turn : Turn) (k l : R.Note) → IsSeen v → R.Notes v turn k → R.Notes v turn l → k ≡ l
 
--- from the rows, always the least column (Bland, 1977); nothing is kept, and no bound is enough
+-- from the rows, always the least column (Bland, 1977): no numbers are compared for it; nothing is kept, and no bound is enough
 abbrev pub bland : Rules
 bland = record {
   Note = Unit {0};
@@ -83,4 +88,7 @@ bland = record {
   Improves = λ v n way. IsFirstHelp v.program v.statuses v.entries v.values (goal_column v.program) Fall n way;
   Stops = λ v n way b. IsFirstLimit v.program v.statuses v.entries v.values n way b;
   Notes = λ v turn k. Unit {0};
+  LeaveFits = λ v. Unit {0};
+  EnterFits = λ v b wanted. Unit {0};
+  SwapFits = λ v b n. PivotFits v.entries b n;
 }

@@ -5,7 +5,8 @@ ghost use Rattle.simplex_rules.specs.declared.columns.Status.{Status};
 ghost use Rattle.simplex_rules.specs.Ends.{Terms, Clock, End, AreSound, HaveOneEnd};
 ghost use Rattle.simplex_rules.specs.Runs.{Moment, Next, HasNoClash, IsNext, ComesInRun, Run, EndsAtBasis};
 ghost use Rattle.simplex_rules.specs.Rules.{Given, AreLegalRules, AreSingleRules, bland};
-ghost use Rattle.simplex_rules.specs.NamedRules.{RuleName, rules_of};
+ghost use Rattle.simplex_rules.specs.declared.names.RuleName.{RuleName};
+ghost use Rattle.simplex_rules.specs.NamedRules.{rules_of};
 ghost use Rattle.simplex_rules.specs.RuleRuns.{Finish, Ends, Passed, ShownBy, RunBy};
 ghost use Rattle.rational.specs.Ratio.{Ratio};
 

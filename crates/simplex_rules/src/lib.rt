@@ -23,9 +23,11 @@
 
 mod columns;
 mod laws;
+mod names;
 
 pub use columns::{Status, Way};
 pub use laws::{
     moments_have_one_next, runs_are_by_least_indices, runs_are_sound, runs_by_rules_are_sound,
     runs_by_rules_have_one_end, runs_end_at_one_basis, runs_have_one_end,
 };
+pub use names::RuleName;

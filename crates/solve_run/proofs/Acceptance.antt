@@ -3,7 +3,7 @@ use Rattle.std.proofs.Common.{◌≡◌, ◌∙◌, ℕ, ◌⊎◌, inl, inr, Bo
 use Rattle.std.specs.Prelude.{nat_le}
 use Rattle.std.proofs.lemmas.Bool.{leb-true}
 use Rattle.document_tags.specs.Texts.{document_limit}
-use Rattle.evidence.specs.Instance.{Problem, IsProblem}
+use Rattle.evidence.specs.Instance.{IsProblem}
 use Rattle.evidence.specs.Claim.{Accepts}
 use Rattle.fraction.specs.declared.frac.Frac.{Frac}
 use Rattle.instance.specs.Parts.{Parts, IsValid}
@@ -13,11 +13,8 @@ use Rattle.certificate.specs.declared.causes.Cause.{Cause}
 use Rattle.certificate.specs.declared.causes.Cause.TheVariants as causes
 use Rattle.certificate.specs.declared.claims.Claim.{Claim}
 use Rattle.certificate.specs.declared.claims.Claim.TheVariants as Has
-use Rattle.simplex_rules.specs.Ends.{Terms, Clock}
-use Rattle.search_rules.specs.Search.{Found, Outcome, early}
-use Rattle.search_rules.specs.Beginnings.{IsFirstBest, IsAnswerFrom, searched, given_up as given_up_at}
-use Rattle.rational.specs.Ratio.{Ratio}
-use Rattle.search_rules.specs.Outcomes.{IsShown}
+use Rattle.search_rules.specs.Search.{early}
+use Rattle.search_rules.specs.Asked.{asked as searched, gave_up as gave_up_at}
 use Rattle.osol_grammar.specs.declared.options.Options.{Options}
 use Rattle.osol_grammar.specs.Meaning.{IsOptionsText}
 use Rattle.osol_grammar.specs.Back.{IsNameOrNone}
@@ -28,8 +25,11 @@ use Rattle.osrl_grammar.specs.Reading.{IsReportText}
 use Rattle.osrl_grammar.specs.Back.{IsBareOrNone, CauseComesBack, ClaimComesBack, ComesBack}
 use Rattle.document_checker.specs.declared.documents.Kind.{Kind}
 use Rattle.document_checker.specs.Documents.{kind, IsAcceptedText}
-use Rattle.certificate.specs.GivenUp.{given_up}
-use Rattle.solve_run.specs.Judging.{IsShownClaim, HasFewRounds, IsFinal, IsJudged, wide_check, checked}
+use Rattle.certificate.specs.GivenUp.{given_up, unbounded}
+use Rattle.solve_run.specs.declared.closing.Judged.{Judged}
+use Rattle.solve_run.specs.declared.closing.Judged.TheVariants.{Width, Bound}
+use Rattle.solve_run.specs.Asking.{job_asked}
+use Rattle.solve_run.specs.Judging.{IsShownClaim, HasFewRounds, IsFinal, is_bounded, IsJudged, wide_check, checked}
 use Rattle.solve_run.specs.RowForms.{claim_of_rows}
 use Rattle.solve_run.proofs.RowForms.{rows_given, rows_final}
 use Rattle.solve_run.specs.Closings.{error_report, claim_report, with_message, noted, IsShort, IsFitted, IsFormed, IsToldOf}
@@ -38,86 +38,109 @@ use Rattle.solve_run.specs.Untils.{job_terms, renamed}
 use Rattle.solve_run.proofs.Lengths.{IsShortName, unsure_short, error_short}
 use Rattle.solve_run.proofs.Texts.{noted_claim}
 use Rattle.solve_run.proofs.HandedMessages.{whole_bare}
-use Rattle.solve_run.proofs.HandedClaims.{left_accepted, left_short}
+use Rattle.solve_run.proofs.HandedClaims.{left_accepted, without_accepted, left_short}
 use Rattle.solve_run.proofs.Closings.{fitted_back}
 use Rattle.solve_run.proofs.InkedTexts.{IsMessage}
 use Rattle.solve_run.proofs.FaultMessages.{options_message, instance_message}
 use Rattle.solve_run.proofs.Names.{short_name, bare_name}
-use Rattle.solve_run.proofs.PartialClaims.{given_other, given_shown, renamed_shown}
-use Rattle.solve_run.proofs.ClaimNodes.{none_bounded}
+use Rattle.solve_run.proofs.PartialClaims.{AskedAreShown, bound_shown, given_other, given_plain, given_shown, without_shown, final_whole, bounded_other, renamed_shown, with_none}
 use Rattle.solve_run.proofs.WidthRefusals.{best_accepted}
 use Rattle.solve_run.proofs.RoundTrips.{shown_back, wanting_causes}
-use Rattle.solve_run.proofs.Runs.{claim_short, wanting}
+use Rattle.solve_run.proofs.Runs.{claim_short, wanting, wanting_plain}
 
 -- ---- claims
 
--- it is shown, or final and accepted
+-- it is accepted, if it claims something, and its document isn't too long
 pub record IsGood (p : Parts) (job : Option (List ℕ)) (c : Claim) : Type 0 where
-  pub shown : (IsFinal c → ⊥) → IsShownClaim p c
-  pub accepted : IsFinal c → Accepts (problem p) (Means.claim c)
+  pub accepted : (k : Kind) → kind c ≡ Some k → Accepts (problem p) (Means.claim c)
   pub short : IsShort job c
 
-accepts_of : (p : Parts) (c : Claim) (k : Kind) → ((IsFinal c → ⊥) → IsShownClaim p c) → (IsFinal c → Accepts (problem p) (Means.claim c)) → kind c ≡ Some k → Accepts (problem p) (Means.claim c)
-accepts_of p (Has.Optimal x vs cs) k s final is = final tt
-accepts_of p (Has.Infeasible cert) k s final is = final tt
-accepts_of p (Has.Unbounded x vs cs r) k s final is = final tt
-accepts_of p (Has.BestSoFar x vs c None) k s final is = best_accepted p x vs c (s (λ f. f))
-accepts_of p (Has.BestSoFar x vs c (Some b)) k s final is = absurd (none_bounded p (Has.BestSoFar x vs c (Some b)) b (s (λ f. f)) refl)
-accepts_of p (Has.Unsure c None) k s final is = absurd (cc)
-accepts_of p (Has.Unsure c (Some b)) k s final is = absurd (none_bounded p (Has.Unsure c (Some b)) b (s (λ f. f)) refl)
+-- a claim that is shown, which isn't final and has no bound, is accepted if it claims something
+plain_accepted : (p : Parts) (c : Claim) (k : Kind) → IsShownClaim p c → (IsFinal c → ⊥) → is_bounded c ≡ false → kind c ≡ Some k → Accepts (problem p) (Means.claim c)
+plain_accepted p (Has.Optimal x vs cs) k s other plain is = absurd (other tt)
+plain_accepted p (Has.Infeasible cert) k s other plain is = absurd (other tt)
+plain_accepted p (Has.Unbounded x vs cs r) k s other plain is = absurd (other tt)
+plain_accepted p (Has.BestSoFar x vs c None) k s other plain is = best_accepted p x vs c s
+plain_accepted p (Has.BestSoFar x vs c (Some b)) k s other plain is = absurd (cc)
+plain_accepted p (Has.Unsure c None) k s other plain is = absurd (cc)
+plain_accepted p (Has.Unsure c (Some b)) k s other plain is = absurd (cc)
 
--- a claim of a search that isn't final carries no certificate
-no_certificates : (p : Parts) (c : Claim) → IsShownClaim p c → (IsFinal c → ⊥) → HasFewRounds c
-no_certificates p (Has.Optimal x vs cs) s other = absurd (other tt)
-no_certificates p (Has.Infeasible cert) s other = absurd (other tt)
-no_certificates p (Has.Unbounded x vs cs r) s other = absurd (other tt)
-no_certificates p (Has.BestSoFar x vs c None) s other = λ k d h. absurd (omega (arith, h))
-no_certificates p (Has.BestSoFar x vs c (Some b)) s other = absurd (none_bounded p (Has.BestSoFar x vs c (Some b)) b s refl)
-no_certificates p (Has.Unsure c None) s other = λ k d h. absurd (omega (arith, h))
-no_certificates p (Has.Unsure c (Some b)) s other = absurd (none_bounded p (Has.Unsure c (Some b)) b s refl)
+-- where a final one is accepted, so is each without a bound
+shown_accepted : (p : Parts) (c : Claim) (k : Kind) → IsShownClaim p c → is_bounded c ≡ false → (IsFinal c → Accepts (problem p) (Means.claim c)) → kind c ≡ Some k → Accepts (problem p) (Means.claim c)
+shown_accepted p (Has.Optimal x vs cs) k s plain final is = final tt
+shown_accepted p (Has.Infeasible cert) k s plain final is = final tt
+shown_accepted p (Has.Unbounded x vs cs r) k s plain final is = final tt
+shown_accepted p (Has.BestSoFar x vs c b) k s plain final is = plain_accepted p (Has.BestSoFar x vs c b) k s (λ f. f) plain is
+shown_accepted p (Has.Unsure c b) k s plain final is = plain_accepted p (Has.Unsure c b) k s (λ f. f) plain is
+
+-- without its bound it is accepted, whether or not it is with it
+without_good : (p : Parts) (c : Claim) (k : Kind) → IsShownClaim p c → ((j : Kind) → IsFinal c → kind c ≡ Some j → Accepts (problem p) (Means.claim c)) → kind (unbounded c) ≡ Some k → Accepts (problem p) (Means.claim (unbounded c))
+without_good p (Has.Optimal x vs cs) k s final is = final k tt is
+without_good p (Has.Infeasible cert) k s final is = final k tt is
+without_good p (Has.Unbounded x vs cs r) k s final is = final k tt is
+without_good p (Has.BestSoFar x vs c b) k s final is = best_accepted p x vs c (without_shown p (Has.BestSoFar x vs c b) s)
+without_good p (Has.Unsure c b) k s final is = absurd (cc)
+
+-- a claim of a search that isn't final and has no bound carries no certificate
+no_certificates : (c : Claim) → (IsFinal c → ⊥) → is_bounded c ≡ false → HasFewRounds c
+no_certificates (Has.Optimal x vs cs) other plain = absurd (other tt)
+no_certificates (Has.Infeasible cert) other plain = absurd (other tt)
+no_certificates (Has.Unbounded x vs cs r) other plain = absurd (other tt)
+no_certificates (Has.BestSoFar x vs c None) other plain = λ k d h. absurd (omega (arith, h))
+no_certificates (Has.BestSoFar x vs c (Some b)) other plain = absurd (cc)
+no_certificates (Has.Unsure c None) other plain = λ k d h. absurd (omega (arith, h))
+no_certificates (Has.Unsure c (Some b)) other plain = absurd (cc)
 
 module _ (p : Parts) (job : Option (List ℕ)) (valid : IsValid p) (name : IsShortName job) where
-  -- a claim that isn't final
-  pub other_good : (c : Claim) → IsShownClaim p c → (IsFinal c → ⊥) → IsGood p job c
-  other_good c s other = record { shown = λ g. s; accepted = λ f. absurd (other f); short = claim_short p job c valid name s other }
+  -- a claim that isn't final, without a bound
+  pub other_good : (c : Claim) → IsShownClaim p c → (IsFinal c → ⊥) → is_bounded c ≡ false → IsGood p job c
+  other_good c s other plain = record { accepted = λ k is. plain_accepted p c k s other plain is; short = claim_short p job c valid name s other plain }
 
   given_good : (c : Claim) (cause : Cause) → IsShownClaim p c → IsGood p job (given_up c cause)
-  given_good c cause s = other_good (given_up c cause) (given_shown p c cause s) (given_other c cause)
+  given_good c cause s = other_good (given_up c cause) (given_shown p c cause s) (given_other c cause) (given_plain c cause)
 
-  fitted_good : (c told : Claim) → IsShownClaim p c → (IsFinal c → Accepts (problem p) (Means.claim c)) → IsFitted job c told → IsGood p job told
-  fitted_good c told s final (inl (short, same)) = subst (IsGood p job) (sym same) (record { shown = λ g. s; accepted = final; short = short })
-  fitted_good c told s final (inr (long, same)) = subst (IsGood p job) (sym same) (given_good c causes.Length s)
+  fitted_good : (c told : Claim) → IsShownClaim p c → ((k : Kind) → kind c ≡ Some k → Accepts (problem p) (Means.claim c)) → IsFitted job c told → IsGood p job told
+  fitted_good c told s accepted (inl (short, same)) = subst (IsGood p job) (sym same) (record { accepted = accepted; short = short })
+  fitted_good c told s accepted (inr (inl (long, short, same))) = subst (IsGood p job) (sym same) (record { accepted = λ k is. without_good p c k s (λ j final says. accepted j says) is; short = short })
+  fitted_good c told s accepted (inr (inr (long, longer, same))) = subst (IsGood p job) (sym same) (given_good c causes.Length s)
 
   -- with rows alone, where it is accepted so
   rows_good : (c told : Claim) → IsShownClaim p c → IsFinal c → Accepts (problem p) (Means.claim (claim_of_rows (length p.vars) c)) → IsFitted job (claim_of_rows (length p.vars) c) told → IsGood p job told
-  rows_good c told s final fine (inl (short, same)) = subst (IsGood p job) (sym same) (record { shown = λ other. absurd (other (rows_final (length p.vars) c final)); accepted = λ f. fine; short = short })
-  rows_good c told s final fine (inr (long, same)) = subst (IsGood p job) (sym (same ∙ rows_given (length p.vars) c causes.Length)) (given_good c causes.Length s)
+  rows_good c told s final fine (inl (short, same)) = subst (IsGood p job) (sym same) (record { accepted = λ k is. fine; short = short })
+  rows_good c told s final fine (inr (inl (long, short, same))) = absurd (long (subst (IsShort job) (final_whole (claim_of_rows (length p.vars) c) (rows_final (length p.vars) c final)) short))
+  rows_good c told s final fine (inr (inr (long, longer, same))) = subst (IsGood p job) (sym (same ∙ rows_given (length p.vars) c causes.Length)) (given_good c causes.Length s)
 
-  formed_good : (form : ℕ) (c formed told : Claim) → IsShownClaim p c → (IsFinal c → Accepts (problem p) (Means.claim c)) → IsFormed p job form c formed → IsFitted job formed told → IsGood p job told
-  formed_good form c formed told s final (inl (one, fine, same)) fitted = rows_good c told s fine.0 fine.1 (subst (λ (d : Claim). IsFitted job d told) same fitted)
-  formed_good form c formed told s final (inr (other_form, same)) fitted = fitted_good c told s final (subst (λ (d : Claim). IsFitted job d told) same fitted)
+  formed_good : (form : ℕ) (c formed told : Claim) → IsShownClaim p c → ((k : Kind) → kind c ≡ Some k → Accepts (problem p) (Means.claim c)) → IsFormed p job form c formed → IsFitted job formed told → IsGood p job told
+  formed_good form c formed told s accepted (inl (one, fine, same)) fitted = rows_good c told s fine.0 fine.1 (subst (λ (d : Claim). IsFitted job d told) same fitted)
+  formed_good form c formed told s accepted (inr (other_form, same)) fitted = fitted_good c told s accepted (subst (λ (d : Claim). IsFitted job d told) same fitted)
 
   pub closed_good : (form turns : ℕ) (found told : Claim) → IsShownClaim p found → IsToldOf p job form turns found told → IsGood p job told
-  closed_good form turns found told s c = by c.width c.judged c.forms
+  closed_good form turns found told s c = by c.verdict c.judged c.forms
     where
-      by : (width : Option ℕ) → IsJudged p found width → IsFormed p job form (checked found turns width) c.formed → IsGood p job told
-      by None judged forms = formed_good form found c.formed told s judged forms c.fitted
-      by (Some n) judged forms =
+      by : (verdict : Judged) → IsJudged p found verdict → IsFormed p job form (checked found turns verdict) c.formed → IsGood p job told
+      by (Width None) judged forms = formed_good form found c.formed told s (λ k is. shown_accepted p found k s judged.0 judged.1 is) forms c.fitted
+      by (Width (Some n)) judged forms =
           let cause = wide_check n turns in
           let g = given_good found cause s in
           formed_good form (given_up found cause) c.formed told (given_shown p found cause s) g.accepted forms c.fitted
+      by (Bound true) judged forms = formed_good form found c.formed told s (λ k is. judged.1) forms c.fitted
+      by (Bound false) judged forms =
+          let other = bounded_other found judged.0 in
+          formed_good form (unbounded found) c.formed told (without_shown p found s) (λ k is. without_good p found k s (λ j final says. absurd (other final)) is) forms c.fitted
 
 -- a claim that is taken, or what is told of it, is accepted, and not too long
 told_good : (p : Parts) (job : Option (List ℕ)) (c told : Claim) → IsValid p → IsShortName job → Accepts (problem p) (Means.claim c) → IsFitted job c told → ((k : Kind) → kind told ≡ Some k → Accepts (problem p) (Means.claim told)) × IsShort job told
 told_good p job c told valid name accepted (inl (short, same)) = (λ k says. subst (λ (d : Claim). Accepts (problem p) (Means.claim d)) (sym same) accepted, subst (IsShort job) (sym same) short)
-told_good p job c told valid name accepted (inr (long, same)) =
+told_good p job c told valid name accepted (inr (inl (long, short, same))) =
+    (λ k says. subst (λ (d : Claim). Accepts (problem p) (Means.claim d)) (sym same) (without_accepted (problem p) c k accepted (ap kind (sym same) ∙ says)), subst (IsShort job) (sym same) short)
+told_good p job c told valid name accepted (inr (inr (long, longer, same))) =
     (λ k says. subst (λ (d : Claim). Accepts (problem p) (Means.claim d)) (sym same) (left_accepted (problem p) c causes.Length k accepted (ap kind (sym same) ∙ says)), subst (IsShort job) (sym same) (left_short p job valid name c causes.Length accepted))
 
 -- ---- reports
 
 module _ (names : (bytes : List ℕ) (o : Options) → IsOptionsText bytes o → IsNameOrNone o.job)
     (numbers : (p : Parts) → IsProblem (problem p))
-    (shows : (P : Problem) (t : Terms) (gs : Option (List (Option Ratio))) (start : Option Found) (o : Outcome) (c : Clock) → IsProblem P → IsFirstBest P gs start → IsAnswerFrom P t start o c → IsShown P o)
+    (shows : AskedAreShown)
     (comes_back : (r : Report) → ComesBack r → IsReportText (report_text r) r)
     (read_back : (bytes : List ℕ) (r : Report) (c : Claim) → IsReportText bytes r → r.claim ≡ Some c → ClaimComesBack (Some c)) (beside : Option (List ℕ)) where
   -- a report of a good claim is read from its own text, and accepted
@@ -137,8 +160,9 @@ module _ (names : (bytes : List ℕ) (o : Options) → IsOptionsText bytes o →
   solved_good : (osil osol : List ℕ) (stop : Option ℕ) (timed : Option Frac) (looks : ℕ) (r : Report) → SolvedBeside beside osil osol stop timed looks r → IsGoodReport osil r
   solved_good osil osol stop timed looks r s =
       let g = s.given in
-      let shown = shows (problem g.parts) (job_terms g.options stop) _ s.start s.outcome _ (numbers g.parts) s.first (searched s.ends) in
-      let good = closed_good g.parts g.options.job g.valid (short_name g.options.job (names osol g.options g.options_text)) g.options.form s.turns s.found s.told (record { outcome = renamed timed s.outcome; tells = s.tells; shown = renamed_shown (problem g.parts) timed s.outcome shown }) s.closed in
+      let shown = shows.outcome (problem g.parts) (job_terms g.options stop) (job_asked g.options) _ s.start s.outcome s.bound _ (numbers g.parts) s.first (searched s.ends) in
+      let bounded = bound_shown shows (problem g.parts) (job_terms g.options stop) (job_asked g.options) _ s.start s.outcome s.bound _ (numbers g.parts) s.first (searched s.ends) in
+      let good = closed_good g.parts g.options.job g.valid (short_name g.options.job (names osol g.options g.options_text)) g.options.form s.turns s.found s.told (record { outcome = renamed timed s.outcome; bound = s.bound; tells = s.tells; shown = renamed_shown (problem g.parts) timed s.outcome shown; bounded = bounded }) s.closed in
       record {
         job = g.options.job;
         bare = bare_name g.options.job (names osol g.options g.options_text);
@@ -146,7 +170,7 @@ module _ (names : (bytes : List ℕ) (o : Options) → IsOptionsText bytes o →
         instance_text = g.instance_text;
         claim = s.told;
         back = s.numbers;
-        accepted = λ k says. accepts_of g.parts s.told k good.shown good.accepted says;
+        accepted = good.accepted;
         short = good.short;
         note = s.note;
         note_bare = whole_bare beside osol g.options g.parts s.start s.note s.noting;
@@ -186,17 +210,18 @@ module _ (names : (bytes : List ℕ) (o : Options) → IsOptionsText bytes o →
   best_good osil osol job note c r whose noting b is =
       let g = b.given in
       let named = job_bare osol job whose in
-      let shown = shows (problem g.parts) (job_terms g.options None) _ b.start (early b.moment.best causes.Memory) b.moment.clock (numbers g.parts) b.first (given_up_at b.comes) in
-      let claimed : IsShownClaim g.parts c = record { outcome = early b.moment.best causes.Memory; tells = b.tells; shown = shown } in
-      let good = other_good g.parts job g.valid named.1 c claimed (wanting c b.moment.best b.tells) in
+      let shown = shows.outcome (problem g.parts) (job_terms g.options b.stop) (job_asked g.options) _ b.start (early b.moment.best causes.Memory) None b.moment.clock (numbers g.parts) b.first (gave_up_at b.comes) in
+      let claimed : IsShownClaim g.parts c = record { outcome = early b.moment.best causes.Memory; bound = None; tells = with_none c (early b.moment.best causes.Memory) b.tells; shown = shown; bounded = tt } in
+      let plain = wanting_plain c b.moment.best b.tells in
+      let good = other_good g.parts job g.valid named.1 c claimed (wanting c b.moment.best b.tells) plain in
       record {
         job = job;
         bare = named.0;
         parts = g.parts;
         instance_text = g.instance_text;
         claim = c;
-        back = shown_back g.parts c g.valid claimed (no_certificates g.parts c claimed (wanting c b.moment.best b.tells)) (wanting_causes c b.moment.best b.tells.cause);
-        accepted = λ k says. accepts_of g.parts c k good.shown good.accepted says;
+        back = shown_back g.parts c g.valid claimed (no_certificates c (wanting c b.moment.best b.tells) plain) (wanting_causes c b.moment.best b.tells.cause);
+        accepted = good.accepted;
         short = good.short;
         note = note;
         note_bare = job_note_bare osil osol note noting;

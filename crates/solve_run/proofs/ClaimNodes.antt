@@ -1,10 +1,11 @@
 -- The certificates that a claim of a search carries: their columns are the instance's and those of their own rows.
+use Rattle.std.specs.Prelude.{IfSome}
 use Rattle.std.proofs.Common.{◌≡◌, ℕ, ◌+◌, ◌^◌, ◌<◌, ◌≤◌, ℤ, Option, None, Some, List, [], ◌∷◌, length, slice_index_or, arith, refl, ap, sym, ◌∙◌, subst}
 use Rattle.std.specs.List.{All, flat_map}
 use Rattle.std.proofs.lemmas.List.{length-map, length-drop}
 use Rattle.std.proofs.lemmas.List.Elements.{All-nil, All-cons, All-head, All-tail, All-append, All-map}
 use Rattle.rational.specs.Ratio.{Ratio, whole}
-use Rattle.evidence.specs.Instance.{Instance, Problem, width, height}
+use Rattle.evidence.specs.Instance.{Instance, Problem, width, height, minimising}
 use Rattle.evidence.specs.OneDenominator.{number_at}
 use Rattle.evidence.specs.Cases.{Multiplier, Node, AreLegal}
 use Rattle.evidence.specs.RowRounds.{numbers_of}
@@ -18,13 +19,13 @@ use Rattle.instance.specs.Program.{problem, variable, row, goal, goals}
 use Rattle.certificate.specs.Meanings as Means
 use Rattle.certificate.specs.Nodes.{certs_of, nodes_of, IsInRange}
 use Rattle.certificate.specs.declared.nodes.Cert.{Cert}
-use Rattle.certificate.specs.declared.claims.ProvedBound.{ProvedBound}
 use Rattle.certificate.specs.declared.claims.Claim.{Claim}
 use Rattle.certificate.specs.declared.claims.Claim.TheVariants as Has
 use Rattle.osol_grammar.specs.Limits.{most_rounds}
 use Rattle.search_rules.specs.Search.{Outcome, Optimal, Infeasible, Unbounded, BestSoFar, Unsure}
 use Rattle.search_rules.specs.Outcomes.{IsShown, ProvesAfter}
-use Rattle.branch_bound.specs.Claims.{ClaimTells, said}
+use Rattle.search_rules.specs.Bounds.{IsShownBound, claimed}
+use Rattle.branch_bound.specs.Claims.{ClaimTellsWith}
 use Rattle.solve_run.specs.Judging.{IsShownClaim, HasFewRounds}
 use Rattle.solve_run.proofs.Numbers.{HasColumn, IsWithin, nodes_within, some_nodes, in_range}
 use Rattle.solve_run.proofs.LevelProofs.{ProvesIn, most_columns, best_levels, endless_levels}
@@ -51,25 +52,9 @@ meant (Has.BestSoFar x vs c (Some b)) = refl
 meant (Has.Unsure c None) = refl
 meant (Has.Unsure c (Some b)) = refl
 
--- a claim carries those of its outcome
-pub carried : (c : Claim) (o : Outcome) → ClaimTells c o → said_certificates (said o) ≡ Means.certificates (certs_of c)
-carried c o tells = sym (ap said_certificates tells.says) ∙ meant c
-
--- a search has no bound
-abbrev pub bound_said : Says.Claim → Option With.ProvedBound
-bound_said (Says.BestSoFar x vs b) = b
-bound_said (Says.Unsure b) = b
-bound_said c = None
-
-none_said : (o : Outcome) → bound_said (said o) ≡ None
-none_said (Optimal x vs cs) = refl
-none_said (Infeasible c) = refl
-none_said (Unbounded x vs cs r) = refl
-none_said (BestSoFar x vs c) = refl
-none_said (Unsure c) = refl
-
-pub none_bounded : (p : Parts) (c : Claim) (b : ProvedBound) → IsShownClaim p c → bound_said (Means.claim c) ≡ Some (Means.proved b) → ⊥
-none_bounded p c b s is = let clash : Some (Means.proved b) ≡ None = sym is ∙ ap bound_said s.tells.says ∙ none_said s.outcome in cc
+-- a claim carries those of its outcome and of its bound
+pub carried : (c : Claim) (o : Outcome) (b : Option With.ProvedBound) → ClaimTellsWith c o b → said_certificates (claimed o b) ≡ Means.certificates (certs_of c)
+carried c o b tells = sym (ap said_certificates tells.says) ∙ meant c
 
 -- its columns are below n
 abbrev pub RoundIsWithin : ℕ → Round → Type 0
@@ -113,12 +98,16 @@ certs_within n most rounds cs few each fewer i d h =
 
 -- ---- what is shown
 
-each_proves : (P : Problem) (o : Outcome) → IsShown P o → All (ProvesIn (most_columns P)) (said_certificates (said o))
-each_proves P (Optimal x vs cs) s = let l = best_levels P vs cs s.2 in l.each
-each_proves P (Infeasible c) s = All-cons (ProvesIn (most_columns P)) c [] (P.program, None, omega arith, s.1) (All-nil (ProvesIn (most_columns P)))
-each_proves P (Unbounded x vs cs r) s = let l = endless_levels P vs x r cs s.2 in l.each
-each_proves P (BestSoFar x vs c) s = All-nil (ProvesIn (most_columns P))
-each_proves P (Unsure c) s = All-nil (ProvesIn (most_columns P))
+bound_proves : (P : Problem) (b : Option With.ProvedBound) → IfSome b (λ d. IsShownBound P d) → All (ProvesIn (most_columns P)) (bound_certificates b)
+bound_proves P None h = All-nil (ProvesIn (most_columns P))
+bound_proves P (Some b) h = All-cons (ProvesIn (most_columns P)) b.certificate [] (P.program, Some (minimising P.program b.number), omega arith, h.proves) (All-nil (ProvesIn (most_columns P)))
+
+each_proves : (P : Problem) (o : Outcome) (b : Option With.ProvedBound) → IsShown P o → IfSome b (λ d. IsShownBound P d) → All (ProvesIn (most_columns P)) (said_certificates (claimed o b))
+each_proves P (Optimal x vs cs) b s h = let l = best_levels P vs cs s.2 in l.each
+each_proves P (Infeasible c) b s h = All-cons (ProvesIn (most_columns P)) c [] (P.program, None, omega arith, s.1) (All-nil (ProvesIn (most_columns P)))
+each_proves P (Unbounded x vs cs r) b s h = let l = endless_levels P vs x r cs s.2 in l.each
+each_proves P (BestSoFar x vs c) b s h = bound_proves P b h
+each_proves P (Unsure c) b s h = bound_proves P b h
 
 -- a problem's programs have few columns
 few_columns : (p : Parts) → IsValid p → most_columns (problem p) + most_rounds ≤ 2 ^ 32
@@ -131,7 +120,7 @@ few_columns p valid =
 pub shown_within : (p : Parts) (c : Claim) → IsValid p → IsShownClaim p c → HasFewRounds c → All (IsCertWithin (2 ^ 32)) (Means.certificates (certs_of c))
 shown_within p c valid s few =
     certs_within (2 ^ 32) (most_columns (problem p)) most_rounds (Means.certificates (certs_of c)) (few_columns p valid)
-    (subst (All (ProvesIn (most_columns (problem p)))) (carried c s.outcome s.tells) (each_proves (problem p) s.outcome s.shown))
+    (subst (All (ProvesIn (most_columns (problem p)))) (carried c s.outcome s.bound s.tells) (each_proves (problem p) s.outcome s.bound s.shown s.bounded))
     (All-map (λ (d : Certificate). length d.rounds ≤ most_rounds) Means.certificate (certs_of c)
     (λ i d h. let cert : Cert = slice_index_or (certs_of c) i d in let less = few i d h in omega (arith, less, length-map cert.rounds Means.round)))
 

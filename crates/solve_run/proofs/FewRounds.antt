@@ -1,21 +1,22 @@
 -- A search derives no more rounds than it may.
-use Rattle.std.proofs.Common.{◌≡◌, ◌≤◌, inl, inr, Option, None, Some, List, [], ◌∷◌, ◌++◌, length, arith, sym, subst}
+use Rattle.std.proofs.Common.{◌≡◌, ◌≤◌, inl, inr, Bool, true, false, Option, None, Some, List, [], ◌∷◌, ◌++◌, length, arith, sym, subst}
 use Rattle.std.specs.List.{All}
 use Rattle.std.proofs.lemmas.List.{length_push}
-use Rattle.std.proofs.lemmas.List.Elements.{All-nil, All-cons, All-push}
+use Rattle.std.proofs.lemmas.List.Elements.{All-nil, All-cons, All-head, All-push}
 use Rattle.rational.specs.Ratio.{Ratio}
 use Rattle.evidence.specs.Instance.{Goal, Problem}
 use Rattle.evidence.specs.Cases.{Multiplier}
 use Rattle.evidence.specs.Rounds.{Certificate, RoundBy}
+use Rattle.evidence.specs.ProvedBounds.{ProvedBound}
 use Rattle.certificate.specs.declared.causes.Cause.{Cause}
 use Rattle.simplex_rules.specs.Ends.{Terms, Clock, End, Clash, Empty, Best, Endless, TurnsOut, TooWide, Stopped}
 use Rattle.simplex_rules.specs.Runs.{looked_once}
 use Rattle.search_rules.specs.Branching.{Case}
 use Rattle.search_rules.specs.Cuts.{Trial, NoCut, WideCut, Cut}
-use Rattle.search_rules.specs.Search.{Found, Outcome, SearchMoment, NextOfSearch, To, Out, early, shown_at, StopsBefore, Branches, MayCut, TakesFound, TakesPoint, MeetsPoint, GoesFromTrial, GoesFromBest, GoesFrom, ClosesLevel, IsNextInSearch}
-use Rattle.search_rules.specs.Beginnings.{ComesFrom, begins, goes_on, IsAnswerFrom, searched, given_up, given_up_after}
-use Rattle.branch_bound.specs.Claims.{said}
-use Rattle.solve_run.proofs.ClaimNodes.{said_certificates}
+use Rattle.search_rules.specs.Search.{Found, Outcome, Optimal, Infeasible, Unbounded, BestSoFar, Unsure, SearchMoment, NextOfSearch, To, Out, early, shown_at, StopsBefore, Branches, MayCut, TakesFound, TakesPoint, MeetsPoint, GoesFromTrial, GoesFromBest, GoesFrom, ClosesLevel, IsNextInSearch}
+use Rattle.search_rules.specs.Bounds.{Carried, IsBoundOf, claimed}
+use Rattle.search_rules.specs.Asked.{Asked, ComesAsked, asked_first, asked_on, asked_level, EndsAsked, near as stops_near, ends as ends_so, FindsBound, FindsAsked, IsAskedAnswer, asked as searched, gave_up, gave_up_after, gave_up_closing}
+use Rattle.solve_run.proofs.ClaimNodes.{said_certificates, bound_certificates}
 
 module _ (P : Problem) (t : Terms) where
   abbrev HasFew : Certificate → Type 0
@@ -26,7 +27,7 @@ module _ (P : Problem) (t : Terms) where
   AreFew m = All HasFew m.level.shown × (length m.rounds ≤ t.rounds)
 
   abbrev pub CarriesFew : Outcome → Type 0
-  CarriesFew o = All HasFew (said_certificates (said o))
+  CarriesFew o = All HasFew (said_certificates (claimed o None))
 
   abbrev AreFewThen : NextOfSearch → Type 0
   AreFewThen (To n) = AreFew n
@@ -102,11 +103,39 @@ module _ (P : Problem) (t : Terms) where
   next_few m next few (inr (inl (some, s))) = stops_few m next s
   next_few m next few (inr (inr v)) = goes_few (record m { clock = v.clock }) few v.visit.rest next v.visit.case (looked_once m.clock) v.end v.goes
 
-  comes_few : (start : Option Found) (m : SearchMoment) → ComesFrom P t start m → AreFew m
-  comes_few start m begins = (All-nil HasFew, omega arith)
-  comes_few start m (goes_on {m = before} c next) = next_few before (To m) (comes_few start before c) next
+  -- a bound's are those of the level at hand, or of the first one
+  bound_few : (m : SearchMoment) (ks : List Carried) (b : ProvedBound) → AreFew m → IsBoundOf P m ks b → HasFew b.certificate
+  bound_few m ks b few (inl here) = subst (λ (x : Certificate). length x.rounds ≤ t.rounds) (sym here.certificate) few.1
+  bound_few m ks b few (inr reached) = All-head HasFew b.certificate reached.others (subst (All HasFew) reached.shown few.0)
 
-  pub answer_few : (start : Option Found) (o : Outcome) (c : Clock) → IsAnswerFrom P t start o c → CarriesFew o
-  answer_few start o c (searched s) = next_few s.last (Out o c) (comes_few start s.last s.comes) s.ends
-  answer_few start o c (given_up {m} h) = early_few m.best _
-  answer_few start o c (given_up_after {m} h r) = early_few m.best _
+  -- with its bound, if it has one
+  abbrev pub CarriesFewWith : Outcome → Option ProvedBound → Type 0
+  CarriesFewWith o b = All HasFew (said_certificates (claimed o b))
+
+  found_few : (m : SearchMoment) (ks : List Carried) (b : Option ProvedBound) → AreFew m → FindsBound P m ks b → All HasFew (bound_certificates b)
+  found_few m ks None few found = All-nil HasFew
+  found_few m ks (Some b) few found = All-cons HasFew b.certificate [] (bound_few m ks b few found.0) (All-nil HasFew)
+
+  with_few : (asks : Bool) (m : SearchMoment) (ks : List Carried) (o : Outcome) (b : Option ProvedBound) → AreFew m → CarriesFew o → FindsAsked P asks m ks o b → CarriesFewWith o b
+  with_few false m ks o b few own none = subst (CarriesFewWith o) (sym none) own
+  with_few true m ks (Optimal x vs cs) b few own none = own
+  with_few true m ks (Infeasible c) b few own none = own
+  with_few true m ks (Unbounded x vs cs r) b few own none = own
+  with_few true m ks (BestSoFar x vs c) b few own found = found_few m ks b few found
+  with_few true m ks (Unsure c) b few own found = found_few m ks b few found
+
+  module _ (a : Asked) (start : Option Found) where
+    comes_few : (m : SearchMoment) (ks : List Carried) (xs : List (Option Ratio)) → ComesAsked P t a start m ks xs → AreFew m
+    comes_few m ks xs asked_first = (All-nil HasFew, omega arith)
+    comes_few m ks xs (asked_on {m = before} {k} {ks = ls} {x} {xs = ys} c far v new is) = next_few before (To m) (comes_few before (k ∷ ls) (x ∷ ys) c) (inr (inr v))
+    comes_few m ks xs (asked_level {m = before} c none next) = next_few before (To m) (comes_few before [] [] c) next
+
+    ends_few : (m : SearchMoment) (xs : List (Option Ratio)) (o : Outcome) (c : Clock) → AreFew m → EndsAsked P t a m xs o c → CarriesFew o
+    ends_few m xs o c few (stops_near s) = early_few m.best _
+    ends_few m xs o c few (ends_so far next) = next_few m (Out o c) few next
+
+    pub answer_few : (o : Outcome) (b : Option ProvedBound) (c : Clock) → IsAskedAnswer P t a start o b c → CarriesFewWith o b
+    answer_few o b c (searched s) = let few = comes_few s.last s.carried s.numbers s.comes in with_few a.bound s.last s.carried o b few (ends_few s.last s.numbers o c few s.ends) s.has
+    answer_few o b c (gave_up {m} h) = early_few m.best _
+    answer_few o b c (gave_up_after {m} h r) = early_few m.best _
+    answer_few o b c (gave_up_closing {m} asks h over) = early_few m.best _

@@ -97,6 +97,7 @@ cause_size causes.Killed = omega arith
 cause_size (causes.NodeLimit n) = let a = decimal_size n in omega (arith, a, length-append (codes "nodeLimit ") (decimal n))
 cause_size (causes.TurnLimit n) = let a = decimal_size n in omega (arith, a, length-append (codes "turnLimit ") (decimal n))
 cause_size (causes.TimeLimit x) = let a = ratio_size (ratio x) in omega (arith, a, length-append (codes "timeLimit ") (ratio_text (ratio x)))
+cause_size causes.Gap = omega arith
 cause_size (causes.Wide p) =
     let a = decimal_size p.node in
     let b = decimal_size p.turn in

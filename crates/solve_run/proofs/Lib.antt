@@ -26,3 +26,5 @@ pub mod OneAnswer
 pub mod Acceptance
 pub mod Texts
 pub mod ToldNames
+pub mod ToldBounds
+pub mod GapCauses

@@ -19,7 +19,7 @@ use Rattle.certificate.specs.declared.claims.Claim.{Claim}
 use Rattle.certificate.specs.declared.claims.Claim.TheVariants as Has
 use Rattle.certificate.specs.Meanings.{multiplier, multipliers, node, round, certificate, certificates, proved, bound, claim}
 use Rattle.search_rules.specs.Search.{Outcome}
-use Rattle.branch_bound.specs.Claims.{ClaimTells, claimed_cause}
+use Rattle.branch_bound.specs.Claims.{ClaimTellsWith, claimed_cause}
 
 -- members that are told by what they mean make lists that are
 each_once : {A B : Type 0} (f : A → B) → ((x y : A) → f x ≡ f y → x ≡ y) → (xs ys : List A) → map f xs ≡ map f ys → xs ≡ ys
@@ -126,6 +126,6 @@ module _ (fractions : (x y : Frac) → IsSame (ratio x) (ratio y) → x ≡ y) w
       cc
   same_claim c d e f = absurd (cc)
 
-  -- an outcome is told by one claim
-  pub claim_once : (c d : Claim) (o : Outcome) → ClaimTells c o → ClaimTells d o → c ≡ d
-  claim_once c d o a b = same_claim c d (a.says ∙ sym b.says) (a.cause ∙ sym b.cause)
+  -- an outcome, with a bound or none, is told by one claim
+  pub claim_once : (c d : Claim) (o : Outcome) (h : Option Early.ProvedBound) → ClaimTellsWith c o h → ClaimTellsWith d o h → c ≡ d
+  claim_once c d o h a b = same_claim c d (a.says ∙ sym b.says) (a.cause ∙ sym b.cause)

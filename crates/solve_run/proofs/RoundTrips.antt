@@ -9,6 +9,7 @@ use Rattle.rational.specs.Ratio.{Ratio}
 use Rattle.rational.specs.Width.{most}
 use Rattle.fraction.specs.Frac.{ratio}
 use Rattle.evidence.specs.Instance.{Problem}
+use Rattle.evidence.specs.ProvedBounds.{ProvedBound}
 use Rattle.evidence.specs.Claim as Says
 use Rattle.instance.specs.Parts.{Parts, IsValid}
 use Rattle.instance.specs.Program.{problem}
@@ -27,13 +28,14 @@ use Rattle.certificate.specs.Nodes.{certs_of}
 use Rattle.search_rules.specs.Search.{Found, Outcome, Optimal, Infeasible, Unbounded, BestSoFar, Unsure, early}
 use Rattle.search_rules.specs.Outcomes.{IsPoint, IsShown}
 use Rattle.cert_checker.specs.LevelRefusals.{Best, Endless}
-use Rattle.branch_bound.specs.Claims.{said, cause_of, claimed_cause}
+use Rattle.search_rules.specs.Bounds.{claimed}
+use Rattle.branch_bound.specs.Claims.{cause_of, claimed_cause}
 use Rattle.osrl_grammar.specs.Back.{HaveColumns, NodeComesBack, RoundComesBack, CauseComesBack, LevelComesBack, TreesComeBack, HasTrees, MayHaveTrees, ClaimComesBack}
 use Rattle.solve_run.specs.Judging.{IsShownClaim, HasFewRounds}
 use Rattle.solve_run.specs.Runs.{HasCauses}
 use Rattle.solve_run.proofs.Numbers.{HasColumn, IsWithin, each_of}
 use Rattle.solve_run.proofs.LevelProofs.{at_most_goals, best_levels, endless_levels, HasNoRounds, HaveNoRoundsBehind, none_behind}
-use Rattle.solve_run.proofs.ClaimNodes.{said_certificates, carried, RoundIsWithin, IsCertWithin, shown_within}
+use Rattle.solve_run.proofs.ClaimNodes.{said_certificates, bound_certificates, carried, RoundIsWithin, IsCertWithin, shown_within}
 
 -- ---- certificates
 
@@ -115,19 +117,23 @@ module _ (P : Problem) where
   some_values : (x vs : List Ratio) → IsPoint P x vs → 0 < length vs
   some_values x vs p = let n = p.values.count in omega (arith, n)
 
-  has_values : (o : Outcome) → IsShown P o → HasValues (said o)
-  has_values (Optimal x vs cs) s = let l = best_levels P vs cs s.2 in let n = l.enough in (some_values x vs s.0, omega (arith, n))
-  has_values (Infeasible c) s = tt
-  has_values (Unbounded x vs cs r) s = some_values x vs s.0
-  has_values (BestSoFar x vs c) s = some_values x vs s
-  has_values (Unsure c) s = tt
+  has_values : (o : Outcome) (b : Option ProvedBound) → IsShown P o → HasValues (claimed o b)
+  has_values (Optimal x vs cs) b s = let l = best_levels P vs cs s.2 in let n = l.enough in (some_values x vs s.0, omega (arith, n))
+  has_values (Infeasible c) b s = tt
+  has_values (Unbounded x vs cs r) b s = some_values x vs s.0
+  has_values (BestSoFar x vs c) b s = some_values x vs s
+  has_values (Unsure c) b s = tt
 
-  no_rounds_behind : (o : Outcome) → IsShown P o → HaveNoRoundsBehind (said_certificates (said o))
-  no_rounds_behind (Optimal x vs cs) s = let l = best_levels P vs cs s.2 in none_behind P cs (at_most_goals Best (length cs) (suc (length P.later)) l.enough) s.1
-  no_rounds_behind (Infeasible c) s = All-nil HasNoRounds
-  no_rounds_behind (Unbounded x vs cs r) s = let l = endless_levels P vs x r cs s.2 in none_behind P cs (at_most_goals (Endless x r) (length cs) (suc (length P.later)) l.enough) s.1
-  no_rounds_behind (BestSoFar x vs c) s = tt
-  no_rounds_behind (Unsure c) s = tt
+  none_behind_bound : (b : Option ProvedBound) → HaveNoRoundsBehind (bound_certificates b)
+  none_behind_bound None = tt
+  none_behind_bound (Some b) = All-nil HasNoRounds
+
+  no_rounds_behind : (o : Outcome) (b : Option ProvedBound) → IsShown P o → HaveNoRoundsBehind (said_certificates (claimed o b))
+  no_rounds_behind (Optimal x vs cs) b s = let l = best_levels P vs cs s.2 in none_behind P cs (at_most_goals Best (length cs) (suc (length P.later)) l.enough) s.1
+  no_rounds_behind (Infeasible c) b s = All-nil HasNoRounds
+  no_rounds_behind (Unbounded x vs cs r) b s = let l = endless_levels P vs x r cs s.2 in none_behind P cs (at_most_goals (Endless x r) (length cs) (suc (length P.later)) l.enough) s.1
+  no_rounds_behind (BestSoFar x vs c) b s = none_behind_bound b
+  no_rounds_behind (Unsure c) b s = none_behind_bound b
 
 -- ---- claims
 
@@ -143,8 +149,8 @@ claim_back (Has.Unsure c (Some b)) values within none causes = (causes, trees_ba
 -- a claim that is shown, of few rounds, whose cause has numbers of its types
 pub shown_back : (p : Parts) (c : Claim) → IsValid p → IsShownClaim p c → HasFewRounds c → HasCauses c → ClaimComesBack (Some c)
 shown_back p c valid s few causes =
-    claim_back c (subst HasValues (sym s.tells.says) (has_values (problem p) s.outcome s.shown)) (shown_within p c valid s few)
-    (subst HaveNoRoundsBehind (carried c s.outcome s.tells) (no_rounds_behind (problem p) s.outcome s.shown)) causes
+    claim_back c (subst HasValues (sym s.tells.says) (has_values (problem p) s.outcome s.bound s.shown)) (shown_within p c valid s few)
+    (subst HaveNoRoundsBehind (carried c s.outcome s.bound s.tells) (no_rounds_behind (problem p) s.outcome s.bound s.shown)) causes
 
 -- ---- want of memory
 

@@ -2,11 +2,11 @@
 use Rattle.std.proofs.Common.{◌≡◌, ◌∙◌, ℕ, zero, suc, ◌+◌, ◌≤◌, inl, inr, Bool, true, false, Option, None, Some, Result, Ok, List, [], ◌∷◌, ◌++◌, length, slice_index_or, arith, refl, ap, sym, subst}
 use Rattle.std.specs.Prelude.{IfOk}
 use Rattle.std.specs.List.{All}
-use Rattle.std.proofs.lemmas.List.Elements.{All-nil}
 use Rattle.std.proofs.lemmas.Result.{IfOk-weaker}
 use Rattle.std.proofs.lemmas.List.{length-map, get_or-map}
 use Rattle.os_io.specs.Looks.{stops_of}
-use Rattle.evidence.specs.Instance.{Problem, IsProblem}
+use Rattle.evidence.specs.Instance.{IsProblem}
+use Rattle.evidence.specs.ProvedBounds.{ProvedBound}
 use Rattle.evidence.specs.Rounds.{Certificate}
 use Rattle.fraction.specs.declared.frac.Frac.{Frac}
 use Rattle.instance.specs.Parts.{Parts, IsValid}
@@ -14,18 +14,18 @@ use Rattle.instance.specs.Program.{problem}
 use Rattle.certificate.specs.Nodes.{certs_of}
 use Rattle.certificate.specs.declared.nodes.Cert.{Cert}
 use Rattle.certificate.specs.Meanings as Means
-use Rattle.certificate.specs.declared.causes.Cause.{Cause}
-use Rattle.certificate.specs.declared.causes.Cause.TheVariants.{Memory, TimeLimit}
+use Rattle.certificate.specs.declared.causes.Cause.TheVariants.{Memory}
 use Rattle.certificate.specs.declared.claims.Claim.{Claim}
 use Rattle.certificate.specs.declared.claims.Claim.TheVariants as Has
-use Rattle.simplex_rules.specs.Ends.{Terms, Clock}
+use Rattle.simplex_rules.specs.Ends.{Clock}
 use Rattle.simplex_rules.specs.Looks.{answers, went_on, looks_after, stop_after}
-use Rattle.search_rules.specs.Search.{Found, Outcome, Optimal, Infeasible, Unbounded, BestSoFar, Unsure, SearchMoment, early}
-use Rattle.search_rules.specs.Beginnings.{IsFirstBest, ComesFrom, SearchFrom, IsAnswerFrom, searched, given_up as given_up_at, given_up_after}
+use Rattle.search_rules.specs.Search.{Found, Outcome, SearchMoment, early}
+use Rattle.search_rules.specs.Bounds.{Carried}
+use Rattle.search_rules.specs.Asked.{ComesAsked, AskedSearch, IsAskedAnswer, asked as searched, gave_up as gave_up_at, gave_up_after, gave_up_closing}
 use Rattle.rational.specs.Ratio.{Ratio}
 use Rattle.solve_run.specs.Firsts.{IsFirstOf, IsNoteFrom}
 use Rattle.search_rules.specs.Outcomes.{IsShown}
-use Rattle.branch_bound.specs.Claims.{ClaimTells, said, is_killed}
+use Rattle.branch_bound.specs.Claims.{ClaimTells, ClaimTellsWith}
 use Rattle.osol_grammar.specs.declared.options.Options.{Options}
 use Rattle.osol_grammar.specs.declared.fault.OsolFault.{OsolFault}
 use Rattle.osol_grammar.specs.Meaning.{IsOptionsText}
@@ -38,52 +38,60 @@ use Rattle.osil_grammar.specs.Reading as instances
 use Rattle.osrl_writing.specs.declared.told_names.NameLists.{NameLists}
 use Rattle.osrl_writing.specs.declared.report.Report.{Report}
 use Rattle.solve_run.specs.declared.document.Document.{Document}
-use Rattle.solve_run.specs.Judging.{IsShownClaim, AreFewRounds, HasFewRounds, IsFinal, IsJudged, checked}
+use Rattle.solve_run.specs.declared.closing.Judged.{Judged}
+use Rattle.solve_run.specs.declared.closing.Judged.TheVariants.{Width, Bound}
+use Rattle.solve_run.specs.Judging.{IsShownClaim, AreFewRounds, HasFewRounds, IsFinal, is_bounded, IsJudged, checked}
+use Rattle.solve_run.specs.Asking.{job_asked}
 use Rattle.solve_run.specs.Closings.{claim_report, error_report, noted, IsShort, IsFitted, IsFormed, IsToldOf}
 use Rattle.solve_run.specs.Handing.{HandsInClaim}
-use Rattle.solve_run.specs.Untils.{job_terms, stop_by, looks_by, is_stopped_by, MayTime, left, renamed, FindsUntil}
+use Rattle.solve_run.specs.Untils.{job_terms, stop_by, looks_by, MayTime, renamed, FindsUntil}
 use Rattle.solve_run.specs.JobAnswers.{AreJobTexts, IsJobOf, MayStop, MayEnd, AnswersBeside, Right}
 use Rattle.solve_run.specs.JobAnswers as right
 use Rattle.solve_run.specs.Runs.{MayTimeOut, Reports, no_options, no_instance, handed, solved, gave_up, OutcomeBeside, TellsOutcome, TellsText, TellsDocument, RightBeside, IsRight, Ran, ClosesClaim, IsClaimTold, IsFittedDocument, IsMemoryDocument, IsErrorDocument, AreDueNames}
 use Rattle.solve_run.proofs.Lengths.{IsShortName, best_short, unsure_short}
 use Rattle.solve_run.proofs.Names.{short_name}
 use Rattle.solve_run.proofs.ToldNames.{nameless, named_answer}
-use Rattle.solve_run.proofs.WidthRefusals.{decided, few_values}
-use Rattle.solve_run.proofs.ClaimNodes.{said_certificates, carried, none_bounded}
-use Rattle.solve_run.proofs.PartialClaims.{renamed_shown}
+use Rattle.solve_run.proofs.WidthRefusals.{IsDecided, decided, few_values}
+use Rattle.solve_run.proofs.ClaimNodes.{said_certificates, carried}
+use Rattle.solve_run.proofs.PartialClaims.{AskedAreShown, BoundIsShown, bound_shown, plain_told, renamed_says, renamed_shown, memory_tells, with_none}
 use Rattle.solve_run.proofs.FewRounds.{answer_few}
 
 -- ---- claims that are given up
 
--- the document of a claim that isn't final isn't too long
-pub claim_short : (p : Parts) (job : Option (List ℕ)) (c : Claim) → IsValid p → IsShortName job → IsShownClaim p c → (IsFinal c → ⊥) → IsShort job c
-claim_short p job (Has.Optimal x vs cs) valid name s other = absurd (other tt)
-claim_short p job (Has.Infeasible cert) valid name s other = absurd (other tt)
-claim_short p job (Has.Unbounded x vs cs r) valid name s other = absurd (other tt)
-claim_short p job (Has.BestSoFar x vs c None) valid name s other = let (few, asked) = few_values p x vs c valid s in best_short job name x vs c few asked
-claim_short p job (Has.BestSoFar x vs c (Some b)) valid name s other = absurd (none_bounded p (Has.BestSoFar x vs c (Some b)) b s refl)
-claim_short p job (Has.Unsure c None) valid name s other = unsure_short job name c
-claim_short p job (Has.Unsure c (Some b)) valid name s other = absurd (none_bounded p (Has.Unsure c (Some b)) b s refl)
+-- the document of a claim that isn't final and has no bound isn't too long
+pub claim_short : (p : Parts) (job : Option (List ℕ)) (c : Claim) → IsValid p → IsShortName job → IsShownClaim p c → (IsFinal c → ⊥) → is_bounded c ≡ false → IsShort job c
+claim_short p job (Has.Optimal x vs cs) valid name s other plain = absurd (other tt)
+claim_short p job (Has.Infeasible cert) valid name s other plain = absurd (other tt)
+claim_short p job (Has.Unbounded x vs cs r) valid name s other plain = absurd (other tt)
+claim_short p job (Has.BestSoFar x vs c None) valid name s other plain = let (few, asked) = few_values p x vs c valid s in best_short job name x vs c few asked
+claim_short p job (Has.BestSoFar x vs c (Some b)) valid name s other plain = absurd (cc)
+claim_short p job (Has.Unsure c None) valid name s other plain = unsure_short job name c
+claim_short p job (Has.Unsure c (Some b)) valid name s other plain = absurd (cc)
 
 -- what is told of it is the claim itself
-kept : (p : Parts) (job : Option (List ℕ)) (form turns : ℕ) (found told : Claim) → (IsFinal found → ⊥) → IsShort job found → IsToldOf p job form turns found told → told ≡ found
-kept p job form turns found told other short c = by c.width c.judged c.forms c.fitted
+kept : (p : Parts) (job : Option (List ℕ)) (form turns : ℕ) (found told : Claim) → (IsFinal found → ⊥) → is_bounded found ≡ false → IsShort job found → IsToldOf p job form turns found told → told ≡ found
+kept p job form turns found told other plain short c = by c.verdict c.judged c.forms c.fitted
   where
-    by : (width : Option ℕ) → IsJudged p found width → IsFormed p job form (checked found turns width) c.formed → IsFitted job c.formed told → told ≡ found
-    by None judged (inl (one, fine, is)) fitted = absurd (other fine.0)
-    by None judged (inr (other_form, is)) (inl (s, same)) = same ∙ is
-    by None judged (inr (other_form, is)) (inr (long, same)) = absurd (long (subst (IsShort job) (sym is) short))
-    by (Some n) judged forms fitted = absurd (other judged.0)
+    by : (verdict : Judged) → IsJudged p found verdict → IsFormed p job form (checked found turns verdict) c.formed → IsFitted job c.formed told → told ≡ found
+    by (Width None) judged (inl (one, fine, is)) fitted = absurd (other fine.0)
+    by (Width None) judged (inr (other_form, is)) (inl (s, same)) = same ∙ is
+    by (Width None) judged (inr (other_form, is)) (inr (inl (long, few, same))) = absurd (long (subst (IsShort job) (sym is) short))
+    by (Width None) judged (inr (other_form, is)) (inr (inr (long, longer, same))) = absurd (long (subst (IsShort job) (sym is) short))
+    by (Width (Some n)) judged forms fitted = absurd (other judged.0)
+    by (Bound true) judged forms fitted = let clash : true ≡ false = sym judged.0 ∙ plain in absurd (cc)
+    by (Bound false) judged forms fitted = let clash : true ≡ false = sym judged.0 ∙ plain in absurd (cc)
 
 -- a claim for want of memory isn't final
 pub wanting : (c : Claim) (best : Option Found) → ClaimTells c (early best Memory) → IsFinal c → ⊥
-wanting c None t final = decided c (Unsure Memory) final t.says
-wanting c (Some f) t final = decided c (BestSoFar f.point f.values Memory) final t.says
+wanting c best t final = early_open best (decided c (early best Memory) None final t.says)
+  where
+    early_open : (best : Option Found) → IsDecided (early best Memory) → ⊥
+    early_open None d = d
+    early_open (Some f) d = d
 
--- no look stopped its search
-memory_killed : (best : Option Found) → is_killed (early best Memory) ≡ false
-memory_killed None = refl
-memory_killed (Some f) = refl
+-- and has no bound
+pub wanting_plain : (c : Claim) (best : Option Found) → ClaimTells c (early best Memory) → is_bounded c ≡ false
+wanting_plain c best t = plain_told c (early best Memory) t.says
 
 -- ---- what is reported
 
@@ -101,13 +109,13 @@ module _ (beside : Option (List ℕ)) (osil osol : List ℕ) (o : Options) (p : 
 
   module _ (found : Claim) (turns n : ℕ) (doc : Document) (killed : Bool) where
     -- memory was wanting in the search: the claim of its moment is told
-    wanted : (timed : Option Frac) (oc : Outcome) (m : SearchMoment) → ClaimTells found (renamed timed oc) → is_killed oc ≡ is_stopped_by killed timed → IsShown (problem p) oc → ComesFrom (problem p) (job_terms o (stop_by n killed timed)) start m → early m.best Memory ≡ oc → ClosesClaim p ns note o.job o.form turns found doc → OutcomeBeside beside osil osol n killed doc
-    wanted (Some s) oc m tells stopped shown comes is closes = let went : true ≡ false = sym stopped ∙ ap is_killed (sym is) ∙ memory_killed m.best in absurd (cc)
-    wanted None oc m tells stopped shown comes is closes =
-        let early_told : ClaimTells found (early m.best Memory) = subst (ClaimTells found) (sym is) tells in
-        let other = wanting found m.best early_told in
-        let same = kept p o.job o.form turns found closes.told other (claim_short p o.job found valid (short_name o.job name) (record { outcome = oc; tells = tells; shown = shown }) other) closes.closed in
-        let went : killed ≡ false = sym stopped ∙ ap is_killed (sym is) ∙ memory_killed m.best in
+    wanted : (timed : Option Frac) (m : SearchMoment) (ks : List Carried) (xs : List (Option Ratio)) → ClaimTellsWith found (renamed timed (early m.best Memory)) None → IsShown (problem p) (early m.best Memory) → ComesAsked (problem p) (job_terms o (stop_by n killed timed)) (job_asked o) start m ks xs → ClosesClaim p ns note o.job o.form turns found doc → OutcomeBeside beside osil osol n killed doc
+    wanted timed m ks xs tells shown comes closes =
+        let told : ClaimTells found (early m.best Memory) = memory_tells found timed m.best tells in
+        let other = wanting found m.best told in
+        let plain = wanting_plain found m.best told in
+        let whole : IsShownClaim p found = record { outcome = early m.best Memory; bound = None; tells = with_none found (early m.best Memory) told; shown = shown; bounded = tt } in
+        let same = kept p o.job o.form turns found closes.told other plain (claim_short p o.job found valid (short_name o.job name) whole other plain) closes.closed in
         record {
           report = noted note (claim_report o.job closes.told);
           reports = gave_up (record {
@@ -118,9 +126,12 @@ module _ (beside : Option (List ℕ)) (osil osol : List ℕ) (o : Options) (p : 
               given = given;
               start = start;
               first = first;
+              stop = stop_by n killed timed;
               moment = m;
-              comes = subst (λ (k : Bool). ComesFrom (problem p) (job_terms o (stop_after n k)) start m) went comes;
-              tells = subst (λ (c : Claim). ClaimTells c (early m.best Memory)) (sym same) early_told;
+              carried = ks;
+              numbers = xs;
+              comes = comes;
+              tells = subst (λ (c : Claim). ClaimTells c (early m.best Memory)) (sym same) told;
             });
             note = note;
             noting = inr (record { given = given; start = start; first = first; noting = noting });
@@ -130,8 +141,8 @@ module _ (beside : Option (List ℕ)) (osil osol : List ℕ) (o : Options) (p : 
         }
 
     module _ (timed : Option Frac) (may : MayTime o killed timed) where
-      ended : (oc : Outcome) → ClaimTells found (renamed timed oc) → SearchFrom (problem p) (job_terms o (stop_by n killed timed)) start oc (clock_after turns (looks_by n killed timed)) → ClosesClaim p ns note o.job o.form turns found doc → OutcomeBeside beside osil osol n killed doc
-      ended oc tells ends closes = record {
+      ended : (oc : Outcome) (b : Option ProvedBound) (c : Clock) → c ≡ clock_after turns (looks_by n killed timed) → ClaimTellsWith found (renamed timed oc) b → AskedSearch (problem p) (job_terms o (stop_by n killed timed)) (job_asked o) start oc b c → ClosesClaim p ns note o.job o.form turns found doc → OutcomeBeside beside osil osol n killed doc
+      ended oc b c at tells ends closes = record {
         report = noted note (claim_report o.job closes.told);
         reports = solved timed (may_out killed timed may) (record {
           given = given;
@@ -139,7 +150,8 @@ module _ (beside : Option (List ℕ)) (osil osol : List ℕ) (o : Options) (p : 
           start = start;
           first = first;
           outcome = oc;
-          ends = ends;
+          bound = b;
+          ends = subst (λ (x : Clock). AskedSearch (problem p) (job_terms o (stop_by n killed timed)) (job_asked o) start oc b x) at ends;
           found = found;
           tells = tells;
           told = closes.told;
@@ -152,12 +164,11 @@ module _ (beside : Option (List ℕ)) (osil osol : List ℕ) (o : Options) (p : 
         is = named_answer osil osol o options_text p instance_text ns due (noted note (claim_report o.job closes.told)) doc closes.is;
       }
 
-      answered : (oc of : Outcome) (d : Clock) → of ≡ oc → d ≡ clock_after turns (looks_by n killed timed) → ClaimTells found (renamed timed oc) → is_killed oc ≡ is_stopped_by killed timed → IsShown (problem p) oc → IsAnswerFrom (problem p) (job_terms o (stop_by n killed timed)) start of d → ClosesClaim p ns note o.job o.form turns found doc → OutcomeBeside beside osil osol n killed doc
-      answered oc of d e f tells stopped shown (searched s) closes =
-          ended oc tells (subst (λ (x : Outcome). SearchFrom (problem p) (job_terms o (stop_by n killed timed)) start x (clock_after turns (looks_by n killed timed))) e
-          (subst (λ (x : Clock). SearchFrom (problem p) (job_terms o (stop_by n killed timed)) start of x) f s)) closes
-      answered oc of d e f tells stopped shown (given_up_at {m} c) closes = wanted timed oc m tells stopped shown c e closes
-      answered oc of d e f tells stopped shown (given_up_after {m} c r) closes = wanted timed oc m tells stopped shown c e closes
+      answered : (oc : Outcome) (b : Option ProvedBound) (c : Clock) → c ≡ clock_after turns (looks_by n killed timed) → ClaimTellsWith found (renamed timed oc) b → IsShown (problem p) oc → IsAskedAnswer (problem p) (job_terms o (stop_by n killed timed)) (job_asked o) start oc b c → ClosesClaim p ns note o.job o.form turns found doc → OutcomeBeside beside osil osol n killed doc
+      answered oc b c at tells shown (searched s) closes = ended oc b c at tells s closes
+      answered oc b c at tells shown (gave_up_at {m} {ks} {xs} h) closes = wanted timed m ks xs tells shown h closes
+      answered oc b c at tells shown (gave_up_after {m} {ks} {xs} h r) closes = wanted timed m ks xs tells shown h closes
+      answered oc b c at tells shown (gave_up_closing {m} {ks} {xs} asks h over) closes = wanted timed m ks xs tells shown h closes
 
 -- nothing is told for want of memory, of this job
 untold : (beside : Option (List ℕ)) (osil osol : List ℕ) (n : ℕ) (killed : Bool) (job : Option (List ℕ)) (doc : Document) → IsJobOf osol job → IsMemoryDocument job doc → OutcomeBeside beside osil osol n killed doc
@@ -167,54 +178,44 @@ untold beside osil osol n killed job doc whose is = record {
   is = nameless osil osol (claim_report job (Has.Unsure Memory None)) doc (λ ns. refl) is;
 }
 
--- no certificate that the outcome carries has more rounds than these
-abbrev AreFewOf : ℕ → Outcome → Type 0
-AreFewOf n oc = All (λ (c : Certificate). length c.rounds ≤ n) (said_certificates (said oc))
-
 -- the run of an instance
 module _ (p : Parts) (o : Options) (start : Option Found) (first : IsFirstOf (problem p) o start) (Came : List Bool → Type 0) (found : Claim) (turns : ℕ) (f : FindsUntil p o start Came found turns) where
+  -- what was found is shown, and so is its bound
+  abbrev pub FoundIsShown : Type 0
+  FoundIsShown = IsShown (problem p) f.outcome × BoundIsShown (problem p) f.bound
+
   pub ran : {E : Type 0} (beside : Option (List ℕ)) (osil osol : List ℕ) (ns : NameLists) (note : Option (List ℕ)) (result : Result Document E)
-      → IsValid p → IsNameOrNone o.job → IsOptionsText osol o → IsInstanceText osil p → AreDueNames osil o ns → IsNoteFrom beside osol o p start note → IsShown (problem p) f.outcome
+      → IsValid p → IsNameOrNone o.job → IsOptionsText osol o → IsInstanceText osil p → AreDueNames osil o ns → IsNoteFrom beside osol o p start note → FoundIsShown
       → IfOk result (IsClaimTold p ns note o.job o.form turns found) → Ran Came osil osol (TellsDocument beside osil osol result)
   ran {E} beside osil osol ns note result valid name options_text instance_text due noting shown told =
       record {
         went_on = f.went_on;
         killed = f.killed;
         came = f.came;
-        looks = inr (record { given = given beside osil osol o p valid options_text name instance_text ns due start first note noting; turns = turns; start = start; first = first; outcome = f.outcome; timed = f.timed; may = f.may; answers = f.answer });
+        looks = inr (record { given = given beside osil osol o p valid options_text name instance_text ns due start first note noting; turns = turns; start = start; first = first; outcome = f.outcome; timed = f.timed; may = f.may; bound = f.bound; answers = f.answer });
         tells = IfOk-weaker result (IsClaimTold p ns note o.job o.form turns found) (OutcomeBeside beside osil osol f.went_on f.killed) by told;
       }
     where
       by : (doc : Document) → IsClaimTold p ns note o.job o.form turns found doc → OutcomeBeside beside osil osol f.went_on f.killed doc
-      by doc (inl closes) = answered beside osil osol o p valid options_text name instance_text ns due start first note noting found turns f.went_on doc f.killed f.timed f.may f.outcome f.outcome (clock_after turns (looks_by f.went_on f.killed f.timed)) refl refl f.tells f.stopped shown f.answer closes
+      by doc (inl closes) = answered beside osil osol o p valid options_text name instance_text ns due start first note noting found turns f.went_on doc f.killed f.timed f.may f.outcome f.bound (clock_after turns (looks_by f.went_on f.killed f.timed)) refl f.tells shown.0 f.answer closes
       by doc (inr memory) = untold beside osil osol f.went_on f.killed o.job doc (inr (o, options_text, refl)) memory
 
-  -- what was found is shown
-  pub shown_by : ((P : Problem) (t : Terms) (gs : Option (List (Option Ratio))) (begun : Option Found) (oc : Outcome) (c : Clock) → IsProblem P → IsFirstBest P gs begun → IsAnswerFrom P t begun oc c → IsShown P oc) → ((q : Parts) → IsProblem (problem q)) → IsShown (problem p) f.outcome
-  shown_by shows numbers = shows (problem p) _ _ start f.outcome _ (numbers p) first f.answer
+  pub shown_by : AskedAreShown → ((q : Parts) → IsProblem (problem q)) → FoundIsShown
+  shown_by shows numbers =
+      (shows.outcome (problem p) _ _ _ start f.outcome f.bound _ (numbers p) first f.answer, bound_shown shows (problem p) _ _ _ start f.outcome f.bound _ (numbers p) first f.answer)
 
-  pub claim_shown : IsShown (problem p) f.outcome → IsShownClaim p found
-  claim_shown shown = record { outcome = renamed f.timed f.outcome; tells = f.tells; shown = renamed_shown (problem p) f.timed f.outcome shown }
+  pub claim_shown : FoundIsShown → IsShownClaim p found
+  claim_shown shown = record { outcome = renamed f.timed f.outcome; bound = f.bound; tells = f.tells; shown = renamed_shown (problem p) f.timed f.outcome shown.0; bounded = shown.1 }
 
   -- with no more rounds than the options ask for
   pub few_by : AreFewRounds o.rounds → HasFewRounds found
   few_by asked i d h =
-      let few = renamed_few f.timed f.outcome (answer_few (problem p) (job_terms o (stop_by f.went_on f.killed f.timed)) start f.outcome _ f.answer) in
-      let each : All (λ (c : Certificate). length c.rounds ≤ o.rounds) (Means.certificates (certs_of found)) = subst (All (λ (c : Certificate). length c.rounds ≤ o.rounds)) (carried found (renamed f.timed f.outcome) f.tells) few in
+      let few = answer_few (problem p) (job_terms o (stop_by f.went_on f.killed f.timed)) (job_asked o) start f.outcome f.bound _ f.answer in
+      let same = sym (ap said_certificates (renamed_says f.timed f.outcome f.bound)) ∙ carried found (renamed f.timed f.outcome) f.bound f.tells in
+      let each : All (λ (c : Certificate). length c.rounds ≤ o.rounds) (Means.certificates (certs_of found)) = subst (All (λ (c : Certificate). length c.rounds ≤ o.rounds)) same few in
       let cert : Cert = slice_index_or (certs_of found) i d in
       let less = each i (Means.certificate d) (omega (arith, h, length-map (certs_of found) Means.certificate)) in
       omega (arith, asked, less, ap (λ (c : Certificate). length c.rounds) (get_or-map Means.certificate (certs_of found) i d (Means.certificate d) h), length-map cert.rounds Means.round)
-    where
-      left_few : (oc : Outcome) (c : Cause) → AreFewOf o.rounds (left oc c)
-      left_few (Optimal x vs cs) c = All-nil (λ (c : Certificate). length c.rounds ≤ o.rounds)
-      left_few (Infeasible cert) c = All-nil (λ (c : Certificate). length c.rounds ≤ o.rounds)
-      left_few (Unbounded x vs cs r) c = All-nil (λ (c : Certificate). length c.rounds ≤ o.rounds)
-      left_few (BestSoFar x vs k) c = All-nil (λ (c : Certificate). length c.rounds ≤ o.rounds)
-      left_few (Unsure k) c = All-nil (λ (c : Certificate). length c.rounds ≤ o.rounds)
-
-      renamed_few : (timed : Option Frac) (oc : Outcome) → AreFewOf o.rounds oc → AreFewOf o.rounds (renamed timed oc)
-      renamed_few None oc few = few
-      renamed_few (Some s) oc few = left_few oc (TimeLimit s)
 
 -- ---- no search
 

@@ -1,23 +1,26 @@
 -- What a search found whose watch was wrapped in one that a time may stop.
-use Rattle.std.proofs.Common.{◌≡◌, ◌≢◌, ◌∙◌, ℕ, zero, suc, ◌+◌, ◌⊎◌, inl, inr, Bool, true, false, Option, None, Some, List, [], ◌∷◌, map, refl, sym, ap, subst, nat_lt, arith}
+use Rattle.std.proofs.Common.{◌≡◌, ◌≢◌, ◌∙◌, ℕ, zero, suc, ◌+◌, ◌⊎◌, inl, inr, Bool, true, false, Option, None, Some, List, [], ◌∷◌, map, refl, sym, ap, subst, nat_eq, nat_lt, arith}
 use Rattle.fraction.specs.declared.frac.Frac.{Frac}
 use Rattle.os_io.specs.Looks.{stops_of}
 use Rattle.stop_reasons.specs.Reasons.{CameUntil, says_stop, says_killed, says_time}
 use Rattle.stop_reasons.specs.declared.until.Reason.{Reason}
 use Rattle.stop_reasons.specs.declared.until.Reason.TheVariants.{Killed, Time}
+use Rattle.evidence.specs.Instance.{Problem}
+use Rattle.evidence.specs.ProvedBounds.{ProvedBound}
+use Rattle.simplex_rules.specs.Ends.{Terms, Clock}
+use Rattle.search_rules.specs.Gaps as gaps
 use Rattle.instance.specs.Parts.{Parts}
 use Rattle.instance.specs.Program.{problem}
-use Rattle.certificate.specs.GivenUp.{given_up}
-use Rattle.certificate.specs.declared.causes.Cause.TheVariants.{TimeLimit}
 use Rattle.certificate.specs.declared.claims.Claim.{Claim}
 use Rattle.simplex_rules.specs.Looks.{answers, went_on, AgreesWith as Agrees, looks_after, stop_after}
 use Rattle.simplex_rules.proofs.Looks.{agrees}
 use Rattle.search_rules.specs.Search.{Found, Outcome}
-use Rattle.search_rules.specs.Beginnings.{IsAnswerFrom}
-use Rattle.branch_bound.specs.Claims.{ClaimTells, is_killed}
+use Rattle.search_rules.specs.Asked.{IsAskedAnswer}
+use Rattle.branch_bound.specs.Claims.{ClaimTellsWith}
 use Rattle.osol_grammar.specs.declared.options.Options.{Options}
-use Rattle.solve_run.specs.Untils.{job_terms, named, FindsUntil}
-use Rattle.solve_run.proofs.PartialClaims.{given_tells}
+use Rattle.solve_run.specs.Asking.{search_gap, job_asked}
+use Rattle.solve_run.specs.Untils.{job_terms, named, timed_claim, FindsUntil}
+use Rattle.solve_run.proofs.PartialClaims.{timed_tells}
 
 -- ---- looks
 
@@ -54,19 +57,24 @@ last_told (None ∷ told) (suc n) e =
     one_more told n (last_told told n rest)
 last_told (Some why ∷ told) (suc n) e = absurd (cc)
 
+-- ---- what is asked
+
+pub gap_asked : (P : Problem) (t : Terms) (o : Options) (start : Option Found) (oc : Outcome) (bound : Option ProvedBound) (c : Clock) (gap : Option gaps.Gap) → gap ≡ search_gap o.gap → IsAskedAnswer P t (record { bound = nat_eq o.bound 1; gap = gap }) start oc bound c → IsAskedAnswer P t (job_asked o) start oc bound c
+gap_asked P t o start oc bound c gap is answer = subst (λ (x : Option gaps.Gap). IsAskedAnswer P t (record { bound = nat_eq o.bound 1; gap = x }) start oc bound c) is answer
+
 -- ---- what was found
 
-module _ (p : Parts) (o : Options) (start : Option Found) (Came : List Bool → Type 0) (claim : Claim) (turns n : ℕ) (oc : Outcome) (tells : ClaimTells claim oc)
-    (answer : (stop : Option ℕ) → Agrees stop 0 n (is_killed oc) → IsAnswerFrom (problem p) (job_terms o stop) start oc (record { turns = turns; looks = looks_after 0 n (is_killed oc) })) where
-  answer_as : (b : Bool) → is_killed oc ≡ b → IsAnswerFrom (problem p) (job_terms o (stop_after n b)) start oc (record { turns = turns; looks = looks_after 0 n b })
-  answer_as b is = subst (λ (k : Bool). IsAnswerFrom (problem p) (job_terms o (stop_after n k)) start oc (record { turns = turns; looks = looks_after 0 n k })) is (answer (stop_after n (is_killed oc)) (agrees n (is_killed oc)))
+module _ (p : Parts) (o : Options) (start : Option Found) (Came : List Bool → Type 0) (claim : Claim) (turns n : ℕ) (stopped : Bool) (oc : Outcome) (bound : Option ProvedBound) (tells : ClaimTellsWith claim oc bound)
+    (answer : (stop : Option ℕ) → Agrees stop 0 n stopped → IsAskedAnswer (problem p) (job_terms o stop) (job_asked o) start oc bound (record { turns = turns; looks = looks_after 0 n stopped })) where
+  answer_as : (b : Bool) → stopped ≡ b → IsAskedAnswer (problem p) (job_terms o (stop_after n b)) (job_asked o) start oc bound (record { turns = turns; looks = looks_after 0 n b })
+  answer_as b is = subst (λ (k : Bool). IsAskedAnswer (problem p) (job_terms o (stop_after n k)) (job_asked o) start oc bound (record { turns = turns; looks = looks_after 0 n k })) is (answer (stop_after n stopped) (agrees n stopped))
 
   -- the time was never over at a look
-  untimed : (b : Bool) → is_killed oc ≡ b → Came (answers n b) → FindsUntil p o start Came claim turns
-  untimed b is came = record { went_on = n; killed = b; timed = None; may = tt; came = came; outcome = oc; stopped = is; answer = answer_as b is; tells = tells }
+  untimed : (b : Bool) → stopped ≡ b → Came (answers n b) → FindsUntil p o start Came claim turns
+  untimed b is came = record { went_on = n; killed = b; timed = None; may = tt; came = came; outcome = oc; bound = bound; answer = answer_as b is; tells = tells }
 
   -- or it was at the last one
-  timed : (s : Frac) → is_killed oc ≡ true → o.seconds ≡ Some s → Came (went_on (suc n)) → FindsUntil p o start Came (given_up claim (TimeLimit s)) turns
+  timed : (s : Frac) → stopped ≡ true → o.seconds ≡ Some s → Came (went_on (suc n)) → FindsUntil p o start Came (timed_claim s claim) turns
   timed s is says came =
       let stop : n + 1 ≡ suc n = omega arith in
       let looks : 0 + n + 1 ≡ suc n = omega arith in
@@ -77,27 +85,27 @@ module _ (p : Parts) (o : Options) (start : Option Found) (Came : List Bool → 
         may = (says, refl);
         came = came;
         outcome = oc;
-        stopped = is;
-        answer = subst (λ (k : ℕ). IsAnswerFrom (problem p) (job_terms o (Some (suc n))) start oc (record { turns = turns; looks = k })) looks
-            (subst (λ (k : ℕ). IsAnswerFrom (problem p) (job_terms o (Some k)) start oc (record { turns = turns; looks = 0 + n + 1 })) stop (answer_as true is));
-        tells = given_tells claim oc (TimeLimit s) tells;
+        bound = bound;
+        answer = subst (λ (k : ℕ). IsAskedAnswer (problem p) (job_terms o (Some (suc n))) (job_asked o) start oc bound (record { turns = turns; looks = k })) looks
+            (subst (λ (k : ℕ). IsAskedAnswer (problem p) (job_terms o (Some k)) (job_asked o) start oc bound (record { turns = turns; looks = 0 + n + 1 })) stop (answer_as true is));
+        tells = timed_tells claim oc bound s tells;
       }
 
   -- by how often it was the time
   never : (times : ℕ) → times ≡ 0 → FindsUntil p o start Came claim turns → FindsUntil p o start Came (named (nat_lt 0 times) o.seconds claim) turns
   never times none f = subst (λ (k : ℕ). FindsUntil p o start Came (named (nat_lt 0 k) o.seconds claim) turns) (sym none) f
 
-  once : (times : ℕ) → times ≡ 1 → is_killed oc ≡ true → Came (went_on (suc n)) → o.seconds ≢ None → FindsUntil p o start Came (named (nat_lt 0 times) o.seconds claim) turns
+  once : (times : ℕ) → times ≡ 1 → stopped ≡ true → Came (went_on (suc n)) → o.seconds ≢ None → FindsUntil p o start Came (named (nat_lt 0 times) o.seconds claim) turns
   once times one is came limited = subst (λ (k : ℕ). FindsUntil p o start Came (named (nat_lt 0 k) o.seconds claim) turns) (sym one) (by o.seconds refl)
     where
       by : (seconds : Option Frac) → o.seconds ≡ seconds → FindsUntil p o start Came (named true seconds claim) turns
       by None none = absurd (limited none)
       by (Some s) says = timed s is says came
 
-  pub ends_until : (limit : Option Frac) (times : ℕ) → limit ≡ o.seconds → CameUntil Came limit 0 times (answers n (is_killed oc)) → FindsUntil p o start Came (named (nat_lt 0 times) o.seconds claim) turns
-  ends_until limit times same c = by (is_killed oc) refl
+  pub ends_until : (limit : Option Frac) (times : ℕ) → limit ≡ o.seconds → CameUntil Came limit 0 times (answers n stopped) → FindsUntil p o start Came (named (nat_lt 0 times) o.seconds claim) turns
+  ends_until limit times same c = by stopped refl
     where
-      by : (b : Bool) → is_killed oc ≡ b → FindsUntil p o start Came (named (nat_lt 0 times) o.seconds claim) turns
+      by : (b : Bool) → stopped ≡ b → FindsUntil p o start Came (named (nat_lt 0 times) o.seconds claim) turns
       by false is =
           let (a, quiet) = quiet_told c.told n (sym c.are ∙ ap (answers n) is) in
           never times (c.counted ∙ ap (λ (k : ℕ). 0 + k) quiet) (untimed false is (subst Came a c.came))

@@ -1,5 +1,6 @@
 -- What a search has shown is refused for width alone.
-use Rattle.std.proofs.Common.{◌≡◌, ℕ, ◌+◌, ◌≤◌, inl, inr, None, List, [], ◌∷◌, length, arith, ap, sym, subst}
+use Rattle.std.specs.Prelude.{IfSome}
+use Rattle.std.proofs.Common.{◌≡◌, ◌∙◌, ℕ, ◌+◌, ◌≤◌, inl, inr, refl, Option, None, List, [], ◌∷◌, length, arith, ap, sym, subst}
 use Rattle.std.proofs.lemmas.List.{length-map, length-drop, get_or_default}
 use Rattle.rational.specs.Ratio.{Ratio, IsNumber}
 use Rattle.fraction.specs.Frac.{ratio, ratios}
@@ -9,6 +10,7 @@ use Rattle.evidence.specs.Instance.{Goal, Instance, Problem, IsProblem}
 use Rattle.evidence.specs.Width.{PointFits}
 use Rattle.evidence.specs.Rounds.{Certificate}
 use Rattle.evidence.specs.Levels.{HasGoalValues, next_level, RoundsAreOfOneGoal}
+use Rattle.evidence.specs.ProvedBounds.{ProvedBound, IsProvedBound}
 use Rattle.evidence.specs.Claim as Says
 use Rattle.evidence.specs.Claim.{Accepts}
 use Rattle.instance.specs.Parts.{Parts, IsValid}
@@ -19,6 +21,7 @@ use Rattle.certificate.specs.declared.claims.Claim.{Claim}
 use Rattle.certificate.specs.declared.claims.Claim.TheVariants as Has
 use Rattle.search_rules.specs.Search.{Outcome, Optimal, Infeasible, Unbounded, BestSoFar, Unsure}
 use Rattle.search_rules.specs.Outcomes.{IsPoint, IsShown}
+use Rattle.search_rules.specs.Bounds.{claimed}
 use Rattle.branch_bound.specs.Claims.{said}
 use Rattle.cert_checker.specs.declared.refused.Refused.{Refused}
 use Rattle.cert_checker.specs.declared.refused.Refused.TheVariants.{WideRound}
@@ -101,23 +104,31 @@ IsDecided (Unbounded x vs cs r) = Unit {0}
 IsDecided (BestSoFar x vs c) = ⊥
 IsDecided (Unsure c) = ⊥
 
-pub decided : (c : Claim) (o : Outcome) → IsFinal c → Means.claim c ≡ said o → IsDecided o
-decided c (Optimal y vs cs) f e = tt
-decided c (Infeasible cert) f e = tt
-decided c (Unbounded y vs cs r) f e = tt
-decided (Has.BestSoFar x vs c b) (BestSoFar y ws d) f e = f
-decided (Has.BestSoFar x vs c b) (Unsure d) f e = f
-decided (Has.Unsure c b) (BestSoFar y ws d) f e = f
-decided (Has.Unsure c b) (Unsure d) f e = f
-decided c o f e = absurd (cc)
+pub decided : (c : Claim) (o : Outcome) (h : Option ProvedBound) → IsFinal c → Means.claim c ≡ claimed o h → IsDecided o
+decided c (Optimal y vs cs) h f e = tt
+decided c (Infeasible cert) h f e = tt
+decided c (Unbounded y vs cs r) h f e = tt
+decided (Has.BestSoFar x vs c b) (BestSoFar y ws d) h f e = f
+decided (Has.BestSoFar x vs c b) (Unsure d) h f e = f
+decided (Has.Unsure c b) (BestSoFar y ws d) h f e = f
+decided (Has.Unsure c b) (Unsure d) h f e = f
+decided c o h f e = absurd (cc)
+
+-- its bound is no part of what it says
+decided_says : (o : Outcome) (h : Option ProvedBound) → IsDecided o → claimed o h ≡ said o
+decided_says (Optimal x vs cs) h f = refl
+decided_says (Infeasible c) h f = refl
+decided_says (Unbounded x vs cs r) h f = refl
+decided_says (BestSoFar x vs c) h f = absurd f
+decided_says (Unsure c) h f = absurd f
 
 -- a best point so far has a number for each variable, and a value for each goal
 pub few_values : (p : Parts) (x vs : List Frac) (c : Cause) → IsValid p → IsShownClaim p (Has.BestSoFar x vs c None) → (length x ≤ 1000) × (length vs ≤ 8)
-few_values p x vs c valid s = by s.outcome s.tells.says s.shown
+few_values p x vs c valid s = by s.outcome s.bound s.tells.says s.shown
   where
-    by : (o : Outcome) → Says.BestSoFar (ratios x) (ratios vs) None ≡ said o → IsShown (problem p) o → (length x ≤ 1000) × (length vs ≤ 8)
-    by (BestSoFar y ws d) e point =
-        let all : Says.BestSoFar (ratios x) (ratios vs) None ≡ Says.BestSoFar y ws None = e in
+    by : (o : Outcome) (h : Option ProvedBound) → Says.BestSoFar (ratios x) (ratios vs) None ≡ claimed o h → IsShown (problem p) o → (length x ≤ 1000) × (length vs ≤ 8)
+    by (BestSoFar y ws d) h e point =
+        let all : Says.BestSoFar (ratios x) (ratios vs) None ≡ Says.BestSoFar y ws h = e in
         let here : ratios x ≡ y = cc in
         let told : ratios vs ≡ ws = cc in
         let count = point.feasible.count in
@@ -128,15 +139,18 @@ few_values p x vs c valid s = by s.outcome s.tells.says s.shown
           omega (arith, ap length here, count, few, length-map x ratio, length-map p.vars variable),
           omega (arith, ap length told, values, some, asked, length-map vs ratio, length-drop 1 (goals p.goals), length-map p.goals goal),
         )
-    by o e point = absurd (cc)
+    by o h e point = absurd (cc)
 
 -- and is accepted
 pub best_accepted : (p : Parts) (x vs : List Frac) (c : Cause) → IsShownClaim p (Has.BestSoFar x vs c None) → Accepts (problem p) (Means.claim (Has.BestSoFar x vs c None))
-best_accepted p x vs c s = subst (Accepts (problem p)) (sym s.tells.says) (by s.outcome s.tells.says s.shown)
+best_accepted p x vs c s = subst (Accepts (problem p)) (sym s.tells.says) (by s.outcome s.bound s.tells.says s.shown)
   where
-    by : (o : Outcome) → Says.BestSoFar (ratios x) (ratios vs) None ≡ said o → IsShown (problem p) o → Accepts (problem p) (said o)
-    by (BestSoFar y ws d) e point = (has_values (problem p) y ws point, point.fits, tt)
-    by o e point = absurd (cc)
+    by : (o : Outcome) (h : Option ProvedBound) → Says.BestSoFar (ratios x) (ratios vs) None ≡ claimed o h → IsShown (problem p) o → Accepts (problem p) (claimed o h)
+    by (BestSoFar y ws d) h e point =
+        let all : Says.BestSoFar (ratios x) (ratios vs) None ≡ Says.BestSoFar y ws h = e in
+        let none : None ≡ h = cc in
+        (has_values (problem p) y ws point, point.fits, subst (λ (g : Option ProvedBound). IfSome g (λ b. IsProvedBound (problem p) b)) none tt)
+    by o h e point = absurd (cc)
 
 module _ (laws : WidthAlone) (P : Problem) (good : IsProblem P) where
   for_width : (o : Outcome) (r : Refused) → IsDecided o → IsShown P o → IsRefusedFor P (said o) r → IsForWidth r
@@ -149,6 +163,7 @@ module _ (laws : WidthAlone) (P : Problem) (good : IsProblem P) where
 -- a final claim that is shown is refused for width alone
 pub width_alone : WidthAlone → (p : Parts) (c : Claim) (r : Refused) → IsProblem (problem p) → IsFinal c → IsShownClaim p c → IsRefusedFor (problem p) (Means.claim c) r → (n : ℕ) × IsWideAt r n
 width_alone laws p c r good final s refused =
-    let q : IsRefusedFor (problem p) (said s.outcome) r = subst (λ (d : Says.Claim). IsRefusedFor (problem p) d r) s.tells.says refused in
-    node_of r (for_width laws (problem p) good s.outcome r (decided c s.outcome final s.tells.says) s.shown q)
+    let over = decided c s.outcome s.bound final s.tells.says in
+    let q : IsRefusedFor (problem p) (said s.outcome) r = subst (λ (d : Says.Claim). IsRefusedFor (problem p) d r) (s.tells.says ∙ decided_says s.outcome s.bound over) refused in
+    node_of r (for_width laws (problem p) good s.outcome r over s.shown q)
     (λ n e. no_round (problem p) good n s.outcome s.shown (subst (IsRefusedFor (problem p) (said s.outcome)) e q))

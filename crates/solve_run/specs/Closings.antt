@@ -1,4 +1,4 @@
--- What a search's claim becomes before it is told: where a sum by which it is checked doesn't fit, or its document would be too long, it is given up, but for its point; and its certificate may be told with multipliers of rows alone, where its document isn't too long so.
+-- What a search's claim becomes before it is told: where a sum by which it is checked doesn't fit, or its document would be too long, it is given up, but for its point; its certificate may be told with multipliers of rows alone, where its document isn't too long so; and a bound of a search that was given up is left out in place of giving anything else up.
 use Rattle.std.specs.Prelude.{◌≡◌, ◌⊎◌, ℕ, ◌≤◌, Option, None, Some, true, false, cond, nat_le, List, length}
 use Rattle.evidence.specs.Claim.{Accepts}
 use Rattle.instance.specs.Parts.{Parts}
@@ -10,8 +10,9 @@ use Rattle.certificate.specs.declared.claims.Claim.{Claim}
 use Rattle.osrl_writing.specs.declared.report.JobStatus.TheVariants.{Finished}
 use Rattle.osrl_writing.specs.declared.report.Report.{Report}
 use Rattle.osrl_writing.specs.Writing.{report_text}
-use Rattle.certificate.specs.GivenUp.{given_up}
+use Rattle.certificate.specs.GivenUp.{given_up, unbounded}
 use Rattle.solve_run.specs.Judging.{IsFinal, IsJudged, checked}
+use Rattle.solve_run.specs.declared.closing.Judged.{Judged}
 use Rattle.solve_run.specs.RowForms.{claim_of_rows}
 
 -- the report of an error of a finished job, with this message
@@ -52,14 +53,17 @@ abbrev pub IsShortOrNone : (job : Option (List ℕ)) → Claim → Option Claim 
 IsShortOrNone job c None = IsShort job c → ⊥
 IsShortOrNone job c (Some d) = IsShort job c × (d ≡ c)
 
--- the claim that is told: it, where its document isn't too long, or else what is left of it
+-- the claim that is told: it, where its document isn't too long; or else it without its bound, where that one isn't; or else what is left of it
 abbrev pub IsFitted : (job : Option (List ℕ)) → (checked told : Claim) → Type 0
-IsFitted job c told = (IsShort job c × (told ≡ c)) ⊎ ((IsShort job c → ⊥) × (told ≡ given_up c causes.Length))
+IsFitted job c told =
+    (IsShort job c × (told ≡ c))
+    ⊎ ((IsShort job c → ⊥) × IsShort job (unbounded c) × (told ≡ unbounded c))
+    ⊎ ((IsShort job c → ⊥) × (IsShort job (unbounded c) → ⊥) × (told ≡ given_up c causes.Length))
 
 -- what is told of what a search found after so many turns: it is checked first, then formed, and then fitted
 pub record IsToldOf (p : Parts) (job : Option (List ℕ)) (form turns : ℕ) (found told : Claim) : Type 0 where
-  pub width : Option ℕ
-  pub judged : IsJudged p found width
+  pub verdict : Judged
+  pub judged : IsJudged p found verdict
   pub formed : Claim
-  pub forms : IsFormed p job form (checked found turns width) formed
+  pub forms : IsFormed p job form (checked found turns verdict) formed
   pub fitted : IsFitted job formed told

@@ -4,13 +4,15 @@ use Rattle.rational.specs.Ratio.{Ratio, IsSame}
 use Rattle.fraction.specs.Frac.{ratio}
 use Rattle.fraction.specs.declared.frac.Frac.{Frac}
 use Rattle.evidence.specs.Instance.{Problem, IsProblem}
+use Rattle.evidence.specs.ProvedBounds.{ProvedBound}
 use Rattle.evidence.specs.Claim as Says
 use Rattle.evidence.specs.Claim.{Accepts}
 use Rattle.instance.specs.Parts.{Parts}
 use Rattle.instance.specs.Program.{problem}
 use Rattle.simplex_rules.specs.Ends.{Terms, Clock}
 use Rattle.search_rules.specs.Search.{Found, Outcome}
-use Rattle.search_rules.specs.Beginnings.{IsFirstBest, SearchFrom}
+use Rattle.search_rules.specs.Beginnings.{IsFirstBest}
+use Rattle.search_rules.specs.Asked.{Asked, AskedSearch}
 use Rattle.cert_checker.specs.declared.refused.Refused.{Refused}
 use Rattle.cert_checker.specs.Refusals.{IsRefusedFor}
 use Rattle.osol_grammar.specs.declared.options.Options.{Options}
@@ -36,11 +38,11 @@ pub record OptionsAreOne : Type 0 where
   pub refused : (bytes : List ℕ) (f g : OsolFault) → f ≢ options_faults.Memory → g ≢ options_faults.Memory → options.DecodeFails bytes f → options.DecodeFails bytes g → f ≡ g
   pub told : (f : OsolFault) (s t : List ℕ) → options_texts.IsFaultText f s → options_texts.IsFaultText f t → s ≡ t
 
--- a search has one outcome, whose claim is checked with one answer
+-- a search has one outcome, and one bound or none, and its claim is checked with one answer
 pub record SearchesAreOne : Type 0 where
   pub numbers : (p : Parts) → IsProblem (problem p)
   pub first : (P : Problem) (gs : Option (List (Option Ratio))) (a b : Option Found) → IsProblem P → IsFirstBest P gs a → IsFirstBest P gs b → a ≡ b
-  pub once : (P : Problem) (t : Terms) (gs : Option (List (Option Ratio))) (a b : Option Found) (o p : Outcome) (c d : Clock) → IsProblem P → IsFirstBest P gs a → IsFirstBest P gs b → SearchFrom P t a o c → SearchFrom P t b p d → (o ≡ p) × (c ≡ d)
+  pub once : (P : Problem) (t : Terms) (a : Asked) (gs : Option (List (Option Ratio))) (i j : Option Found) (o p : Outcome) (b d : Option ProvedBound) (c e : Clock) → IsProblem P → IsFirstBest P gs i → IsFirstBest P gs j → AskedSearch P t a i o b c → AskedSearch P t a j p d e → (o ≡ p) × (b ≡ d) × (c ≡ e)
   pub fractions : (x y : Frac) → IsSame (ratio x) (ratio y) → x ≡ y
   pub refusal : (P : Problem) (claim : Says.Claim) (r s : Refused) → IsProblem P → IsRefusedFor P claim r → IsRefusedFor P claim s → r ≡ s
   pub apart : (P : Problem) (claim : Says.Claim) (r : Refused) → IsProblem P → IsRefusedFor P claim r → Accepts P claim → ⊥

@@ -1,14 +1,17 @@
 -- Which documents answer a job: the texts of its instance and its options decide it, but for want of memory and for the look that stops the search.
 use Rattle.std.specs.Prelude.{◌≡◌, ◌⊎◌, ℕ, Bool, true, Option, None, Some, List}
+use Rattle.rational.specs.Ratio.{Ratio}
 use Rattle.fraction.specs.declared.frac.Frac.{Frac}
+use Rattle.evidence.specs.ProvedBounds.{ProvedBound}
 use Rattle.instance.specs.Parts.{Parts, IsValid}
 use Rattle.instance.specs.Program.{problem}
 use Rattle.certificate.specs.declared.causes.Cause.TheVariants.{Memory}
 use Rattle.certificate.specs.declared.claims.Claim.{Claim}
 use Rattle.certificate.specs.declared.claims.Claim.TheVariants.{Unsure}
 use Rattle.search_rules.specs.Search.{Found, Outcome, SearchMoment, early}
-use Rattle.search_rules.specs.Beginnings.{ComesFrom, SearchFrom}
-use Rattle.branch_bound.specs.Claims.{ClaimTells}
+use Rattle.search_rules.specs.Bounds.{Carried}
+use Rattle.search_rules.specs.Asked.{ComesAsked, AskedSearch}
+use Rattle.branch_bound.specs.Claims.{ClaimTells, ClaimTellsWith}
 use Rattle.osol_grammar.specs.declared.options.Options.{Options}
 use Rattle.osol_grammar.specs.declared.fault.OsolFault.{OsolFault}
 use Rattle.osol_grammar.specs.Meaning.{IsOptionsText}
@@ -26,6 +29,7 @@ use Rattle.osrl_grammar.specs.Back.{ClaimComesBack}
 use Rattle.solve_run.specs.Closings.{error_report, claim_report, noted, IsFitted, IsToldOf}
 use Rattle.solve_run.specs.Handing.{HandsInClaim}
 use Rattle.solve_run.specs.Firsts.{IsFirstOf, IsNoteFrom}
+use Rattle.solve_run.specs.Asking.{job_asked}
 use Rattle.solve_run.specs.Untils.{job_terms, renamed}
 
 -- the options are refused: the report is an error's of no job, and says why
@@ -63,16 +67,17 @@ pub record TakesBeside (beside : Option (List ℕ)) (osil osol : List ℕ) (r : 
   pub fitted : IsFitted given.options.job claim told
   pub is : r ≡ claim_report given.options.job told
 
--- no such result is handed in, the search of the instance within the options' limits, from the first point that they say, ends after so many looks, of which the given one stops it, for a time that is over, or not, and the report tells what it found, with that time as its cause, and with the message about what is handed in and about first values; the claim's numbers are those of their types
+-- no such result is handed in, the search of the instance within the options' limits and with what they ask of it, from the first point that they say, ends after so many looks, of which the given one stops it, for a time that is over, or not, and the report tells what it found, with its bound, if it has one, with that time as its cause, and with the message about what is handed in and about first values; the claim's numbers are those of their types
 pub record SolvedBeside (beside : Option (List ℕ)) (osil osol : List ℕ) (stop : Option ℕ) (timed : Option Frac) (looks : ℕ) (r : Report) : Type 0 where
   pub given : AreJobTexts osil osol
   pub turns : ℕ
   pub start : Option Found
   pub first : IsFirstOf (problem given.parts) given.options start
   pub outcome : Outcome
-  pub ends : SearchFrom (problem given.parts) (job_terms given.options stop) start outcome (record { turns = turns; looks = looks })
+  pub bound : Option ProvedBound
+  pub ends : AskedSearch (problem given.parts) (job_terms given.options stop) (job_asked given.options) start outcome bound (record { turns = turns; looks = looks })
   pub found : Claim
-  pub tells : ClaimTells found (renamed timed outcome)
+  pub tells : ClaimTellsWith found (renamed timed outcome) bound
   pub told : Claim
   pub closed : IsToldOf given.parts given.options.job given.options.form turns found told
   pub numbers : ClaimComesBack (Some told)
@@ -84,13 +89,16 @@ pub record SolvedBeside (beside : Option (List ℕ)) (osil osol : List ℕ) (sto
 abbrev pub IsJobOf : List ℕ → Option (List ℕ) → Type 0
 IsJobOf osol job = (job ≡ None) ⊎ ((o : Options) × IsOptionsText osol o × (job ≡ o.job))
 
--- the claim has the best point of some moment of the search
+-- the claim has the best point of some moment of the search, which this look stops, if one does
 pub record IsBestOfSearch (osil osol : List ℕ) (c : Claim) : Type 0 where
   pub given : AreJobTexts osil osol
   pub start : Option Found
   pub first : IsFirstOf (problem given.parts) given.options start
+  pub stop : Option ℕ
   pub moment : SearchMoment
-  pub comes : ComesFrom (problem given.parts) (job_terms given.options None) start moment
+  pub carried : List Carried
+  pub numbers : List (Option Ratio)
+  pub comes : ComesAsked (problem given.parts) (job_terms given.options stop) (job_asked given.options) start moment carried numbers
   pub tells : ClaimTells c (early moment.best Memory)
 
 -- the message of some job with these texts

@@ -1,10 +1,11 @@
 -- What is checked of a search's claim before it is told.
-use Rattle.std.specs.Prelude.{◌≡◌, ℕ, ◌≤◌, Option, None, Some, length}
+use Rattle.std.specs.Prelude.{◌≡◌, ℕ, ◌^◌, ◌<◌, ◌≤◌, Bool, true, false, is_some, Option, None, Some, IfSome, length}
 use Rattle.std.specs.List.{All}
+use Rattle.evidence.specs.ProvedBounds.{ProvedBound}
 use Rattle.evidence.specs.Claim.{Accepts}
 use Rattle.instance.specs.Parts.{Parts}
 use Rattle.instance.specs.Program.{problem}
-use Rattle.certificate.specs.GivenUp.{given_up}
+use Rattle.certificate.specs.GivenUp.{given_up, unbounded}
 use Rattle.certificate.specs.Meanings as Means
 use Rattle.certificate.specs.Nodes.{certs_of}
 use Rattle.certificate.specs.declared.nodes.Cert.{Cert}
@@ -16,17 +17,22 @@ use Rattle.certificate.specs.declared.claims.Claim.TheVariants.{Optimal, Infeasi
 use Rattle.osol_grammar.specs.Limits.{most_rounds}
 use Rattle.search_rules.specs.Search.{Outcome}
 use Rattle.search_rules.specs.Outcomes.{IsShown}
-use Rattle.branch_bound.specs.Claims.{ClaimTells}
+use Rattle.search_rules.specs.Bounds.{IsShownBound}
+use Rattle.branch_bound.specs.Claims.{ClaimTellsWith}
 use Rattle.cert_checker.specs.declared.refused.Refused.{Refused}
 use Rattle.cert_checker.specs.declared.refused.Refused.TheVariants.{Level}
 use Rattle.cert_checker.specs.declared.refused.Unshown.TheVariants as why
 use Rattle.cert_checker.specs.Refusals.{IsRefusedFor}
+use Rattle.solve_run.specs.declared.closing.Judged.{Judged}
+use Rattle.solve_run.specs.declared.closing.Judged.TheVariants.{Width, Bound}
 
--- the claim tells an outcome that is shown
+-- the claim tells an outcome that is shown, with a bound that is shown, or with none
 pub record IsShownClaim (p : Parts) (c : Claim) : Type 0 where
   pub outcome : Outcome
-  pub tells : ClaimTells c outcome
+  pub bound : Option ProvedBound
+  pub tells : ClaimTellsWith c outcome bound
   pub shown : IsShown (problem p) outcome
+  pub bounded : IfSome bound (λ b. IsShownBound (problem p) b)
 
 -- as many rounds as options may ask for
 abbrev pub AreFewRounds : ℕ → Type 0
@@ -51,12 +57,29 @@ wide_check n turns = causes.Wide (record { node = n; turn = turns; step = steps.
 abbrev pub IsWideAt : Refused → ℕ → Type 0
 IsWideAt r n = (level : ℕ) × (r ≡ Level level (why.Wide n))
 
--- what is checked of a claim: nothing where it isn't final; else it is accepted, or the first sum that doesn't fit is at this node
-abbrev pub IsJudged : Parts → Claim → Option ℕ → Type 0
-IsJudged p c None = IsFinal c → Accepts (problem p) (Means.claim c)
-IsJudged p c (Some n) = IsFinal c × (r : Refused) × IsRefusedFor (problem p) (Means.claim c) r × IsWideAt r n
+-- the claim is of a search that was given up, and has a bound
+abbrev pub is_bounded : Claim → Bool
+is_bounded (Optimal x vs cs) = false
+is_bounded (Infeasible c) = false
+is_bounded (Unbounded x vs cs r) = false
+is_bounded (BestSoFar x vs c b) = is_some b
+is_bounded (Unsure c b) = is_some b
 
--- the claim after its check
-abbrev pub checked : Claim → (turns : ℕ) → Option ℕ → Claim
-checked c turns None = c
-checked c turns (Some n) = given_up c (wide_check n turns)
+-- what is checked of a claim: nothing where it isn't final and has no bound; a final one is accepted, or the first sum that doesn't fit is at this node; and one with a bound is accepted, or isn't
+abbrev pub IsJudged : Parts → Claim → Judged → Type 0
+IsJudged p c (Width None) = (is_bounded c ≡ false) × (IsFinal c → Accepts (problem p) (Means.claim c))
+IsJudged p c (Width (Some n)) = IsFinal c × (r : Refused) × IsRefusedFor (problem p) (Means.claim c) r × IsWideAt r n
+IsJudged p c (Bound true) = (is_bounded c ≡ true) × Accepts (problem p) (Means.claim c)
+IsJudged p c (Bound false) = (is_bounded c ≡ true) × (Accepts (problem p) (Means.claim c) → ⊥)
+
+-- the node, if there is one, has a number of its type
+abbrev pub HasSmallNode : Judged → Type 0
+HasSmallNode (Width width) = IfSome width (λ n. n < 2 ^ 32)
+HasSmallNode (Bound fits) = Unit {0}
+
+-- the claim after its check: a bound that isn't accepted is left out, and the cause stays
+abbrev pub checked : Claim → (turns : ℕ) → Judged → Claim
+checked c turns (Width None) = c
+checked c turns (Width (Some n)) = given_up c (wide_check n turns)
+checked c turns (Bound true) = c
+checked c turns (Bound false) = unbounded c

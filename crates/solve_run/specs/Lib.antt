@@ -10,6 +10,7 @@ pub use Rattle.osrl_writing.specs.Writing
 pub use Rattle.osrl_grammar.specs.Back
 pub use Rattle.cert_checker.specs.Refusals
 pub use Rattle.document_checker.specs.Documents
+pub mod Asking
 pub mod Untils
 pub mod Judging
 pub mod RowForms

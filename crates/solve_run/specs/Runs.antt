@@ -2,6 +2,7 @@
 use Rattle.std.specs.Prelude.{◌≡◌, ◌⊎◌, ℕ, Bool, false, Option, None, Some, option_map, Result, Ok, IfOk, List}
 use Rattle.std.specs.Borrow.{Bor}
 use Rattle.fraction.specs.declared.frac.Frac.{Frac}
+use Rattle.evidence.specs.ProvedBounds.{ProvedBound}
 use Rattle.instance.specs.Parts.{Parts}
 use Rattle.instance.specs.Program.{problem}
 use Rattle.certificate.specs.declared.causes.Cause.TheVariants.{Memory}
@@ -9,7 +10,7 @@ use Rattle.certificate.specs.declared.claims.Claim.{Claim}
 use Rattle.certificate.specs.declared.claims.Claim.TheVariants.{Optimal, Infeasible, Unbounded, BestSoFar, Unsure}
 use Rattle.simplex_rules.specs.Looks.{answers}
 use Rattle.search_rules.specs.Search.{Found, Outcome}
-use Rattle.search_rules.specs.Beginnings.{IsAnswerFrom}
+use Rattle.search_rules.specs.Asked.{IsAskedAnswer}
 use Rattle.osrl_writing.specs.declared.report.Report.{Report}
 use Rattle.osrl_writing.specs.declared.told_names.NameLists.{NameLists}
 use Rattle.osrl_writing.specs.Labels.{no_names}
@@ -25,6 +26,7 @@ use Rattle.document_checker.specs.Documents.{IsShownIn}
 use Rattle.handed_results.specs.declared.handed.Handed.TheVariants.{Once}
 use Rattle.solve_run.specs.declared.document.Document.{Document}
 use Rattle.solve_run.specs.Firsts.{IsFirstOf}
+use Rattle.solve_run.specs.Asking.{job_asked}
 use Rattle.solve_run.specs.Untils.{job_terms, stop_by, looks_by, MayTime}
 use Rattle.solve_run.specs.JobAnswers.{SaysSeconds, RefusesOptions, RefusesInstance, AreJobTexts, TakesBeside, SolvedBeside, GaveUpBeside, AnswersBeside, TellsReport}
 
@@ -37,7 +39,8 @@ pub record AreSearched (osil osol : List ℕ) (n : ℕ) (killed : Bool) : Type 0
   pub outcome : Outcome
   pub timed : Option Frac
   pub may : MayTime given.options killed timed
-  pub answers : IsAnswerFrom (problem given.parts) (job_terms given.options (stop_by n killed timed)) start outcome (record { turns = turns; looks = looks_by n killed timed })
+  pub bound : Option ProvedBound
+  pub answers : IsAskedAnswer (problem given.parts) (job_terms given.options (stop_by n killed timed)) (job_asked given.options) start outcome bound (record { turns = turns; looks = looks_by n killed timed })
 
 -- there were no looks, or those of the search
 abbrev pub AreSearchLooks : (osil osol : List ℕ) → ℕ → Bool → Type 0

@@ -1,18 +1,20 @@
 -- Searches that a time may stop: what the job's own watch answered at their looks, which look stopped them, and which cause is told.
 use Rattle.std.specs.Prelude.{◌≡◌, ℕ, Bool, true, false, Option, None, Some, List}
 use Rattle.fraction.specs.declared.frac.Frac.{Frac}
+use Rattle.evidence.specs.ProvedBounds.{ProvedBound}
 use Rattle.instance.specs.Parts.{Parts}
 use Rattle.instance.specs.Program.{problem}
-use Rattle.certificate.specs.GivenUp.{given_up}
 use Rattle.certificate.specs.declared.causes.Cause.{Cause}
-use Rattle.certificate.specs.declared.causes.Cause.TheVariants.{TimeLimit}
+use Rattle.certificate.specs.declared.causes.Cause.TheVariants.{Killed, NodeLimit, TurnLimit, Gap, TimeLimit, Wide, Length, Memory}
 use Rattle.certificate.specs.declared.claims.Claim.{Claim}
+use Rattle.certificate.specs.declared.claims.Claim.TheVariants as Has
 use Rattle.simplex_rules.specs.Ends.{Terms}
 use Rattle.simplex_rules.specs.Looks.{answers, stop_after, looks_after}
 use Rattle.search_rules.specs.Search.{Found, Outcome, Optimal, Infeasible, Unbounded, BestSoFar, Unsure}
-use Rattle.search_rules.specs.Beginnings.{IsAnswerFrom}
-use Rattle.branch_bound.specs.Claims.{ClaimTells, is_killed}
+use Rattle.search_rules.specs.Asked.{IsAskedAnswer}
+use Rattle.branch_bound.specs.Claims.{ClaimTellsWith}
 use Rattle.osol_grammar.specs.declared.options.Options.{Options}
+use Rattle.solve_run.specs.Asking.{job_asked}
 
 -- a search within the options' limits, stopped by this look, if by one
 abbrev pub job_terms : Options → (stop : Option ℕ) → Terms
@@ -28,36 +30,45 @@ abbrev pub looks_by : ℕ → (killed : Bool) → (timed : Option Frac) → ℕ
 looks_by n killed None = looks_after 0 n killed
 looks_by n killed (Some s) = n
 
--- whether a look stopped the search
-abbrev pub is_stopped_by : (killed : Bool) → (timed : Option Frac) → Bool
-is_stopped_by killed None = killed
-is_stopped_by killed (Some s) = true
-
 -- a time was over only where the options say that very one, and the job's own watch went on
 abbrev pub MayTime : Options → (killed : Bool) → (timed : Option Frac) → Type 0
 MayTime o killed None = Unit {0}
 MayTime o killed (Some s) = (o.seconds ≡ Some s) × (killed ≡ false)
 
--- what is left of an outcome that is given up for this cause
-abbrev pub left : Outcome → Cause → Outcome
-left (Optimal x vs cs) c = BestSoFar x vs c
-left (Infeasible cert) c = Unsure c
-left (Unbounded x vs cs r) c = BestSoFar x vs c
-left (BestSoFar x vs old) c = BestSoFar x vs c
-left (Unsure old) c = Unsure c
+-- a time that was over is the cause where a look stopped the search; each other cause stays
+abbrev pub by_time : Frac → Cause → Cause
+by_time s Killed = TimeLimit s
+by_time s (NodeLimit n) = NodeLimit n
+by_time s (TurnLimit n) = TurnLimit n
+by_time s Gap = Gap
+by_time s (TimeLimit x) = TimeLimit x
+by_time s (Wide p) = Wide p
+by_time s Length = Length
+by_time s Memory = Memory
 
 -- the outcome, with the time that was over as its cause, where one was
 abbrev pub renamed : (timed : Option Frac) → Outcome → Outcome
 renamed None o = o
-renamed (Some s) o = left o (TimeLimit s)
+renamed (Some s) (Optimal x vs cs) = Optimal x vs cs
+renamed (Some s) (Infeasible cert) = Infeasible cert
+renamed (Some s) (Unbounded x vs cs r) = Unbounded x vs cs r
+renamed (Some s) (BestSoFar x vs c) = BestSoFar x vs (by_time s c)
+renamed (Some s) (Unsure c) = Unsure (by_time s c)
 
--- and the claim
-abbrev pub named : (by_time : Bool) → (seconds : Option Frac) → Claim → Claim
+-- and the claim, which keeps its bound
+abbrev pub timed_claim : Frac → Claim → Claim
+timed_claim s (Has.Optimal x vs cs) = Has.Optimal x vs cs
+timed_claim s (Has.Infeasible cert) = Has.Infeasible cert
+timed_claim s (Has.Unbounded x vs cs r) = Has.Unbounded x vs cs r
+timed_claim s (Has.BestSoFar x vs c b) = Has.BestSoFar x vs (by_time s c) b
+timed_claim s (Has.Unsure c b) = Has.Unsure (by_time s c) b
+
+abbrev pub named : (was_time : Bool) → (seconds : Option Frac) → Claim → Claim
 named false seconds c = c
 named true None c = c
-named true (Some s) c = given_up c (TimeLimit s)
+named true (Some s) c = timed_claim s c
 
--- what a search within the options' limits and their time, from this point on, if from one, found after so many turns, with a watch that came by these looks
+-- what a search within the options' limits and their time, of which that is asked that they ask, from this point on, if from one, found after so many turns, with a watch that came by these looks
 pub record FindsUntil (p : Parts) (o : Options) (start : Option Found) (Came : List Bool → Type 0) (claim : Claim) (turns : ℕ) : Type 0 where
   pub went_on : ℕ
   pub killed : Bool
@@ -65,6 +76,6 @@ pub record FindsUntil (p : Parts) (o : Options) (start : Option Found) (Came : L
   pub may : MayTime o killed timed
   pub came : Came (answers went_on killed)
   pub outcome : Outcome
-  pub stopped : is_killed outcome ≡ is_stopped_by killed timed
-  pub answer : IsAnswerFrom (problem p) (job_terms o (stop_by went_on killed timed)) start outcome (record { turns = turns; looks = looks_by went_on killed timed })
-  pub tells : ClaimTells claim (renamed timed outcome)
+  pub bound : Option ProvedBound
+  pub answer : IsAskedAnswer (problem p) (job_terms o (stop_by went_on killed timed)) (job_asked o) start outcome bound (record { turns = turns; looks = looks_by went_on killed timed })
+  pub tells : ClaimTellsWith claim (renamed timed outcome) bound

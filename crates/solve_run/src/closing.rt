@@ -7,6 +7,7 @@ ghost use Rattle.certificate.specs.Meanings as Means;
 ghost use Rattle.certificate.specs.Nodes.{nodes_of, IsInRange};
 ghost use Rattle.instance.specs.Parts.{IsValid};
 ghost use Rattle.cert_checker.specs.Cuts.{HasRoom};
+ghost use Rattle.solve_run.specs.declared.closing.Judged.TheVariants.{Width};
 ghost use Rattle.solve_run.specs.Judging as specs;
 ghost use Rattle.solve_run.specs.Closings.{IsFormed, IsShortOrNone, claim_report};
 
@@ -42,7 +43,7 @@ fn judge_in(instance: &Instance, claim: &Claim, scratch: &mut Scratch) -> Option
     requires few { specs.HasFewRounds claim.now }
     requires is_final { specs.IsFinal claim.now }
     requires room { HasRoom instance.now claim.now scratch.old }
-    ensures judged { specs.IsJudged instance.now claim.now result }
+    ensures judged { specs.IsJudged instance.now claim.now (Width result) }
     ensures few { IfSome result (λ n. n < 2 ^ 32) }
 {
     shown_is_refused_for_width_alone();
@@ -64,27 +65,63 @@ fn is_final(claim: &Claim) -> bool
     }
 }
 
-/// Checks a claim that a search has shown, where it is one that is checked.
-pub fn judge(alloc: Global, instance: &Instance, claim: &Claim) -> Result<Option<u32>, Memory>
+/// Whether a claim has a bound: one of a search that was given up.
+fn is_bounded(claim: &Claim) -> bool
+    ensures { result ≡ specs.is_bounded claim.now }
+{
+    match claim {
+        Claim::BestSoFar { bound, .. } => bound.is_some(),
+        Claim::Unsure { bound, .. } => bound.is_some(),
+        _ => false,
+    }
+}
+
+/// Whether a claim is accepted: one with a bound, or a final one in the form with multipliers of rows alone.
+fn is_accepted(instance: &Instance, claim: &Claim, scratch: &mut Scratch) -> bool
+    requires range { All IsInRange (nodes_of claim.now) }
+    requires room { HasRoom instance.now claim.now scratch.old }
+    ensures yes { result ≡ true → Accepts (problem instance.now) (Means.claim claim.now) }
+    ensures no { result ≡ false → Accepts (problem instance.now) (Means.claim claim.now) → ⊥ }
+{
+    refused_is_not_accepted();
+    problems_have_numbers();
+    check(instance, claim, scratch).is_ok()
+}
+
+/// What was checked of a claim.
+#[derive(Clone, Copy, PartialEq, Eq)]
+pub enum Judged {
+    /// It is accepted or isn't checked, or the first sum that doesn't fit is at this node.
+    Width(Option<u32>),
+    /// Whether it is accepted with its bound.
+    Bound(bool),
+}
+
+/// Checks a claim that a search has shown, where it is final or has a bound.
+pub fn judge(alloc: Global, instance: &Instance, claim: &Claim) -> Result<Judged, Memory>
     requires valid { IsValid instance.now }
     requires shown { specs.IsShownClaim instance.now claim.now }
     requires few { specs.HasFewRounds claim.now }
     ensures judged { IfOk result (specs.IsJudged instance.now claim.now) }
-    ensures few { IfOk result (λ width. IfSome width (λ n. n < 2 ^ 32)) }
+    ensures few { IfOk result specs.HasSmallNode }
 {
+    if is_bounded(claim) {
+        let mut scratch = Scratch::for_claim(alloc, instance, claim)?;
+        return Ok(Judged::Bound(is_accepted(instance, claim, &mut scratch)));
+    }
     if !is_final(claim) {
-        return Ok(None);
+        return Ok(Judged::Width(None));
     }
     let mut scratch = Scratch::for_claim(alloc, instance, claim)?;
-    Ok(judge_in(instance, claim, &mut scratch))
+    Ok(Judged::Width(judge_in(instance, claim, &mut scratch)))
 }
 
-/// The claim after its check.
-pub fn checked(claim: Claim, turns: u64, width: Option<u32>) -> Claim
-    ensures { result ≡ specs.checked claim turns width }
+/// The claim after its check. A bound that isn't accepted is left out.
+pub fn checked(claim: Claim, turns: u64, verdict: Judged) -> Claim
+    ensures { result ≡ specs.checked claim turns verdict }
 {
-    match width {
-        Some(node) => {
+    match verdict {
+        Judged::Width(Some(node)) => {
             let place = Place {
                 node,
                 turn: turns,
@@ -92,20 +129,9 @@ pub fn checked(claim: Claim, turns: u64, width: Option<u32>) -> Claim
             };
             claim.give_up(Cause::Wide(place))
         }
-        None => claim,
+        Judged::Bound(false) => claim.without_bound(),
+        Judged::Width(None) | Judged::Bound(true) => claim,
     }
-}
-
-/// Whether a claim that a search has shown is accepted in this form, with multipliers of rows alone.
-fn is_accepted(instance: &Instance, rows: &Claim, scratch: &mut Scratch) -> bool
-    requires range { All IsInRange (nodes_of rows.now) }
-    requires room { HasRoom instance.now rows.now scratch.old }
-    ensures yes { result ≡ true → Accepts (problem instance.now) (Means.claim rows.now) }
-    ensures no { result ≡ false → Accepts (problem instance.now) (Means.claim rows.now) → ⊥ }
-{
-    refused_is_not_accepted();
-    problems_have_numbers();
-    check(instance, rows, scratch).is_ok()
 }
 
 /// A finished job's report with a claim.

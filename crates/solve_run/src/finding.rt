@@ -1,16 +1,19 @@
 //! The search of a job's instance.
-ghost use Rattle.std.specs.Prelude.{◌≡◌, ℕ, ◌-◌, ◌^◌, ◌<◌, Option, IfOk};
+ghost use Rattle.std.specs.Prelude.{◌≡◌, ℕ, ◌-◌, ◌^◌, ◌<◌, Bool, Option, IfOk};
+ghost use Rattle.evidence.specs.ProvedBounds.{ProvedBound};
 ghost use Rattle.instance.specs.Program.{problem};
 ghost use Rattle.simplex_rules.specs.Looks.{answers, AgreesWith, looks_after};
 ghost use Rattle.search_rules.specs.Search.{Outcome};
-ghost use Rattle.search_rules.specs.Beginnings.{IsAnswerFrom};
+ghost use Rattle.search_rules.specs.Asked.{IsAskedAnswer};
+ghost use Rattle.branch_bound.specs.Bounds.{gap_or_none};
 ghost use Rattle.branch_bound.specs.Walks.{best as best_of};
 ghost use Rattle.branch_bound.specs.Cases.{HaveValues};
+ghost use Rattle.branch_bound.specs.Claims.{ClaimTellsWith};
 ghost use Rattle.solve_run.specs.Firsts.{IsFirstOf};
-ghost use Rattle.branch_bound.specs.Claims.{ClaimTells, is_killed};
-ghost use Rattle.solve_run.specs.Untils.{job_terms, named, FindsUntil};
+ghost use Rattle.solve_run.specs.Asking.{search_gap, job_asked};
+ghost use Rattle.solve_run.specs.Untils.{job_terms, by_time, timed_claim, named, FindsUntil};
 
-use branch_bound::{Found, Limits, Searched, first_point, search_from};
+use branch_bound::{Found, Gap, Limits, Searched, first_point, search_from};
 use certificate::{Cause, Claim};
 use fraction::Frac;
 use instance::Instance;
@@ -34,7 +37,23 @@ pub fn first_of(
     }
 }
 
-/// Searches an instance within the options' limits, but for their time, from this point on, if from one.
+/// The gap of the options, as a search takes it.
+fn gap_of(options: &Options) -> Option<Gap>
+    ensures { gap_or_none result ≡ search_gap options.now.gap }
+{
+    match options.gap {
+        None => None,
+        Some(gap) => {
+            if gap.is_percent {
+                Some(Gap::Percent(gap.number))
+            } else {
+                Some(Gap::Number(gap.number))
+            }
+        }
+    }
+}
+
+/// Searches an instance within the options' limits, but for their time, and with what they ask of it, from this point on, if from one.
 fn find<W: Watch>(
     alloc: Global,
     instance: &Instance,
@@ -43,26 +62,51 @@ fn find<W: Watch>(
     watch: &mut W,
 ) -> Searched
     requires values { HaveValues instance.now first }
+    requires first { IsFirstOf (problem instance.now) options.now (best_of first) }
     requires stops { W.stops watch.old < 2 ^ 64 - 1 }
-    ensures { (n : ℕ) × (o : Outcome) × ClaimTells result.claim o × W.came watch.old watch.new (answers n (is_killed o)) × ((stop : Option ℕ) → AgreesWith stop 0 n (is_killed o) → IsAnswerFrom (problem instance.now) (job_terms options.now stop) (best_of first) o (record { turns = result.turns; looks = looks_after 0 n (is_killed o) })) }
+    ensures { (n : ℕ) × (killed : Bool) × (o : Outcome) × (b : Option ProvedBound) × ClaimTellsWith result.claim o b × W.came watch.old watch.new (answers n killed) × ((stop : Option ℕ) → AgreesWith stop 0 n killed → IsAskedAnswer (problem instance.now) (job_terms options.now stop) (job_asked options.now) (best_of first) o b (record { turns = result.turns; looks = looks_after 0 n killed })) }
 {
     let limits = Limits {
         nodes: options.nodes,
         turns: options.turns,
         rounds: options.rounds,
+        bound: options.bound == 1,
+        gap: gap_of(options),
     };
     search_from(alloc, instance, limits, first, watch)
 }
 
-/// A claim that a search found, with the time that was over as its cause, where it was the time that stopped it.
-fn named(by_time: bool, seconds: Option<Frac>, claim: Claim) -> Claim
-    ensures { result ≡ named by_time seconds claim }
+/// The time that was over in place of a look that stopped the search, and each other cause as it is.
+fn by_time(seconds: Frac, cause: Cause) -> Cause
+    ensures { result ≡ by_time seconds cause }
 {
-    if !by_time {
+    match cause {
+        Cause::Killed => Cause::TimeLimit(seconds),
+        cause => cause,
+    }
+}
+
+/// A claim of a search that was stopped for a time: its cause is the time, and its bound stays.
+fn timed_claim(seconds: Frac, mut claim: Claim) -> Claim
+    ensures { result ≡ timed_claim seconds claim }
+{
+    match &mut claim {
+        Claim::BestSoFar { cause, .. } => *cause = by_time(seconds, *cause),
+        Claim::Unsure { cause, .. } => *cause = by_time(seconds, *cause),
+        _ => {}
+    }
+    claim
+}
+
+/// A claim that a search found, with the time that was over as its cause, where it was the time that stopped it.
+fn named(was_time: bool, seconds: Option<Frac>, claim: Claim) -> Claim
+    ensures { result ≡ named was_time seconds claim }
+{
+    if !was_time {
         return claim;
     }
     match seconds {
-        Some(seconds) => claim.give_up(Cause::TimeLimit(seconds)),
+        Some(seconds) => timed_claim(seconds, claim),
         None => claim,
     }
 }
@@ -78,6 +122,7 @@ pub fn find_until<W: Watch, T: Clock>(
     watch: &mut W,
 ) -> Searched
     requires values { HaveValues instance.now first }
+    requires first { IsFirstOf (problem instance.now) options.now (best_of first) }
     requires stops { W.stops watch.old < 2 ^ 64 - 1 }
     ensures { FindsUntil instance.now options.now (best_of first) (W.came watch.old watch.new) result.claim result.turns }
 {
@@ -87,14 +132,14 @@ pub fn find_until<W: Watch, T: Clock>(
         times: 0,
     };
     let Searched { claim, turns } = find(alloc, instance, options, first, &mut until);
-    let by_time = until.times > 0;
+    let was_time = until.times > 0;
     let Until {
         watch: _watch,
         deadline: _,
         times: _,
     } = until;
     Searched {
-        claim: named(by_time, options.seconds, claim),
+        claim: named(was_time, options.seconds, claim),
         turns,
     }
 }

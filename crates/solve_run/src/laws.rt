@@ -1,6 +1,7 @@
 //! What is known of all answers to jobs.
-ghost use Rattle.std.specs.Prelude.{◌≡◌, ◌⊎◌, ◌≤◌, ℕ, Bool, false, Option, None, Some, List, length};
-ghost use Rattle.evidence.specs.Claim.{IsTrueOf};
+ghost use Rattle.std.specs.Prelude.{◌≡◌, ◌⊎◌, ◌≤◌, ℕ, Bool, true, false, Option, None, Some, List, length};
+ghost use Rattle.evidence.specs.ProvedBounds.{ProvedBound, IsProvedBound};
+ghost use Rattle.evidence.specs.Claim.{Accepts, IsTrueOf};
 ghost use Rattle.instance.specs.Parts.{Parts};
 ghost use Rattle.document_tags.specs.Texts.{document_limit};
 ghost use Rattle.instance.specs.Program.{problem};
@@ -8,7 +9,9 @@ ghost use Rattle.certificate.specs.Meanings as Means;
 ghost use Rattle.certificate.specs.declared.claims.Claim.{Claim};
 ghost use Rattle.simplex_rules.specs.Ends.{Terms, Clock};
 ghost use Rattle.search_rules.specs.Search.{Found, Outcome};
-ghost use Rattle.branch_bound.specs.Claims.{ClaimTells};
+ghost use Rattle.branch_bound.specs.Claims.{ClaimTellsWith, cause_of};
+ghost use Rattle.certificate.specs.declared.causes.Cause.TheVariants.{Gap};
+ghost use Rattle.osol_grammar.specs.declared.gaps.Gap as kinds_gap;
 ghost use Rattle.osol_grammar.specs.declared.options.Options as kinds;
 ghost use Rattle.osol_grammar.specs.Meaning.{IsOptionsText};
 ghost use Rattle.osil_grammar.specs.Reading.{IsInstanceText};
@@ -19,15 +22,18 @@ ghost use Rattle.document_checker.specs.declared.documents.Kind.{Kind};
 ghost use Rattle.cert_checker.specs.declared.refused.Refused.{Refused};
 ghost use Rattle.cert_checker.specs.Refusals.{IsRefusedFor};
 ghost use Rattle.document_checker.specs.Documents.{kind, IsAcceptedText};
-ghost use Rattle.solve_run.specs.Judging.{IsFinal, IsWideAt};
+ghost use Rattle.solve_run.specs.Judging.{IsFinal, IsWideAt, is_bounded};
 ghost use Rattle.solve_run.specs.Closings.{IsFormed, IsShort, claim_report, noted};
 ghost use Rattle.rational.specs.Ratio.{Ratio};
-ghost use Rattle.search_rules.specs.Beginnings.{IsFirstBest, SearchFrom};
+ghost use Rattle.search_rules.specs.Beginnings.{IsFirstBest};
+ghost use Rattle.search_rules.specs.Bounds.{claimed};
+ghost use Rattle.search_rules.specs.Asked.{Asked, AskedSearch};
 ghost use Rattle.solve_run.specs.Firsts.{IsFirstOf, IsNoteFrom};
 ghost use Rattle.solve_run.specs.JobAnswers.{RefusesOptions, RefusesInstance, TakesBeside, SolvedBeside, GaveUpBeside, AnswersBeside, TellsReport, Right};
 ghost use Rattle.solve_run.specs.Grounds.{OptionsAreOne, SearchesAreOne, HandedAreOne};
 ghost use Rattle.fraction.specs.declared.frac.Frac.{Frac};
-ghost use Rattle.solve_run.specs.Untils.{job_terms};
+ghost use Rattle.solve_run.specs.Asking.{job_asked, GapHolds};
+ghost use Rattle.solve_run.specs.Untils.{job_terms, renamed};
 
 use cert_checker::{
     claims_have_one_refusal, refused_is_not_accepted, shown_is_refused_for_width_alone,
@@ -47,7 +53,9 @@ use osol_grammar::{
 use osrl_grammar::{
     document_has_one_report, named_texts_are_reports, read_claims_fit, written_texts_are_reports,
 };
-use search_rules::{first_points_are_one, searches_from_points_are_shown};
+use search_rules::{
+    asked_searches_are_shown, first_points_are_one, near_points_are_within_the_gap,
+};
 
 /// The laws of options' texts.
 fn options_are_one()
@@ -65,7 +73,7 @@ fn searches_are_one()
 {
     problems_have_numbers();
     first_points_are_one();
-    searches_from_points_are_shown();
+    asked_searches_are_shown();
     equal_fractions();
     claims_have_one_refusal();
     refused_is_not_accepted();
@@ -114,24 +122,37 @@ pub fn answers_are_one()
 /// Law: a claim that a search finds, that a point is optimal, that none is feasible or that points have no best value, is refused
 /// by the checker for width alone.
 pub fn found_claims_are_refused_for_width_alone()
-    ensures { (p : Parts) (t : Terms) (gs : Option (List (Option Ratio))) (start : Option Found) (o : Outcome) (found : Claim) (c : Clock) (r : Refused) → IsFirstBest (problem p) gs start → SearchFrom (problem p) t start o c → ClaimTells found o → IsFinal found → IsRefusedFor (problem p) (Means.claim found) r → (n : ℕ) × IsWideAt r n }
+    ensures { (p : Parts) (t : Terms) (a : Asked) (gs : Option (List (Option Ratio))) (start : Option Found) (o : Outcome) (b : Option ProvedBound) (found : Claim) (c : Clock) (r : Refused) → IsFirstBest (problem p) gs start → AskedSearch (problem p) t a start o b c → ClaimTellsWith found o b → IsFinal found → IsRefusedFor (problem p) (Means.claim found) r → (n : ℕ) × IsWideAt r n }
 {
     problems_have_numbers();
-    searches_from_points_are_shown();
+    asked_searches_are_shown();
     shown_is_refused_for_width_alone();
 }
 
-/// Law: where the search of a job that isn't asked to stop ends with a claim that is refused for no width, and whose document
-/// isn't too long in the form that is asked for, the job's answer tells it so, with the message about a result that is handed in and about first values, which aren't taken, if there are such;
+/// Law: where the search of a job that isn't asked to stop ends with a claim that is refused for no width, and is accepted with its
+/// bound, if it has one, and whose document isn't too long in the form that is asked for, the job's answer tells it so, with the message about a result that is handed in and about first values, which aren't taken, if there are such;
 /// or such a result is taken, or memory is wanting, or a time that its options say was over at a look. Such is each claim that a point is optimal, that none is feasible or that points
 /// have no best value, and that the checker accepts.
 pub fn ended_searches_are_told()
-    ensures { (beside : Option (List ℕ)) (osil osol : List ℕ) (o : kinds.Options) (p : Parts) (start : Option Found) (oc : Outcome) (found formed : Claim) (c : Clock) (r : Report) → IsOptionsText osol o → IsInstanceText osil p → IsFirstOf (problem p) o start → SearchFrom (problem p) (job_terms o None) start oc c → ClaimTells found oc → ((q : Refused) (n : ℕ) → IsRefusedFor (problem p) (Means.claim found) q → IsWideAt q n → ⊥) → IsFormed p o.job o.form found formed → IsShort o.job formed → AnswersBeside beside osil osol false r → ((note : Option (List ℕ)) × IsNoteFrom beside osol o p start note × (r ≡ noted note (claim_report o.job formed))) ⊎ TakesBeside beside osil osol r ⊎ GaveUpBeside beside osil osol r ⊎ ((s : Frac) × (looks : ℕ) × (o.seconds ≡ Some s) × SolvedBeside beside osil osol (Some looks) (Some s) looks r) }
+    ensures { (beside : Option (List ℕ)) (osil osol : List ℕ) (o : kinds.Options) (p : Parts) (start : Option Found) (oc : Outcome) (b : Option ProvedBound) (found formed : Claim) (c : Clock) (r : Report) → IsOptionsText osol o → IsInstanceText osil p → IsFirstOf (problem p) o start → AskedSearch (problem p) (job_terms o None) (job_asked o) start oc b c → ClaimTellsWith found oc b → ((q : Refused) (n : ℕ) → IsRefusedFor (problem p) (Means.claim found) q → IsWideAt q n → ⊥) → (is_bounded found ≡ true → Accepts (problem p) (Means.claim found)) → IsFormed p o.job o.form found formed → IsShort o.job formed → AnswersBeside beside osil osol false r → ((note : Option (List ℕ)) × IsNoteFrom beside osol o p start note × (r ≡ noted note (claim_report o.job formed))) ⊎ TakesBeside beside osil osol r ⊎ GaveUpBeside beside osil osol r ⊎ ((s : Frac) × (looks : ℕ) × (o.seconds ≡ Some s) × SolvedBeside beside osil osol (Some looks) (Some s) looks r) }
 {
     options_are_one();
     instances_are_one();
     searches_are_one();
     handed_are_one();
+}
+
+/// Law: a search that is given up and has a bound tells it, but where a sum of its nodes doesn't fit or the document would be too long
+/// with it; a search of which no bound is asked has none. One is given up for a gap only where the options say one, and then no feasible
+/// point is better than its best one by more than that allows.
+pub fn bounds_are_told()
+    ensures told { (beside : Option (List ℕ)) (osil osol : List ℕ) (stop : Option ℕ) (timed : Option Frac) (looks : ℕ) (r : Report) (s : SolvedBeside beside osil osol stop timed looks r) (b : ProvedBound) → s.bound ≡ Some b → IsProvedBound (problem s.given.parts) b → IsShort s.given.options.job s.found → Means.claim s.told ≡ claimed (renamed timed s.outcome) (Some b) }
+    ensures unasked { (beside : Option (List ℕ)) (osil osol : List ℕ) (stop : Option ℕ) (timed : Option Frac) (looks : ℕ) (r : Report) (s : SolvedBeside beside osil osol stop timed looks r) → (s.given.options.bound ≡ 1 → ⊥) → s.bound ≡ None }
+    ensures gap { (beside : Option (List ℕ)) (osil osol : List ℕ) (stop : Option ℕ) (timed : Option Frac) (looks : ℕ) (r : Report) (s : SolvedBeside beside osil osol stop timed looks r) → cause_of s.outcome ≡ Some Gap → (g : kinds_gap.Gap) × (s.given.options.gap ≡ Some g) × GapHolds (problem s.given.parts) g s.ends.last s.ends.numbers }
+{
+    problems_have_numbers();
+    asked_searches_are_shown();
+    near_points_are_within_the_gap();
 }
 
 /// Law: whatever an answer says, be it a claim, that nothing is known, or why the options or the instance were refused, its document
@@ -145,7 +166,7 @@ pub fn result_documents_are_read_back()
     named_texts_are_reports();
     options_have_names();
     problems_have_numbers();
-    searches_from_points_are_shown();
+    asked_searches_are_shown();
     read_claims_fit();
     written_texts_are_reports();
 }
@@ -160,7 +181,7 @@ pub fn claims_are_accepted()
     result_documents_are_read_back();
     options_have_names();
     problems_have_numbers();
-    searches_from_points_are_shown();
+    asked_searches_are_shown();
     read_claims_fit();
     written_texts_are_reports();
     accepted_documents_are_true();

@@ -5,7 +5,8 @@
 //! point is optimal, that none is feasible, or that points have no best value is checked by `cert_checker` before it is told; where
 //! the options ask for the form `rows`, it is told with multipliers of rows alone, if the checker accepts it so too.
 //! Where a sum of that check doesn't fit 128 bits, or where the document would be longer than a document may be, only the claim's
-//! point is told, with that cause. Where the options hand in a result whose claim the checker accepts of the instance, that claim is
+//! point is told, with that cause. Where the options ask for a bound, a search that is given up has one; it is checked too, and is
+//! left out where a sum doesn't fit or the document would be too long with it. Where the options hand in a result whose claim the checker accepts of the instance, that claim is
 //! told, and nothing is searched. [`answer_job`] does the same, and its [`Document`] says too whether the report is of an error.
 //!
 //! `Right` says which documents answer a job: for one pair of texts there is one, but for want of memory and for the look that
@@ -26,7 +27,8 @@ mod telling;
 
 pub use document::Document;
 pub use laws::{
-    answers_are_one, answers_exclude_each_other, claims_are_accepted, ended_searches_are_told,
-    found_claims_are_refused_for_width_alone, result_documents_are_read_back,
+    answers_are_one, answers_exclude_each_other, bounds_are_told, claims_are_accepted,
+    ended_searches_are_told, found_claims_are_refused_for_width_alone,
+    result_documents_are_read_back,
 };
 pub use running::{answer_job, run_job};

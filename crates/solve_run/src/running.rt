@@ -23,7 +23,7 @@ use os_io::{Memory, Text, Watch};
 use osil_grammar::OsilFault;
 use osol_grammar::{Options, OsolFault, options_have_names, read_options_come_back};
 use osrl_writing::NameLists;
-use search_rules::searches_from_points_are_shown;
+use search_rules::asked_searches_are_shown;
 use std::alloc::Global;
 use std::time::Clock;
 
@@ -57,7 +57,7 @@ fn run_from<W: Watch, T: Clock>(
     let Searched { claim, turns } = find_until(alloc, instance, &options, first, clock, watch);
     options_have_names();
     problems_have_numbers();
-    searches_from_points_are_shown();
+    asked_searches_are_shown();
     let form = options.form;
     found_document(
         alloc,

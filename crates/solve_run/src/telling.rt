@@ -6,7 +6,7 @@ ghost use Rattle.certificate.specs.declared.claims.Claim.{Claim as OneClaim};
 ghost use Rattle.osrl_grammar.specs.Back.{CauseComesBack};
 ghost use Rattle.osrl_writing.specs.declared.report.Report.{Report as TheReport};
 ghost use Rattle.osrl_writing.specs.Writing.{report_text};
-ghost use Rattle.certificate.specs.GivenUp.{given_up};
+ghost use Rattle.certificate.specs.GivenUp.{given_up, unbounded};
 ghost use Rattle.solve_run.specs.Judging.{IsShownClaim, HasFewRounds};
 ghost use Rattle.solve_run.specs.Closings as specs;
 ghost use Rattle.solve_run.specs.Runs.{IsClaimTold, IsTextOf, IsNamedTextOf, IsNotedTextOf, IsFittedDocument, IsMemoryDocument, IsErrorDocument, HasCauses};
@@ -94,6 +94,16 @@ fn shortened(mut report: Report) -> Report
     report
 }
 
+/// The report whose claim has no bound.
+fn without_bound(mut report: Report) -> Report
+    ensures { (job : Option (List ℕ)) (c : OneClaim) → report ≡ specs.claim_report job c → result ≡ specs.claim_report job (unbounded c) }
+{
+    if let Some(claim) = report.claim.take() {
+        report.claim = Some(claim.without_bound());
+    }
+    report
+}
+
 /// The report without its message where its document, which has so many bytes, is longer than one may be.
 fn unless_long(mut report: Report, bytes: usize) -> Report
     ensures { (m : List ℕ) (plain : TheReport) → report ≡ specs.with_message m plain → plain.message ≡ None → bytes ≡ length (report_text report) → result ≡ specs.noted (Some m) plain }
@@ -125,8 +135,29 @@ fn noted_or_memory(
     named_or_memory(alloc, names, unless_long(report, text.len()))
 }
 
-/// The document of a report with a claim, with these names and with this message, if there is one. The claim is given up where
-/// its document without both would be longer than one may be.
+/// The document of a report with a claim whose own document is too long, with these names and with this message, if there is one. The
+/// claim is told without its bound, or is given up where its document would be too long so too.
+fn lessened(
+    alloc: Global,
+    names: &NameLists,
+    note: Option<Text>,
+    report: Report,
+) -> Result<Document, Memory>
+    requires { (job : Option (List ℕ)) × (c : OneClaim) × (report ≡ specs.claim_report job c) }
+    ensures { (job : Option (List ℕ)) (c : OneClaim) → report ≡ specs.claim_report job c → (specs.IsShort job c → ⊥) → IfOk result (IsFittedDocument names.now note job c) }
+{
+    let mut report = without_bound(report);
+    let Ok(text) = encode(alloc, &report) else {
+        return memory_document(alloc, report.job.take());
+    };
+    if text.len() as u64 > MOST_BYTES {
+        return noted_or_memory(alloc, names, note, shortened(report));
+    }
+    noted_or_memory(alloc, names, note, report)
+}
+
+/// The document of a report with a claim, with these names and with this message, if there is one. Where its document without both
+/// would be longer than one may be, the claim is told without its bound, or given up.
 pub fn fitted(
     alloc: Global,
     names: &NameLists,
@@ -141,7 +172,7 @@ pub fn fitted(
         return memory_document(alloc, report.job.take());
     };
     if text.len() as u64 > MOST_BYTES {
-        return noted_or_memory(alloc, names, note, shortened(report));
+        return lessened(alloc, names, note, report);
     }
     if names.is_none() && note.is_none() {
         return Ok(Document {
@@ -194,10 +225,10 @@ pub fn found_document(
     ensures { IfOk result (IsClaimTold instance.now names.now note job form turns found) }
 {
     read_causes(&found);
-    let Ok(width) = judge(alloc, instance, &found) else {
+    let Ok(verdict) = judge(alloc, instance, &found) else {
         return memory_document(alloc, job);
     };
-    match formed(alloc, instance, &job, checked(found, turns, width), form) {
+    match formed(alloc, instance, &job, checked(found, turns, verdict), form) {
         Ok(claim) => fitted(alloc, names, note, job, claim),
         Err(_) => memory_document(alloc, job),
     }

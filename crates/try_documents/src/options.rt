@@ -5,7 +5,7 @@ use decimal_text::write_ratio;
 use fraction::Frac;
 use itoa::Buffer;
 use os_io::{Memory, Text};
-use osol_grammar::{Options, OsolFault, decode, encode, refusal_text};
+use osol_grammar::{Gap, Options, OsolFault, decode, encode, refusal_text};
 use std::alloc::Global;
 
 /// Options documents.
@@ -16,6 +16,16 @@ pub(crate) struct Osol;
 fn put_amount(text: &mut Text, word: &[u8], amount: u32) -> Result<(), Memory> {
     text.extend(word)?;
     text.extend(Buffer::new().format(amount).as_bytes())
+}
+
+/// Appends a gap.
+fn put_gap(text: &mut Text, gap: Gap) -> Result<(), Memory> {
+    text.extend(b" gap ")?;
+    write_ratio(gap.number, text)?;
+    if gap.is_percent {
+        text.extend(b"%")?;
+    }
+    Ok(())
 }
 
 /// Appends first values, `-` for each that isn't said.
@@ -55,6 +65,12 @@ impl Documents for Osol {
         }
         if options.form > 0 {
             put_amount(&mut text, b" form ", options.form)?;
+        }
+        if options.bound > 0 {
+            put_amount(&mut text, b" bound ", options.bound)?;
+        }
+        if let Some(gap) = options.gap {
+            put_gap(&mut text, gap)?;
         }
         if let Some(seconds) = options.seconds {
             text.extend(b" seconds ")?;

@@ -1,4 +1,4 @@
-use Rattle.std.proofs.Common.{◌≡◌, ◌∙◌, map}
+use Rattle.std.proofs.Common.{◌≡◌, ◌∙◌, map, arith}
 use Rattle.std.specs.String.{string_bytes}
 use Rattle.os_app.specs.ProgramRuns.{stores_run}
 use Rattle.os_app.specs.Runs.{Runs}
@@ -34,3 +34,6 @@ returns-in-Err-clause-unlinked g c = λ none. c.serve_for.ensures.unlinked _ c.i
 
 pub returns-in-Err-clause-unkept : goal.returns-in-Err-clause-unkept
 returns-in-Err-clause-unkept g c = λ none. c.serve_for.ensures.unkept _ c.in-Err.ensures.waits none ∙ c.in-Err.ensures.untouched.1
+
+pub returns-in-Err-clause-usage : goal.returns-in-Err-clause-usage
+returns-in-Err-clause-usage g c = λ few. absurd (omega (arith, few, c.in-Err.ensures.has_words))

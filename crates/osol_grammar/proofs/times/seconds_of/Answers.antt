@@ -1,4 +1,4 @@
-use Rattle.std.proofs.Common.{◌≡◌, ◌∙◌, ℕ, pos, ap}
+use Rattle.std.proofs.Common.{◌∙◌, ℕ, pos, ap}
 use Rattle.rational.specs.Ratio.{whole}
 use Rattle.osol_grammar.proofs.SaidTimes.{too_wide, no_time, says_time}
 use Rattle.osol_grammar.proofs.times.seconds_of.Goals as goal

@@ -1,4 +1,4 @@
-use Rattle.std.proofs.Common.{rules, ◌≡◌, ◌<◌, ◌≤◌, None, Some, List, [], ◌∷◌, ◌++◌, length, set, ◌∙◌}
+use Rattle.std.proofs.Common.{rules, ◌≡◌, ◌<◌, ◌≤◌, None, Some, [], ◌∷◌, ◌++◌, length, set, ◌∙◌}
 use Rattle.osol_grammar.proofs.SaidValues.{padded, set_value}
 use Rattle.osol_grammar.proofs.values.with_value.Goals as goal
 

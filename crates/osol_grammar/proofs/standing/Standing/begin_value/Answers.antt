@@ -1,4 +1,4 @@
-use Rattle.std.proofs.Common.{◌≡◌, ℕ, IsTrue, false, ◌∙◌, ap, subst}
+use Rattle.std.proofs.Common.{ℕ, IsTrue, false, ◌∙◌, ap, subst}
 use Rattle.osol_grammar.specs.declared.options.Options.{Options}
 use Rattle.osol_grammar.specs.declared.place.Place.TheVariants.{Var}
 use Rattle.osol_grammar.specs.declared.standing.Standing.{Standing as State}
