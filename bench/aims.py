@@ -26,9 +26,9 @@ MOST_ENDED = 2  # programs of a kind that are ended so before the kind's largest
 WORKERS = 4
 MOST_PRESSURE = 10.0  # percent of the last minute in which something waited for a processor, above which the machine has other work
 KINDS = (
-    (programs.fixed_charge, ((14, 20), (16, 22), (16, 24), (17, 24), (18, 25), (19, 26))),
+    (programs.fixed_charge, ((16, 24), (18, 25), (19, 26), (20, 28))),
     (programs.general_assignment, ((6, 40), (8, 40))),
-    (programs.job_shop, ((5, 6), (5, 8), (5, 9), (6, 4), (6, 5))),
+    (programs.job_shop, ((5, 8), (5, 10), (5, 12), (7, 3), (6, 4))),
 )
 TAKE_OVER = f"import takeover; takeover.take_over({TAKEOVERS})"
 

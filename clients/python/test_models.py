@@ -324,7 +324,9 @@ class Programs(unittest.TestCase):
         ):  # fmt: skip
             found = Program().solve(model, **options)
             self.assertEqual((found.status, found.cause, found.objective, found.bound), wanted, options)
-            self.assertRegex(found.check(), "^accepted ")
+            is_bounded = found.cause is not None and found.bound is not None
+            line = f"accepted {found.status}" + f" within {found.bound}" * is_bounded if is_bounded or found.status != "unsure" else "refused NoClaim"
+            self.assertEqual(found.check(), line, options)
         third = most_of(Fraction(1, 3))  # sent three times as large
         for gap, wanted in ((Fraction(1, 6), "gap"), (Fraction(4, 25), None)):
             self.assertEqual(Program().solve(third, gap=gap).cause, wanted)
