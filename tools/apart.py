@@ -493,7 +493,8 @@ class Division:
             del self.open[part.name]
         if any(not self.is_settled(part) for part in self.whole):
             return False
-        return not any(seat.task and not self.is_settled(seat.task.part) for seat in self.seats)
+        tasks = [seat.task for seat in self.seats if seat.task]  # a part that is divided is over with its cases, whoever searches it still
+        return not any(not task.part.children and not self.is_settled(task.part) for task in tasks)
 
     def stop(self):
         """Stops what runs, and takes what still comes of it."""

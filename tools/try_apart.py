@@ -139,7 +139,8 @@ def rules(_):
     is_so("a bound that a search of a divided part tells is taken", it.root.bound == Fraction(-3, 2) and list(it.open) == ["r0", "r1"] and it.root.children[0].key() == Fraction(-3, 2))
     for child in it.root.children:
         it.close(child, (Fraction(-1),), (("bound",),))
-    is_so("and the part is over with its cases", it.is_over())
+    it.seats[0].give(apart.Task("search", it.root, None))
+    is_so("and the part is over with its cases, whoever searches it still", it.is_over())
     searches(two)
 
 
