@@ -100,4 +100,12 @@ impl Files for MemFiles {
             }
         }
     }
+
+    // To see a file isn't a call that is counted, and never fails.
+    fn is_there(&self, name: &str) -> bool {
+        match find(&self.files, name) {
+            Some(_) => true,
+            None => false,
+        }
+    }
 }

@@ -5,7 +5,7 @@ ghost use Rattle.memory_ends.specs.Looks.{CameInMemory};
 ghost use Rattle.memory_ends.specs.Laws.{came_without, came_on};
 
 use crate::parts::Script;
-use os_io::{Memory, Watch};
+use os_io::{Memory, Standing, Watch};
 use std::alloc::Global;
 
 /// A watch in memory. It counts its looks from 1, and those of given numbers say to stop.
@@ -54,6 +54,12 @@ impl Watch for MemWatch {
         }
         stops
     }
+
+    fn asks(&mut self) -> bool {
+        false
+    }
+
+    fn hear(&mut self, _standing: Standing) {}
 
     ghost stays = { λ w. came_without w };
 

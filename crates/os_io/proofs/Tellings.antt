@@ -1,5 +1,5 @@
 -- What is told of one call after another.
-use Rattle.std.proofs.Common.{Option, Some, None, ap}
+use Rattle.std.proofs.Common.{Option, Some, None}
 use Rattle.os_io.specs.Streams.{BothTold}
 
 -- what stood before stands

@@ -22,6 +22,10 @@ ReadsFirst most (Holds bytes) read = read ≡ take most bytes
 ReadsFirst most NoFile read = ⊥
 ReadsFirst most Untold read = ⊤
 
+-- there may be such a file: it isn't told that there is none
+abbrev pub MayBeThere : Held → Type 0
+MayBeThere held = held ≡ NoFile → ⊥
+
 -- a file that wasn't read is counted, and nothing else is
 abbrev pub CountsFiles : {X : Type 0} → Result X FileFault → ℕ → ℕ → Type 0
 CountsFiles (Ok x) before after = after ≡ before

@@ -1,5 +1,6 @@
 pub mod Bodies
 pub mod Files
+pub mod Halts
 pub mod Laws
 pub mod Limits
 pub mod Links

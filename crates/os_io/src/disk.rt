@@ -60,4 +60,11 @@ impl<R: fs::Files + Drop> Files for DiskFiles<R> {
             }
         }
     }
+
+    fn is_there(&self, name: &str) -> bool {
+        match fs::exists(&self.system, name) {
+            Ok(there) => there,
+            Err(_) => false,
+        }
+    }
 }

@@ -1,6 +1,6 @@
 //! Files that are read by name.
-ghost use Rattle.std.specs.Prelude.{◌≡◌, ℕ, List, IfOk};
-ghost use Rattle.os_io.specs.Files.{CountsFiles, Held, ReadsFirst};
+ghost use Rattle.std.specs.Prelude.{◌≡◌, ℕ, List, IfOk, true};
+ghost use Rattle.os_io.specs.Files.{CountsFiles, Held, MayBeThere, ReadsFirst};
 
 use crate::text::Text;
 use std::alloc::Global;
@@ -30,4 +30,9 @@ pub trait Files {
         ensures ok { IfOk result (ReadsFirst most (held self.old name.now)) }
         ensures held { held self.new ≡ held self.old }
         ensures counted { CountsFiles result (faults self.old) (faults self.new) };
+
+    /// Whether something with this name is seen now. Nothing is read of it, and where that can't be told, the answer is no and no fault.
+    /// Where it is told that there is no file, none is seen.
+    fn is_there(&self, name: &str) -> bool
+        ensures { result ≡ true → MayBeThere (held self.now name.now) };
 }

@@ -1,8 +1,8 @@
 //! The outside: bytes that come and go, files, listeners and looks at whether to stop, each with its count.
 //!
 //! Bytes come on a [`Source`], go on a [`Sink`], and do both on a [`Link`]. [`Files`] are read by name, a [`Listener`] gives
-//! links, and a [`Watch`] is asked whether to stop. A [`Text`] is a list of bytes that grows, and [`Memory`] the error where
-//! there was none.
+//! links, and a [`Watch`] is asked whether to stop: [`Never`] says no, and [`Halt`] says yes once there is a file. A [`Text`] is
+//! a list of bytes that grows, and [`Memory`] the error where there was none.
 //!
 //! What an object tells of its bytes is part of each contract: a read says which bytes it took, a write which it
 //! added, a flush that all that was written was handed on. A call answers [`Failed`] only where the object's count of
@@ -23,6 +23,7 @@ mod close;
 mod disk;
 mod faults;
 mod files;
+mod halt;
 mod limits;
 mod listener;
 mod mem_body;
@@ -37,6 +38,7 @@ pub use close::Close;
 pub use disk::DiskFiles;
 pub use faults::count_fault;
 pub use files::{FileFault, Files};
+pub use halt::Halt;
 pub use limits::{MOST_BYTES, MOST_REPLY};
 pub use listener::Listener;
 pub use mem_body::MemBody;
@@ -44,4 +46,4 @@ pub use never::Never;
 pub use standard::{StdSink, StdSource};
 pub use streams::{Failed, Link, Sink, Source, Stream, send_all, write_all};
 pub use text::{Memory, Text};
-pub use watch::Watch;
+pub use watch::{Standing, Watch};

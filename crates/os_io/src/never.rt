@@ -3,7 +3,7 @@ ghost use Rattle.std.specs.Prelude.{◌≡◌, refl};
 ghost use Rattle.os_io.specs.Looks.{stops_of};
 ghost use Rattle.os_io.specs.Laws.{no_stop, no_stops};
 
-use crate::watch::Watch;
+use crate::watch::{Standing, Watch};
 
 /// A watch that never says to stop.
 #[derive(Clone, Copy, Drop)]
@@ -17,6 +17,12 @@ impl Watch for Never {
     fn look(&mut self) -> bool {
         false
     }
+
+    fn asks(&mut self) -> bool {
+        false
+    }
+
+    fn hear(&mut self, _standing: Standing) {}
 
     ghost stays = { λ _. refl };
 

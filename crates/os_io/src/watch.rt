@@ -2,6 +2,14 @@
 ghost use Rattle.std.specs.Prelude.{◌≡◌, ◌∷◌, [], ◌++◌, ℕ, ◌+◌, ◌-◌, ◌^◌, ◌<◌, Bool, true, false, List};
 ghost use Rattle.os_io.specs.Looks.{stops_of};
 
+/// How a search stands: the value of its best point, if it has one, and the bound of all points, if one is at hand; each as a whole number
+/// over one.
+#[derive(Clone, Copy)]
+pub struct Standing {
+    pub best: Option<(i128, i128)>,
+    pub bound: Option<(i128, i128)>,
+}
+
 /// Is asked now and then whether to stop.
 pub trait Watch {
     /// How often it said to stop, at most 2^64 - 1.
@@ -16,6 +24,16 @@ pub trait Watch {
         ensures came { came self.old self.new (result ∷ []) }
         ensures went_on { result ≡ false → stops self.new ≡ stops self.old }
         ensures stopped { result ≡ true → stops self.new ≡ stops self.old + 1 };
+
+    /// Whether it wants to be told how the search stands. That is no look.
+    fn asks(&mut self) -> bool
+        ensures came { came self.old self.new [] }
+        ensures stops { stops self.new ≡ stops self.old };
+
+    /// Is told how the search stands. That is no look either.
+    fn hear(&mut self, standing: Standing)
+        ensures came { came self.old self.new [] }
+        ensures stops { stops self.new ≡ stops self.old };
 
     /// Law: without a look it stays.
     ghost stays: { (watch : Self) → came watch watch [] };

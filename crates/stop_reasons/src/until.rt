@@ -2,7 +2,7 @@
 ghost use Rattle.std.specs.Prelude.{◌≡◌, None, false};
 
 use fraction::Frac;
-use os_io::Watch;
+use os_io::{Standing, Watch};
 use std::cmp::Ordering;
 use std::time::{Clock, Duration, Instant};
 
@@ -65,6 +65,14 @@ impl<'c, T: Clock> Deadline<'c, T> {
         }
     }
 
+    /// Begins anew, now.
+    pub fn begin_again(&mut self)
+        ensures { self.new.limit ≡ self.old.limit }
+    {
+        let now = Instant::now(self.clock);
+        self.begun = now.ok();
+    }
+
     /// Whether it is over. The clock is read only where there is a limit.
     pub fn is_over(&mut self) -> bool
         ensures limit { self.new.limit ≡ self.old.limit }
@@ -105,6 +113,14 @@ impl<'a, 'c, W: Watch, T: Clock> Watch for Until<'a, 'c, W, T> {
             self.times += 1;
         }
         over
+    }
+
+    fn asks(&mut self) -> bool {
+        self.watch.asks()
+    }
+
+    fn hear(&mut self, standing: Standing) {
+        self.watch.hear(standing)
     }
 
     ghost stays = { λ u. (refl, refl, until_without (W.came u.watch.now u.watch.now) u.deadline.limit u.times (W.stays u.watch.now)) };
