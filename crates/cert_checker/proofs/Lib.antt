@@ -22,8 +22,8 @@ pub mod RoundRows
 pub mod GridSteps
 pub mod RowLeaves
 pub mod Lefts
-pub mod LeftSums
 pub mod Rounding
+pub mod RoundedForms
 pub mod RowRoundRefusals
 pub mod EachCert
 pub mod Values

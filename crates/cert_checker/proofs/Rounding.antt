@@ -23,7 +23,7 @@ use Rattle.evidence.specs.RowRounds.{IsRowsRound, numbers_of}
 use Rattle.evidence.proofs.Numbers.{◌≈◌, ◌≲◌, ◌⋖◌, ≈-sym, ≲-from, ≲-trans, ≲-⋖}
 use Rattle.evidence.proofs.WholeSums.{whole-number}
 use Rattle.evidence.proofs.Columns.{by_bool, none-number}
-use Rattle.evidence.proofs.Completed.{form-of_numbers, left-number}
+use Rattle.evidence.proofs.Completed.{form-of_numbers}
 use Rattle.evidence.proofs.UniqueRows.{one_ceiling}
 use Rattle.evidence.proofs.RowRounds.{one_floor, row_numbers}
 use Rattle.certificate.specs.declared.lists.Mult.{Mult}
@@ -38,7 +38,7 @@ use Rattle.cert_checker.specs.RowRounds.{floor, ceiling, toward, rounded, aimed,
 use Rattle.cert_checker.proofs.ColumnSums.{form-number}
 use Rattle.cert_checker.proofs.Widths.{cut-instance}
 use Rattle.cert_checker.proofs.RoundRows.{ceiling_same, numerator_at}
-use Rattle.cert_checker.proofs.RowLeaves.{to_each, from_each, first_row, fill_each, fill_parts, all_same}
+use Rattle.cert_checker.proofs.RowLeaves.{parts_left, legal_left, all_same}
 
 floor_at : (n : ℤ) (d : ℕ) → 0 < d → IsFloor (record { num = n; den = d }) (int_div_euclid n (pos d))
 floor_at (pos n) d p =
@@ -110,17 +110,6 @@ filled_same I s t ms (suc n) rest e =
     ap (λ (x : Ratio). filled I s ms n (put_before (record { column = n; by = sum x (negative (form I ms n)) }) rest)) (e n (omega arith))
     ∙ filled_same I s t ms n (put_before (record { column = n; by = left_at I t ms n }) rest) (λ j h. e j (omega arith))
 
--- completed multipliers that are legal have legal parts
-pub parts_of : (I : Instance) (t : ℕ → Ratio) (ms : List Multiplier) → AreLegal I (completed I t ms) → AreLegal I ms × ((j : ℕ) → j < width I → HasOwnEnd I t ms j)
-parts_of I t ms legal =
-    let parts = fill_parts I t ms (width I) ms (to_each I (completed I t ms) 0 legal (λ h. omega arith)) in
-    (from_each I ms 0 parts.1, parts.0)
-
-pub all_legal : (I : Instance) → IsInstance I → (t : ℕ → Ratio) → ((j : ℕ) → IsNumber (t j)) → (ms : List Multiplier) → RowsStand I t ms → AreLegal I (completed I t ms)
-all_legal I good t pt ms s =
-    let l = s.legal in
-    from_each I (completed I t ms) 0 (fill_each I t ms (width I) ms (left-number I good t pt ms l.numbers) (omega arith) (λ j h. (s.lefts j h).finite) (to_each I ms (width I) l (first_row I ms s.rows)))
-
 -- what a round of rows says of its forms
 module _ (I : Instance) (good : IsInstance I) (ms : List Multiplier) (cs : List ℤ) (k : ℤ) (r : IsRowsRound I ms cs k) where
   form-is : (j : ℕ) → IsNumber (form I ms j)
@@ -142,7 +131,7 @@ module _ (I : Instance) (good : IsInstance I) (ms : List Multiplier) (cs : List 
   all_is = filled_same I (numbers_of cs) (aimed I ms) ms (width I) ms (λ j h. ap whole (number_is j h))
 
   pub round_parts : AreLegal I ms × ((j : ℕ) → j < width I → HasOwnEnd I (aimed I ms) ms j)
-  round_parts = parts_of I (aimed I ms) ms (subst (λ l. AreLegal I l) all_is r.legal)
+  round_parts = parts_left I (aimed I ms) ms (subst (λ l. AreLegal I l) all_is r.legal)
 
   module _ (w : RowsFit I none (numbers_of cs) ms) where
     pub round_left : (j : ℕ) → j < width I → LeftFits I (aimed I ms) ms j
@@ -201,7 +190,7 @@ module _ (I : Instance) (good : IsInstance I) (ms : List Multiplier) (slots : Li
 
   pub row_round_made : (s : Frac) (k : ℤ) → HoldsLow I none (all_of I ms) (Some s) → IsCeiling (ratio s) k → neg_ℤ (pos most) ≤ℤ k → GivesRow I (RoundByRows ms) slots k
   row_round_made s k low ceiling least =
-      let legal = all_legal I good (aimed I ms) (aimed-number I ms) ms stand in
+      let legal = legal_left I good (aimed I ms) (aimed-number I ms) ms stand in
       let l = stand.legal in
       record {
         cut = record {

@@ -18,6 +18,7 @@ use Rattle.evidence.proofs.Fits.{reduced_same, sums_same, term_same, stated_more
 use Rattle.evidence.proofs.Completed.{total_head, zero_of, zero-none, put-numbers, left-number, completed_farkas, completed_costs, costs-number}
 use Rattle.evidence.proofs.LeftOut.{none_same, low_cons}
 use Rattle.cert_checker.specs.Leaves.{wanted}
+use Rattle.cert_checker.specs.Lefts as Left
 use Rattle.cert_checker.specs.RowLeaves.{all_of, LeftFits, HasOwnEnd, RowsStand, RowLeafHolds, GridRowsHold}
 use Rattle.cert_checker.specs.Slots.{IsStep}
 
@@ -273,17 +274,23 @@ pub wanted-number : (I : Instance) → IsInstance I → (z : Option Ratio) (j : 
 wanted-number I good None j = none-number
 wanted-number I good (Some z) j = costs-number I good j
 
+-- completed multipliers that are legal have legal parts, and the other way round
+pub parts_left : (I : Instance) (t : ℕ → Ratio) (ms : List Multiplier) → AreLegal I (completed I t ms) → AreLegal I ms × ((j : ℕ) → j < width I → Left.HasOwnEnd I t ms j)
+parts_left I t ms legal =
+    let parts = fill_parts I t ms (width I) ms (to_each I (completed I t ms) 0 legal (λ h. omega arith)) in
+    (from_each I ms 0 parts.1, parts.0)
+
+pub legal_left : (I : Instance) → IsInstance I → (t : ℕ → Ratio) → ((j : ℕ) → IsNumber (t j)) → (ms : List Multiplier) → Left.RowsStand I t ms → AreLegal I (completed I t ms)
+legal_left I good t pt ms s =
+    let l = s.legal in
+    from_each I (completed I t ms) 0 (fill_each I t ms (width I) ms (left-number I good t pt ms l.numbers) (omega arith) (λ j h. (s.lefts j h).finite) (to_each I ms (width I) l (first_row I ms s.rows)))
+
 -- what is checked is what the definition asks
 pub all_legal : (I : Instance) → IsInstance I → (ms : List Multiplier) (z : Option Ratio) → RowsStand I ms z → AreLegal I (all_of I ms z)
-all_legal I good ms z s =
-    let l = s.legal in
-    from_each I (all_of I ms z) 0
-    (fill_each I (wanted I z) ms (width I) ms (left-number I good (wanted I z) (wanted-number I good z) ms l.numbers) (omega arith) (λ j h. (s.lefts j h).finite) (to_each I ms (width I) l (first_row I ms s.rows)))
+all_legal I good ms z s = legal_left I good (wanted I z) (wanted-number I good z) ms s
 
 pub parts_of : (I : Instance) (ms : List Multiplier) (z : Option Ratio) → AreLegal I (all_of I ms z) → AreLegal I ms × ((j : ℕ) → j < width I → HasOwnEnd I ms z j)
-parts_of I ms z legal =
-    let parts = fill_parts I (wanted I z) ms (width I) ms (to_each I (all_of I ms z) 0 legal (λ h. omega arith)) in
-    (from_each I ms 0 parts.1, parts.0)
+parts_of I ms z legal = parts_left I (wanted I z) ms legal
 
 stand_of : (I : Instance) (ms : List Multiplier) (z : Option Ratio) → AreOfRows I ms → AreLegal I (all_of I ms z) → ((j : ℕ) → j < width I → LeftFits I ms z j) → RowsStand I ms z
 stand_of I ms z rows legal fits = let parts = parts_of I ms z legal in record { legal = parts.0; rows = rows; lefts = λ j h. record { fits = fits j h; finite = parts.1 j h } }

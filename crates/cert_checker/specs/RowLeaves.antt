@@ -1,39 +1,31 @@
 -- Which refusal of a leaf of rows alone is the first: what the rows leave of the sum that is wanted decides the multipliers of variables.
-use Rattle.std.specs.Prelude.{◌≡◌, ℕ, ◌<◌, ◌⊎◌, pos, Option, None, Some, IsSome, List}
-use Rattle.rational.specs.Ratio.{Ratio, negative, IsBelow}
-use Rattle.rational.specs.Width.{SumFits}
+use Rattle.std.specs.Prelude.{◌≡◌, ℕ, ◌<◌, ◌⊎◌, Option, None, Some, List}
+use Rattle.rational.specs.Ratio.{Ratio, IsBelow}
 use Rattle.evidence.specs.Sums.{none}
 use Rattle.evidence.specs.Instance.{Instance, width}
-use Rattle.evidence.specs.Cases.{Multiplier, multiplier_at, end_of, form, left_at, completed, AreLegal, AreOfRows}
-use Rattle.evidence.specs.Width.{FormFits}
+use Rattle.evidence.specs.Cases.{Multiplier, multiplier_at, completed, AreLegal, AreOfRows}
 use Rattle.cert_checker.specs.declared.refused.Unshown.{Unshown}
 use Rattle.cert_checker.specs.declared.refused.Unshown.TheVariants.{Tree, Sign, Wide}
 use Rattle.cert_checker.specs.Leaves.{wanted, HasSum, SignRefuses, SumRefuses}
+use Rattle.cert_checker.specs.Lefts as Left
 use Rattle.cert_checker.specs.Grids.{StepsBelow, StepRefuses, GridFits, ReachesInSteps, StepsRefuse}
 
 -- the multiplier of variable j: what the rows leave there
 abbrev pub own : Instance → List Multiplier → Option Ratio → ℕ → Multiplier
-own I ms z j = record { column = j; by = left_at I (wanted I z) ms j }
+own I ms z j = Left.own I (wanted I z) ms j
 
 -- those of variables, and then the rows'
 abbrev pub all_of : Instance → List Multiplier → Option Ratio → List Multiplier
 all_of I ms z = completed I (wanted I z) ms
 
--- the rows' sum at variable j fits, and so does what is left of the one that is wanted
-pub record LeftFits (I : Instance) (ms : List Multiplier) (z : Option Ratio) (j : ℕ) : Type 0 where
-  pub rows : FormFits I ms j
-  pub left : SumFits (wanted I z j) (negative (form I ms j))
+abbrev pub LeftFits : Instance → List Multiplier → Option Ratio → ℕ → Type 0
+LeftFits I ms z j = Left.LeftFits I (wanted I z) ms j
 
--- nothing is left, or the variable has a finite end on that side
 abbrev pub HasOwnEnd : Instance → List Multiplier → Option Ratio → ℕ → Type 0
-HasOwnEnd I ms z j = ((own I ms z j).by.num ≡ pos 0 → ⊥) → IsSome (end_of I (own I ms z j))
-
-pub record HasLeft (I : Instance) (ms : List Multiplier) (z : Option Ratio) (j : ℕ) : Type 0 where
-  pub fits : LeftFits I ms z j
-  pub finite : HasOwnEnd I ms z j
+HasOwnEnd I ms z j = Left.HasOwnEnd I (wanted I z) ms j
 
 abbrev pub LeftsBelow : Instance → List Multiplier → Option Ratio → ℕ → Type 0
-LeftsBelow I ms z n = (j : ℕ) → j < n → HasLeft I ms z j
+LeftsBelow I ms z n = Left.LeftsBelow I (wanted I z) ms n
 
 -- at variable j, after those below it: a sum doesn't fit, or there is no such end
 abbrev pub LeftRefusesAt : Instance → List Multiplier → Option Ratio → ℕ → ℕ → Unshown → Type 0
@@ -43,11 +35,8 @@ LeftRefusesAt I ms z node j r =
 abbrev pub LeftRefuses : Instance → List Multiplier → Option Ratio → ℕ → Unshown → Type 0
 LeftRefuses I ms z node r = (j : ℕ) × (j < width I) × LeftsBelow I ms z j × LeftRefusesAt I ms z node j r
 
--- the multipliers are legal, those of rows, and complete to legal ones
-pub record RowsStand (I : Instance) (ms : List Multiplier) (z : Option Ratio) : Type 0 where
-  pub legal : AreLegal I ms
-  pub rows : AreOfRows I ms
-  pub lefts : LeftsBelow I ms z (width I)
+abbrev pub RowsStand : Instance → List Multiplier → Option Ratio → Type 0
+RowsStand I ms z = Left.RowsStand I (wanted I z) ms
 
 -- the first multiplier that isn't legal, the first one where it is a variable's, and then the first variable
 abbrev pub RowsRefuse : Instance → List Multiplier → Option Ratio → ℕ → Unshown → Type 0

@@ -25,7 +25,7 @@ use Rattle.osrl_grammar.specs.Reading.{IsReportText}
 use Rattle.osrl_grammar.specs.Back.{IsBareOrNone, CauseComesBack, ClaimComesBack, ComesBack}
 use Rattle.document_checker.specs.declared.documents.Kind.{Kind}
 use Rattle.document_checker.specs.Documents.{kind, IsAcceptedText}
-use Rattle.certificate.specs.GivenUp.{given_up, unbounded}
+use Rattle.certificate.specs.GivenUp.{given_up, without_bound}
 use Rattle.solve_run.specs.declared.closing.Judged.{Judged}
 use Rattle.solve_run.specs.declared.closing.Judged.TheVariants.{Width, Bound}
 use Rattle.solve_run.specs.Asking.{job_asked}
@@ -74,7 +74,7 @@ shown_accepted p (Has.BestSoFar x vs c b) k s plain final is = plain_accepted p 
 shown_accepted p (Has.Unsure c b) k s plain final is = plain_accepted p (Has.Unsure c b) k s (λ f. f) plain is
 
 -- without its bound it is accepted, whether or not it is with it
-without_good : (p : Parts) (c : Claim) (k : Kind) → IsShownClaim p c → ((j : Kind) → IsFinal c → kind c ≡ Some j → Accepts (problem p) (Means.claim c)) → kind (unbounded c) ≡ Some k → Accepts (problem p) (Means.claim (unbounded c))
+without_good : (p : Parts) (c : Claim) (k : Kind) → IsShownClaim p c → ((j : Kind) → IsFinal c → kind c ≡ Some j → Accepts (problem p) (Means.claim c)) → kind (without_bound c) ≡ Some k → Accepts (problem p) (Means.claim (without_bound c))
 without_good p (Has.Optimal x vs cs) k s final is = final k tt is
 without_good p (Has.Infeasible cert) k s final is = final k tt is
 without_good p (Has.Unbounded x vs cs r) k s final is = final k tt is
@@ -126,7 +126,7 @@ module _ (p : Parts) (job : Option (List ℕ)) (valid : IsValid p) (name : IsSho
       by (Bound true) judged forms = formed_good form found c.formed told s (λ k is. judged.1) forms c.fitted
       by (Bound false) judged forms =
           let other = bounded_other found judged.0 in
-          formed_good form (unbounded found) c.formed told (without_shown p found s) (λ k is. without_good p found k s (λ j final says. absurd (other final)) is) forms c.fitted
+          formed_good form (without_bound found) c.formed told (without_shown p found s) (λ k is. without_good p found k s (λ j final says. absurd (other final)) is) forms c.fitted
 
 -- a claim that is taken, or what is told of it, is accepted, and not too long
 told_good : (p : Parts) (job : Option (List ℕ)) (c told : Claim) → IsValid p → IsShortName job → Accepts (problem p) (Means.claim c) → IsFitted job c told → ((k : Kind) → kind told ≡ Some k → Accepts (problem p) (Means.claim told)) × IsShort job told

@@ -9,7 +9,7 @@ use Rattle.evidence.specs.Instance.{Instance, Problem, width, height, minimising
 use Rattle.evidence.specs.OneDenominator.{number_at}
 use Rattle.evidence.specs.Cases.{Multiplier, Node, AreLegal}
 use Rattle.evidence.specs.RowRounds.{numbers_of}
-use Rattle.cert_checker.proofs.Rounding.{parts_of}
+use Rattle.cert_checker.proofs.RowLeaves.{parts_left}
 use Rattle.evidence.specs.Rounds.{Certificate, Round, RoundBy, RoundByRows, IsRound, derive}
 use Rattle.evidence.specs.ProvedBounds as With
 use Rattle.evidence.specs.Claim as Says
@@ -72,7 +72,7 @@ legal_within n I ms few legal i d h = let below = legal.columns i d h in omega (
 
 round_within : (n : ℕ) (I : Instance) (r : Round) (cs : List ℤ) (k : ℤ) → width I + height I ≤ n → IsRound I r cs k → RoundIsWithin n r
 round_within n I (RoundBy ms) cs k few is = legal_within n I ms few is.legal
-round_within n I (RoundByRows ms) cs k few is = legal_within n I ms few (parts_of I (numbers_of cs) ms is.legal).0
+round_within n I (RoundByRows ms) cs k few is = legal_within n I ms few (parts_left I (numbers_of cs) ms is.legal).0
 
 after_within : (n : ℕ) (rounds : List Round) (I : Instance) (nodes : List Node) (z : Option Ratio) → width I + height I + length rounds ≤ n → ProvesAfter I rounds nodes z → IsCertWithin n (record { rounds = rounds; nodes = nodes })
 after_within n [] I nodes z few p = record {

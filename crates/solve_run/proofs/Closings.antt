@@ -11,7 +11,7 @@ use Rattle.certificate.specs.declared.claims.Claim.TheVariants.{Optimal, Infeasi
 use Rattle.osrl_writing.specs.declared.told_names.NameLists.{NameLists}
 use Rattle.osrl_grammar.specs.Back.{CauseComesBack, ClaimComesBack}
 use Rattle.solve_run.specs.declared.document.Document.{Document}
-use Rattle.certificate.specs.GivenUp.{given_up, unbounded}
+use Rattle.certificate.specs.GivenUp.{given_up, without_bound}
 use Rattle.solve_run.specs.declared.closing.Judged.{Judged}
 use Rattle.solve_run.specs.declared.closing.Judged.TheVariants.{Width, Bound}
 use Rattle.solve_run.specs.Judging.{IsShownClaim, AreFewRounds, HasFewRounds, wide_check, IsJudged, HasSmallNode, checked}
@@ -28,7 +28,7 @@ given_back (Unbounded x vs cs r) cause h back = (back.0, h, tt)
 given_back (BestSoFar x vs old b) cause h back = (back.0, h, tt)
 given_back (Unsure old b) cause h back = (h, tt)
 
-without_back : (c : Claim) → ClaimComesBack (Some c) → ClaimComesBack (Some (unbounded c))
+without_back : (c : Claim) → ClaimComesBack (Some c) → ClaimComesBack (Some (without_bound c))
 without_back (Optimal x vs cs) back = back
 without_back (Infeasible cert) back = back
 without_back (Unbounded x vs cs r) back = back
@@ -60,7 +60,7 @@ given_few (Unbounded x vs cs r) cause = All-nil (λ (cert : Cert). AreFewRounds 
 given_few (BestSoFar x vs old b) cause = All-nil (λ (cert : Cert). AreFewRounds (length cert.rounds))
 given_few (Unsure old b) cause = All-nil (λ (cert : Cert). AreFewRounds (length cert.rounds))
 
-without_few : (c : Claim) → HasFewRounds c → HasFewRounds (unbounded c)
+without_few : (c : Claim) → HasFewRounds c → HasFewRounds (without_bound c)
 without_few (Optimal x vs cs) few = few
 without_few (Infeasible cert) few = few
 without_few (Unbounded x vs cs r) few = few

@@ -8,7 +8,7 @@ use Rattle.evidence.specs.Levels.{HasGoalValues}
 use Rattle.evidence.specs.Claim.{Accepts}
 use Rattle.instance.specs.Parts.{Parts, IsValid}
 use Rattle.instance.specs.Program.{problem, variable, goal, goals}
-use Rattle.certificate.specs.GivenUp.{given_up, unbounded}
+use Rattle.certificate.specs.GivenUp.{given_up, without_bound}
 use Rattle.certificate.specs.Meanings as Means
 use Rattle.certificate.specs.declared.causes.Cause.{Cause}
 use Rattle.certificate.specs.declared.claims.Claim.{Claim}
@@ -27,7 +27,7 @@ left_accepted P (Has.BestSoFar x vs old (Some b)) cause k a says = (a.0, a.1, tt
 left_accepted P (Has.Unsure old b) cause k a says = absurd (cc)
 
 -- and so is an accepted claim without its bound
-pub without_accepted : (P : Problem) (c : Claim) (k : Kind) → Accepts P (Means.claim c) → kind (unbounded c) ≡ Some k → Accepts P (Means.claim (unbounded c))
+pub without_accepted : (P : Problem) (c : Claim) (k : Kind) → Accepts P (Means.claim c) → kind (without_bound c) ≡ Some k → Accepts P (Means.claim (without_bound c))
 without_accepted P (Has.Optimal x vs cs) k a says = a
 without_accepted P (Has.Infeasible c) k a says = a
 without_accepted P (Has.Unbounded x vs cs r) k a says = a

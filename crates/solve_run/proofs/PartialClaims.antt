@@ -21,7 +21,7 @@ use Rattle.search_rules.specs.Beginnings.{IsFirstBest}
 use Rattle.search_rules.specs.Asked.{Asked, IsAskedAnswer}
 use Rattle.branch_bound.specs.Claims.{ClaimTells, ClaimTellsWith, cause_of, claimed_cause}
 use Rattle.solve_run.specs.Untils.{by_time, renamed, timed_claim}
-use Rattle.certificate.specs.GivenUp.{given_up, unbounded}
+use Rattle.certificate.specs.GivenUp.{given_up, without_bound}
 use Rattle.solve_run.specs.Judging.{IsShownClaim, IsFinal, is_bounded}
 
 -- what the laws say of whatever is asked of a search: its outcome is shown, and its bound
@@ -52,14 +52,14 @@ given_plain (Has.Unbounded x vs cs r) cause = refl
 given_plain (Has.BestSoFar x vs c b) cause = refl
 given_plain (Has.Unsure c b) cause = refl
 
-pub without_given : (c : Claim) (cause : Cause) → given_up (unbounded c) cause ≡ given_up c cause
+pub without_given : (c : Claim) (cause : Cause) → given_up (without_bound c) cause ≡ given_up c cause
 without_given (Has.Optimal x vs cs) cause = refl
 without_given (Has.Infeasible cert) cause = refl
 without_given (Has.Unbounded x vs cs r) cause = refl
 without_given (Has.BestSoFar x vs c b) cause = refl
 without_given (Has.Unsure c b) cause = refl
 
-pub final_whole : (c : Claim) → IsFinal c → unbounded c ≡ c
+pub final_whole : (c : Claim) → IsFinal c → without_bound c ≡ c
 final_whole (Has.Optimal x vs cs) f = refl
 final_whole (Has.Infeasible cert) f = refl
 final_whole (Has.Unbounded x vs cs r) f = refl
@@ -73,7 +73,7 @@ bounded_other (Has.Unbounded x vs cs r) e f = absurd (cc)
 bounded_other (Has.BestSoFar x vs c b) e f = f
 bounded_other (Has.Unsure c b) e f = f
 
-pub without_other : (c : Claim) → (IsFinal c → ⊥) → IsFinal (unbounded c) → ⊥
+pub without_other : (c : Claim) → (IsFinal c → ⊥) → IsFinal (without_bound c) → ⊥
 without_other (Has.Optimal x vs cs) other f = other f
 without_other (Has.Infeasible cert) other f = other f
 without_other (Has.Unbounded x vs cs r) other f = other f
@@ -182,7 +182,7 @@ plain (Says.Unbounded x vs cs r) = Says.Unbounded x vs cs r
 plain (Says.BestSoFar x vs b) = Says.BestSoFar x vs None
 plain (Says.Unsure b) = Says.Unsure None
 
-without_says : (c : Claim) → Means.claim (unbounded c) ≡ plain (Means.claim c)
+without_says : (c : Claim) → Means.claim (without_bound c) ≡ plain (Means.claim c)
 without_says (Has.Optimal x vs cs) = refl
 without_says (Has.Infeasible cert) = refl
 without_says (Has.Unbounded x vs cs r) = refl
@@ -196,14 +196,14 @@ plain_says (Unbounded x vs cs r) b = refl
 plain_says (BestSoFar x vs c) b = refl
 plain_says (Unsure c) b = refl
 
-without_cause : (c : Claim) → claimed_cause (unbounded c) ≡ claimed_cause c
+without_cause : (c : Claim) → claimed_cause (without_bound c) ≡ claimed_cause c
 without_cause (Has.Optimal x vs cs) = refl
 without_cause (Has.Infeasible cert) = refl
 without_cause (Has.Unbounded x vs cs r) = refl
 without_cause (Has.BestSoFar x vs c b) = refl
 without_cause (Has.Unsure c b) = refl
 
-pub without_shown : (p : Parts) (c : Claim) → IsShownClaim p c → IsShownClaim p (unbounded c)
+pub without_shown : (p : Parts) (c : Claim) → IsShownClaim p c → IsShownClaim p (without_bound c)
 without_shown p c s = record {
   outcome = s.outcome;
   bound = None;

@@ -17,7 +17,7 @@ use Rattle.osil_grammar.specs.declared.elements.Led.{Led}
 use Rattle.osil_grammar.specs.declared.elements.Led.TheVariants as leading
 use Rattle.osil_grammar.specs.Refusals as refusals
 use Rattle.osil_grammar.specs.Refusals.{Refusal}
-use Rattle.osil_grammar.specs.Standing.{State, start}
+use Rattle.osil_grammar.specs.ParseState.{State, start}
 use Rattle.osil_grammar.specs.Table.{content, otherwise, leads, around, begins, ends, Test, beyond, in_further, second_data, late, late_list, no_index, has, no_sense, too_many, tests, mark_name, refusal, ToldRefusal, told}
 use Rattle.osil_grammar.specs.Failing.{Fails}
 use Rattle.osil_grammar.specs.Leaving.{into, with_list, Begins, Ends, Leaves}

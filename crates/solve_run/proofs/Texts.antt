@@ -10,7 +10,7 @@ use Rattle.osrl_writing.specs.declared.told_names.NameLists.{NameLists}
 use Rattle.osrl_writing.specs.Labels.{no_names}
 use Rattle.osrl_writing.specs.Writing.{report_text, named_text, told_text}
 use Rattle.solve_run.specs.declared.document.Document.{Document}
-use Rattle.certificate.specs.GivenUp.{given_up, unbounded}
+use Rattle.certificate.specs.GivenUp.{given_up, without_bound}
 use Rattle.solve_run.specs.Closings.{error_report, claim_report, with_message, noted, IsShort, IsFitted}
 use Rattle.solve_run.proofs.PartialClaims.{without_given}
 use Rattle.solve_run.specs.Runs.{IsDocumentOf, IsTextOf, IsNamedTextOf, IsNotedTextOf, IsMemoryDocument, IsErrorDocument, IsFittedDocument}
@@ -70,18 +70,18 @@ pub too_long : (r : Report) (job : Option (List ℕ)) (c : Claim) (long : List �
 too_long r job c long is written many few = let size = ap length (written ∙ ap report_text is) in omega (arith, few, many, size)
 
 -- it is told without its bound
-pub fitted_without : (ns : NameLists) (note : Option (List ℕ)) (r : Report) (job : Option (List ℕ)) (c : Claim) (text : List ℕ) (doc : Document) → (IsShort job c → ⊥) → r ≡ claim_report job (unbounded c) → text ≡ report_text r → length text ≤ document_limit → IsNotedTextOf ns note r doc → IsFittedDocument ns note job c doc
+pub fitted_without : (ns : NameLists) (note : Option (List ℕ)) (r : Report) (job : Option (List ℕ)) (c : Claim) (text : List ℕ) (doc : Document) → (IsShort job c → ⊥) → r ≡ claim_report job (without_bound c) → text ≡ report_text r → length text ≤ document_limit → IsNotedTextOf ns note r doc → IsFittedDocument ns note job c doc
 fitted_without ns note r job c text doc long is written few told =
-    let short : IsShort job (unbounded c) = subst (λ (t : List ℕ). length t ≤ document_limit) (written ∙ ap report_text is) few in
-    noted_of ns note job c (unbounded c) doc (inr (inl (long, short, refl))) (same_noted ns note r (claim_report job (unbounded c)) doc is told)
+    let short : IsShort job (without_bound c) = subst (λ (t : List ℕ). length t ≤ document_limit) (written ∙ ap report_text is) few in
+    noted_of ns note job c (without_bound c) doc (inr (inl (long, short, refl))) (same_noted ns note r (claim_report job (without_bound c)) doc is told)
 
 -- or, too long so too, what is left of it
-pub fitted_long : (ns : NameLists) (note : Option (List ℕ)) (r s : Report) (job : Option (List ℕ)) (c : Claim) (text : List ℕ) (doc : Document) → (IsShort job c → ⊥) → r ≡ claim_report job (unbounded c) → text ≡ report_text r → document_limit < length text → s ≡ claim_report job (given_up (unbounded c) causes.Length) → IsNotedTextOf ns note s doc → IsFittedDocument ns note job c doc
+pub fitted_long : (ns : NameLists) (note : Option (List ℕ)) (r s : Report) (job : Option (List ℕ)) (c : Claim) (text : List ℕ) (doc : Document) → (IsShort job c → ⊥) → r ≡ claim_report job (without_bound c) → text ≡ report_text r → document_limit < length text → s ≡ claim_report job (given_up (without_bound c) causes.Length) → IsNotedTextOf ns note s doc → IsFittedDocument ns note job c doc
 fitted_long ns note r s job c text doc long is written many left told =
     let whole : s ≡ claim_report job (given_up c causes.Length) = left ∙ ap (claim_report job) (without_given c causes.Length) in
-    noted_of ns note job c (given_up c causes.Length) doc (inr (inr (long, too_long r job (unbounded c) text is written many, refl))) (same_noted ns note s (claim_report job (given_up c causes.Length)) doc whole told)
+    noted_of ns note job c (given_up c causes.Length) doc (inr (inr (long, too_long r job (without_bound c) text is written many, refl))) (same_noted ns note s (claim_report job (given_up c causes.Length)) doc whole told)
 
-pub fitted_memory_without : (ns : NameLists) (note : Option (List ℕ)) (r : Report) (job : Option (List ℕ)) (c : Claim) (doc : Document) → r ≡ claim_report job (unbounded c) → IsMemoryDocument r.job doc → IsFittedDocument ns note job c doc
+pub fitted_memory_without : (ns : NameLists) (note : Option (List ℕ)) (r : Report) (job : Option (List ℕ)) (c : Claim) (doc : Document) → r ≡ claim_report job (without_bound c) → IsMemoryDocument r.job doc → IsFittedDocument ns note job c doc
 fitted_memory_without ns note r job c doc is memory = inr (subst (λ (j : Option (List ℕ)). IsMemoryDocument j doc) (ap (λ (q : Report). q.job) is) memory)
 
 pub fitted_memory : (ns : NameLists) (note : Option (List ℕ)) (r : Report) (job : Option (List ℕ)) (c : Claim) (doc : Document) → r ≡ claim_report job c → IsMemoryDocument r.job doc → IsFittedDocument ns note job c doc

@@ -10,7 +10,7 @@ use Rattle.certificate.specs.declared.claims.Claim.{Claim}
 use Rattle.osrl_writing.specs.declared.report.JobStatus.TheVariants.{Finished}
 use Rattle.osrl_writing.specs.declared.report.Report.{Report}
 use Rattle.osrl_writing.specs.Writing.{report_text}
-use Rattle.certificate.specs.GivenUp.{given_up, unbounded}
+use Rattle.certificate.specs.GivenUp.{given_up, without_bound}
 use Rattle.solve_run.specs.Judging.{IsFinal, IsJudged, checked}
 use Rattle.solve_run.specs.declared.closing.Judged.{Judged}
 use Rattle.solve_run.specs.RowForms.{claim_of_rows}
@@ -57,8 +57,8 @@ IsShortOrNone job c (Some d) = IsShort job c × (d ≡ c)
 abbrev pub IsFitted : (job : Option (List ℕ)) → (checked told : Claim) → Type 0
 IsFitted job c told =
     (IsShort job c × (told ≡ c))
-    ⊎ ((IsShort job c → ⊥) × IsShort job (unbounded c) × (told ≡ unbounded c))
-    ⊎ ((IsShort job c → ⊥) × (IsShort job (unbounded c) → ⊥) × (told ≡ given_up c causes.Length))
+    ⊎ ((IsShort job c → ⊥) × IsShort job (without_bound c) × (told ≡ without_bound c))
+    ⊎ ((IsShort job c → ⊥) × (IsShort job (without_bound c) → ⊥) × (told ≡ given_up c causes.Length))
 
 -- what is told of what a search found after so many turns: it is checked first, then formed, and then fitted
 pub record IsToldOf (p : Parts) (job : Option (List ℕ)) (form turns : ℕ) (found told : Claim) : Type 0 where

@@ -5,7 +5,7 @@ use Rattle.evidence.specs.ProvedBounds.{ProvedBound}
 use Rattle.evidence.specs.Claim.{Accepts}
 use Rattle.instance.specs.Parts.{Parts}
 use Rattle.instance.specs.Program.{problem}
-use Rattle.certificate.specs.GivenUp.{given_up, unbounded}
+use Rattle.certificate.specs.GivenUp.{given_up, without_bound}
 use Rattle.certificate.specs.Meanings as Means
 use Rattle.certificate.specs.Nodes.{certs_of}
 use Rattle.certificate.specs.declared.nodes.Cert.{Cert}
@@ -82,4 +82,4 @@ abbrev pub checked : Claim → (turns : ℕ) → Judged → Claim
 checked c turns (Width None) = c
 checked c turns (Width (Some n)) = given_up c (wide_check n turns)
 checked c turns (Bound true) = c
-checked c turns (Bound false) = unbounded c
+checked c turns (Bound false) = without_bound c

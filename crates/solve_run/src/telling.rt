@@ -6,7 +6,7 @@ ghost use Rattle.certificate.specs.declared.claims.Claim.{Claim as OneClaim};
 ghost use Rattle.osrl_grammar.specs.Back.{CauseComesBack};
 ghost use Rattle.osrl_writing.specs.declared.report.Report.{Report as TheReport};
 ghost use Rattle.osrl_writing.specs.Writing.{report_text};
-ghost use Rattle.certificate.specs.GivenUp.{given_up, unbounded};
+ghost use Rattle.certificate.specs.GivenUp.{given_up, without_bound};
 ghost use Rattle.solve_run.specs.Judging.{IsShownClaim, HasFewRounds};
 ghost use Rattle.solve_run.specs.Closings as specs;
 ghost use Rattle.solve_run.specs.Runs.{IsClaimTold, IsTextOf, IsNamedTextOf, IsNotedTextOf, IsFittedDocument, IsMemoryDocument, IsErrorDocument, HasCauses};
@@ -96,7 +96,7 @@ fn shortened(mut report: Report) -> Report
 
 /// The report whose claim has no bound.
 fn without_bound(mut report: Report) -> Report
-    ensures { (job : Option (List ℕ)) (c : OneClaim) → report ≡ specs.claim_report job c → result ≡ specs.claim_report job (unbounded c) }
+    ensures { (job : Option (List ℕ)) (c : OneClaim) → report ≡ specs.claim_report job c → result ≡ specs.claim_report job (without_bound c) }
 {
     if let Some(claim) = report.claim.take() {
         report.claim = Some(claim.without_bound());

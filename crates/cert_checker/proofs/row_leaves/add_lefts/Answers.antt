@@ -8,9 +8,11 @@ use Rattle.certificate.specs.Meanings.{multipliers}
 use Rattle.case_tree.specs.Cuts as Tree
 use Rattle.cert_checker.specs.Cuts as Of
 use Rattle.cert_checker.specs.Leaves.{wanted}
-use Rattle.cert_checker.specs.RowLeaves.{own, HasLeft, LeftsBelow}
+use Rattle.cert_checker.specs.Lefts.{HasLeft}
+use Rattle.cert_checker.specs.RowLeaves.{own, LeftsBelow}
 use Rattle.cert_checker.specs.Slots.{IsStep, HoldsTotal}
 use Rattle.cert_checker.proofs.Widths.{width_is, cut-instance}
+use Rattle.cert_checker.proofs.RowLeaves.{wanted-number}
 use Rattle.cert_checker.proofs.Lefts.{numbers_of, finite_to, finite_from, added}
 use Rattle.cert_checker.proofs.row_leaves.add_lefts.Goals as goal
 
@@ -45,7 +47,7 @@ returns-then-not-has_end-clause-err c =
       c.loop-j.invariant.0,
       inr (
         c.in-Some.ensures.0,
-        (λ h. let t : IsTrue false = c.if-not-has_end.ensures.1 (finite_from J good ms (numbers_of c.args.mults.now) z c.loop-j.j c.in-Some.left c.in-Some.ensures.1 (limit c.end_by-end.result) e h) in cc),
+        (λ h. let t : IsTrue false = c.if-not-has_end.ensures.1 (finite_from J good ms (numbers_of c.args.mults.now) (wanted J z) (wanted-number J good z) c.loop-j.j c.in-Some.left c.in-Some.ensures.1 (limit c.end_by-end.result) e h) in cc),
         refl,
       ),
     )
@@ -58,9 +60,9 @@ loop-j-preserved c =
     let z = Of.aim c.args.aim in
     let e = c.end_by-end.ensures ∙ ap (end_by c.in-Some.left.numer) c.ends_of.ensures in
     let pm = numbers_of c.args.mults.now in (
-      below_more (HasLeft J ms z) c.loop-j.j c.loop-j.invariant.0
-          (record { fits = c.in-Some.ensures.0; finite = finite_to J good ms pm z c.loop-j.j c.in-Some.left c.in-Some.ensures.1 (limit c.end_by-end.result) e (c.if-not-has_end.ensures.0 refl) }),
-      added J good ms pm z c.loop-j.j c.in-Some.left c.in-Some.ensures.1 (limit c.end_by-end.result) e c.args.start c.loop-j.low c.plus-low.result c.loop-j.invariant.1
+      below_more (HasLeft J (wanted J z) ms) c.loop-j.j c.loop-j.invariant.0
+          (record { fits = c.in-Some.ensures.0; finite = finite_to J good ms pm (wanted J z) (wanted-number J good z) c.loop-j.j c.in-Some.left c.in-Some.ensures.1 (limit c.end_by-end.result) e (c.if-not-has_end.ensures.0 refl) }),
+      added J good ms pm (wanted J z) (wanted-number J good z) c.loop-j.j c.in-Some.left c.in-Some.ensures.1 (limit c.end_by-end.result) e (ratio c.args.start) c.args.start.above c.loop-j.low c.plus-low.result c.loop-j.invariant.1
           (subst (λ x. IsStep c.loop-j.low (ratio c.in-Some.left) x c.plus-low.result) c.or_zero.ensures c.plus-low.ensures),
     )
 

@@ -5,11 +5,13 @@ use Rattle.fraction.specs.Frac.{ratio}
 use Rattle.evidence.specs.Width.{LowFits}
 use Rattle.certificate.specs.Meanings.{multipliers}
 use Rattle.case_tree.specs.Cuts.{cut}
+use Rattle.cert_checker.specs.Leaves.{wanted}
 use Rattle.cert_checker.specs.RowLeaves.{all_of, GridRowsHold, GridRowsRefuse}
 use Rattle.cert_checker.specs.Grids.{StepsBelow, GridFits, ReachesInSteps}
 use Rattle.cert_checker.specs.Slots.{HoldsLow}
 use Rattle.cert_checker.proofs.Widths.{width_is, cut-instance}
 use Rattle.cert_checker.proofs.GridSteps.{above_from, both_ok}
+use Rattle.cert_checker.proofs.RowLeaves.{wanted-number}
 use Rattle.cert_checker.proofs.Lefts.{numbers_of, low_of}
 use Rattle.cert_checker.proofs.row_leaves.check_grid_rows.Goals as goal
 
@@ -46,7 +48,7 @@ returns-in-Some-clause-ok c =
     let w = width_is c.args.program.now c.args.cuts.now in
     let costs = subst (StepsBelow J (ratio c.args.step)) (sym w) c.in_ok-check_step.ensures.costs in
     let held = subst (λ o. HoldsLow J (ratio c.zero.result) (all_of J ms z) o) c.in-Some.is c.in_ok-low.ensures.low in
-    let low = low_of J good ms (numbers_of c.args.mults.now) z (ratio c.zero.result) c.zero.ensures c.in-Some.sum held in
+    let low = low_of J good ms (numbers_of c.args.mults.now) (wanted J z) (wanted-number J good z) (ratio c.zero.result) c.zero.ensures c.in-Some.sum held in
     both_ok c.check_value.result (GridFits J (ratio c.args.step) (all_of J ms z)) (ReachesInSteps J (ratio c.args.step) (all_of J ms z) (ratio c.args.aim)) (GridRowsHold J (ratio c.args.step) ms (ratio c.args.aim))
     (λ f r. record { stand = c.in_ok-low.ensures.stand; above = c.in_ok-check_step.ensures.above; costs = costs; fits = f; reaches = r })
     (on_ok_weaker c.check_value.result (λ f. f c.args.cuts.now (all_of J ms z) low) c.check_value.ensures.fits)
@@ -61,6 +63,6 @@ returns-in-Some-clause-err c =
     let w = width_is c.args.program.now c.args.cuts.now in
     let costs = subst (StepsBelow J (ratio c.args.step)) (sym w) c.in_ok-check_step.ensures.costs in
     let held = subst (λ o. HoldsLow J (ratio c.zero.result) (all_of J ms z) o) c.in-Some.is c.in_ok-low.ensures.low in
-    let low = low_of J good ms (numbers_of c.args.mults.now) z (ratio c.zero.result) c.zero.ensures c.in-Some.sum held in
+    let low = low_of J good ms (numbers_of c.args.mults.now) (wanted J z) (wanted-number J good z) (ratio c.zero.result) c.zero.ensures c.in-Some.sum held in
     IfErr-weaker c.check_value.result _ (GridRowsRefuse J (ratio c.args.step) ms (ratio c.args.aim) c.args.node)
     (λ r f. inr (inr (c.in_ok-low.ensures.stand, c.in_ok-check_step.ensures.above, costs, f c.args.cuts.now (all_of J ms z) low))) c.check_value.ensures.err

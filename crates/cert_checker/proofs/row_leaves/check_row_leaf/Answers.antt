@@ -6,10 +6,12 @@ use Rattle.evidence.specs.Width.{LowFits}
 use Rattle.certificate.specs.Meanings.{multipliers}
 use Rattle.case_tree.specs.Cuts.{cut}
 use Rattle.cert_checker.specs.Cuts as Of
+use Rattle.cert_checker.specs.Leaves.{wanted}
 use Rattle.cert_checker.specs.RowLeaves.{all_of}
 use Rattle.cert_checker.specs.Slots.{HoldsLow}
 use Rattle.cert_checker.proofs.Widths.{cut-instance}
 use Rattle.cert_checker.proofs.LowSums.{has_sum, lacks_sum}
+use Rattle.cert_checker.proofs.RowLeaves.{wanted-number}
 use Rattle.cert_checker.proofs.Lefts.{numbers_of, completed-number}
 use Rattle.cert_checker.proofs.row_leaves.check_row_leaf.Goals as goal
 
@@ -33,7 +35,7 @@ returns-then-reaches-clause-ok c =
     let ms = multipliers c.args.mults.now in
     let z = Of.aim c.args.aim in
     let held = subst (λ o. HoldsLow J (ratio c.start_of-start.result) (all_of J ms z) o) c.in-Some.is c.in_ok-low.ensures.low in
-    let number = completed-number J good ms (numbers_of c.args.mults.now) z (ratio c.start_of-start.result) c.start_of-start.result.above in
+    let number = completed-number J good ms (numbers_of c.args.mults.now) (wanted J z) (wanted-number J good z) (ratio c.start_of-start.result) c.start_of-start.result.above in
     record {
       stand = c.in_ok-low.ensures.stand;
       sum = has_sum J (all_of J ms z) c.args.aim c.start_of-start.result c.in-Some.sum (c.start_of-start.ensures c.args.cuts.now) number held.0 held.1 (c.reaches.ensures.0 c.if-reaches.true);
@@ -46,7 +48,7 @@ returns-else-reaches-clause-err c =
     let ms = multipliers c.args.mults.now in
     let z = Of.aim c.args.aim in
     let held = subst (λ o. HoldsLow J (ratio c.start_of-start.result) (all_of J ms z) o) c.in-Some.is c.in_ok-low.ensures.low in
-    let number = completed-number J good ms (numbers_of c.args.mults.now) z (ratio c.start_of-start.result) c.start_of-start.result.above in
+    let number = completed-number J good ms (numbers_of c.args.mults.now) (wanted J z) (wanted-number J good z) (ratio c.start_of-start.result) c.start_of-start.result.above in
     inr (
       c.in_ok-low.ensures.stand,
       lacks_sum J (all_of J ms z) c.args.aim c.start_of-start.result c.in-Some.sum (c.start_of-start.ensures c.args.cuts.now) number held.0 held.1 c.args.node (λ r. let t : IsTrue false = c.if-reaches.ensures.1 r in cc),

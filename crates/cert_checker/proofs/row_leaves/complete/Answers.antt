@@ -11,6 +11,7 @@ use Rattle.cert_checker.specs.RowLeaves.{own, LeftsBelow}
 use Rattle.cert_checker.specs.Slots.{HoldsTotal}
 use Rattle.cert_checker.proofs.Lists.{mult_is}
 use Rattle.cert_checker.proofs.Widths.{width_is, cut-instance}
+use Rattle.cert_checker.proofs.RowLeaves.{wanted-number}
 use Rattle.cert_checker.proofs.Lefts.{some_mults, numbers_of, joined}
 use Rattle.cert_checker.proofs.row_leaves.complete.Goals as goal
 
@@ -44,6 +45,6 @@ returns-clause-low c =
     let ms = multipliers c.args.mults.now in
     let z = Of.aim c.args.aim in
     let w = width_is c.args.program.now c.args.cuts.now in
-    joined J good ms (numbers_of c.args.mults.now) z c.args.start c.in_ok-low.low c.add_rows.result
+    joined J good ms (numbers_of c.args.mults.now) (wanted J z) (wanted-number J good z) (ratio c.args.start) c.args.start.above c.in_ok-low.low c.add_rows.result
     (subst (λ n. HoldsTotal (ratio c.args.start) n (λ j. left_at J (wanted J z) ms j) (λ j. or_none (end_of J (own J ms z j))) c.in_ok-low.low) (sym w) c.in_ok-low.ensures.low)
     c.add_rows.ensures.some c.add_rows.ensures.none

@@ -16,8 +16,7 @@ use Rattle.cert_checker.specs.RowRounds.{aimed, all_of}
 use Rattle.cert_checker.specs.Slots.{HoldsTotal, HoldsLow}
 use Rattle.cert_checker.proofs.Lists.{mult_is}
 use Rattle.cert_checker.proofs.Widths.{width_is, cut-instance}
-use Rattle.cert_checker.proofs.Lefts.{some_mults, numbers_of}
-use Rattle.cert_checker.proofs.LeftSums.{joined}
+use Rattle.cert_checker.proofs.Lefts.{some_mults, numbers_of, joined}
 use Rattle.cert_checker.proofs.Rounding.{aimed-number, row_round_made}
 use Rattle.cert_checker.proofs.row_rounds.check_row_round.Goals as goal
 

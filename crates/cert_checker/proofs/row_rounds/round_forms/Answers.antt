@@ -6,7 +6,6 @@ use Rattle.fraction.specs.declared.frac.Frac.{Frac}
 use Rattle.evidence.specs.Sums.{none}
 use Rattle.evidence.specs.Cases.{end_by, end_of, left_at, or_none}
 use Rattle.evidence.proofs.Steps.{no_term}
-use Rattle.evidence.proofs.Columns.{none-number}
 use Rattle.instance.specs.Program.{variable, limit}
 use Rattle.certificate.specs.Meanings.{multipliers}
 use Rattle.case_tree.specs.Cuts as Tree
@@ -15,11 +14,9 @@ use Rattle.cert_checker.specs.Programs.{HoldsRow}
 use Rattle.cert_checker.specs.RowRounds.{aimed}
 use Rattle.cert_checker.specs.Slots.{slot_at, IsStep, HoldsSum, HoldsTotal}
 use Rattle.cert_checker.proofs.Additions.{set_next, set_apart}
-use Rattle.cert_checker.proofs.ColumnSums.{unfit_form, is_form}
+use Rattle.cert_checker.proofs.ColumnSums.{unfit_form}
 use Rattle.cert_checker.proofs.Widths.{width_is, cut-instance}
-use Rattle.cert_checker.proofs.Lefts.{numbers_of}
-use Rattle.cert_checker.proofs.LeftSums.{left_fits, left_unfit, left_is, finite_to, finite_from, added}
-use Rattle.cert_checker.proofs.Rounding.{aimed_is, aimed-number}
+use Rattle.cert_checker.proofs.RoundedForms.{number_aimed, unfit_left, endless, has_left, left_added}
 use Rattle.cert_checker.proofs.row_rounds.round_forms.Goals as goal
 
 pub loop-j-init : goal.loop-j-init
@@ -51,9 +48,6 @@ pub returns-in-Err-clause-err : goal.returns-in-Err-clause-err
 returns-in-Err-clause-err c =
     let I = c.args.program.now in
     let cs = c.args.cuts.now in
-    let J = Tree.cut I cs in
-    let good = cut-instance I c.requires.numbers cs in
-    let ms = c.args.mults.now in
     let j = c.loop-j.j in
     let w = width_is I cs in
     let v = ap length c.vars-count.ensures.value in
@@ -62,17 +56,12 @@ returns-in-Err-clause-err c =
     let long = c.loop-j.auto.slots in
     let e : slot_at c.loop-j.slots j ≡ Some c.in-Some.form = get_or_default c.loop-j.slots j None _ (omega arith) ∙ c.in-Some.is in
     let so = c.loop-j.invariant.rest j (omega arith) h in
-    let same = is_form J good ms j (slot_at c.loop-j.slots j) c.in-Some.form e so in
-    let number = c.rounded-number.ensures ∙ aimed_is I c.requires.numbers cs ms j c.index-cuts-j.result h c.index-cuts-j.is c.in-Some.form same in
-    (j, (omega arith), c.loop-j.invariant.lefts, inl (left_unfit J good (aimed J (multipliers ms)) ms j (slot_at c.loop-j.slots j) c.in-Some.form c.rounded-number.result e so number c.in-Err.ensures.wide, refl))
+    (j, (omega arith), c.loop-j.invariant.lefts, inl (unfit_left I c.requires.numbers cs c.args.mults.now j h c.index-cuts-j.result c.index-cuts-j.is (slot_at c.loop-j.slots j) c.in-Some.form c.rounded-number.result e so c.rounded-number.ensures c.in-Err.ensures.wide, refl))
 
 pub returns-then-not-has_end-clause-err : goal.returns-then-not-has_end-clause-err
 returns-then-not-has_end-clause-err c =
     let I = c.args.program.now in
     let cs = c.args.cuts.now in
-    let J = Tree.cut I cs in
-    let good = cut-instance I c.requires.numbers cs in
-    let ms = c.args.mults.now in
     let j = c.loop-j.j in
     let w = width_is I cs in
     let v = ap length c.vars-count.ensures.value in
@@ -81,29 +70,17 @@ returns-then-not-has_end-clause-err c =
     let long = c.loop-j.auto.slots in
     let e : slot_at c.loop-j.slots j ≡ Some c.in-Some.form = get_or_default c.loop-j.slots j None _ (omega arith) ∙ c.in-Some.is in
     let so = c.loop-j.invariant.rest j (omega arith) h in
-    let same = is_form J good ms j (slot_at c.loop-j.slots j) c.in-Some.form e so in
-    let number = c.rounded-number.ensures ∙ aimed_is I c.requires.numbers cs ms j c.index-cuts-j.result h c.index-cuts-j.is c.in-Some.form same in
-    let left = left_is J good (aimed J (multipliers ms)) ms j (slot_at c.loop-j.slots j) c.in-Some.form c.rounded-number.result e so number c.in-Ok.left c.in-Ok.ensures.ok in
-    let fits = left_fits J good (aimed J (multipliers ms)) ms j (slot_at c.loop-j.slots j) c.in-Some.form c.rounded-number.result e so number c.in-Ok.ensures.fits in
     let end = c.end_by-end.ensures ∙ ap (end_by c.in-Ok.left.numer) c.ends_of.ensures in
-    let known = numbers_of ms in
-    let aims = aimed-number J (multipliers ms) in (
-      j,
-      (omega arith),
-      c.loop-j.invariant.lefts,
-      inr (
-        fits,
-        (λ some. let t : IsTrue false = c.if-not-has_end.ensures.1 (finite_from J good (multipliers ms) known (aimed J (multipliers ms)) aims j c.in-Ok.left left (limit c.end_by-end.result) end some) in cc),
-        refl,
-      ),
-    )
+    let (fits, lacks) =
+    endless I c.requires.numbers cs c.args.mults.now j h c.index-cuts-j.result c.index-cuts-j.is (slot_at c.loop-j.slots j) c.in-Some.form c.rounded-number.result e so c.rounded-number.ensures c.in-Ok.ensures.fits c.in-Ok.left c.in-Ok.ensures.ok (limit c.end_by-end.result) end
+    (λ some. let t : IsTrue false = c.if-not-has_end.ensures.1 some in cc) in
+    (j, (omega arith), c.loop-j.invariant.lefts, inr (fits, lacks, refl))
 
 pub loop-j-preserved : goal.loop-j-preserved
 loop-j-preserved c =
     let I = c.args.program.now in
     let cs = c.args.cuts.now in
     let J = Tree.cut I cs in
-    let good = cut-instance I c.requires.numbers cs in
     let ms = c.args.mults.now in
     let j = c.loop-j.j in
     let w = width_is I cs in
@@ -113,20 +90,18 @@ loop-j-preserved c =
     let long = c.loop-j.auto.slots in
     let e : slot_at c.loop-j.slots j ≡ Some c.in-Some.form = get_or_default c.loop-j.slots j None _ (omega arith) ∙ c.in-Some.is in
     let so = c.loop-j.invariant.rest j (omega arith) h in
-    let same = is_form J good ms j (slot_at c.loop-j.slots j) c.in-Some.form e so in
-    let number = c.rounded-number.ensures ∙ aimed_is I c.requires.numbers cs ms j c.index-cuts-j.result h c.index-cuts-j.is c.in-Some.form same in
-    let left = left_is J good (aimed J (multipliers ms)) ms j (slot_at c.loop-j.slots j) c.in-Some.form c.rounded-number.result e so number c.in-Ok.left c.in-Ok.ensures.ok in
-    let fits = left_fits J good (aimed J (multipliers ms)) ms j (slot_at c.loop-j.slots j) c.in-Some.form c.rounded-number.result e so number c.in-Ok.ensures.fits in
     let end = c.end_by-end.ensures ∙ ap (end_by c.in-Ok.left.numer) c.ends_of.ensures in
-    let known = numbers_of ms in
-    let aims = aimed-number J (multipliers ms) in
     record {
       lefts = below_more (HasLeft J (aimed J (multipliers ms)) (multipliers ms)) j c.loop-j.invariant.lefts
-          (record { fits = fits; finite = finite_to J good (multipliers ms) known (aimed J (multipliers ms)) aims j c.in-Ok.left left (limit c.end_by-end.result) end (c.if-not-has_end.ensures.0 refl) });
+          (has_left I c.requires.numbers cs ms j h c.index-cuts-j.result c.index-cuts-j.is (slot_at c.loop-j.slots j) c.in-Some.form c.rounded-number.result e so c.rounded-number.ensures c.in-Ok.ensures.fits c.in-Ok.left c.in-Ok.ensures.ok (limit c.end_by-end.result) end (c.if-not-has_end.ensures.0 refl));
       low =
-          added J good (multipliers ms) known (aimed J (multipliers ms)) aims j c.in-Ok.left left (limit c.end_by-end.result) end none none-number c.loop-j.low c.plus-low.result c.loop-j.invariant.low
+          left_added I c.requires.numbers cs ms j h c.index-cuts-j.result c.index-cuts-j.is (slot_at c.loop-j.slots j) c.in-Some.form c.rounded-number.result e so c.rounded-number.ensures c.in-Ok.ensures.fits c.in-Ok.left c.in-Ok.ensures.ok (limit c.end_by-end.result) end c.loop-j.low c.plus-low.result c.loop-j.invariant.low
           (subst (λ x. IsStep c.loop-j.low (ratio c.in-Ok.left) x c.plus-low.result) c.or_zero.ensures c.plus-low.ensures);
-      row = record { number = set_next (λ (i : ℕ) (o : Option Frac). (x : Frac) × (o ≡ Some x) × (ratio x ≡ aimed J (multipliers ms) i)) c.loop-j.slots j (Some c.rounded-number.result) (omega arith) c.loop-j.invariant.row.number (c.rounded-number.result, refl, number) };
+      row = record {
+        number =
+            set_next (λ (i : ℕ) (o : Option Frac). (x : Frac) × (o ≡ Some x) × (ratio x ≡ aimed J (multipliers ms) i)) c.loop-j.slots j (Some c.rounded-number.result) (omega arith) c.loop-j.invariant.row.number
+            (c.rounded-number.result, refl, number_aimed I c.requires.numbers cs ms j h c.index-cuts-j.result c.index-cuts-j.is (slot_at c.loop-j.slots j) c.in-Some.form c.rounded-number.result e so c.rounded-number.ensures);
+      };
       rest = λ i l k. subst (HoldsSum J (multipliers ms) i (length ms)) (sym (set_apart c.loop-j.slots j i (Some c.rounded-number.result) (λ q. omega arith))) (c.loop-j.invariant.rest i (omega arith) k);
     }
 

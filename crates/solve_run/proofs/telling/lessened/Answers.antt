@@ -1,7 +1,7 @@
 use Rattle.std.proofs.Common.{Option, List, ℕ, arith, ap, subst}
 use Rattle.std.proofs.lemmas.Result.{IfOk-weaker}
 use Rattle.osrl_writing.specs.declared.report.Report.{Report}
-use Rattle.certificate.specs.GivenUp.{unbounded}
+use Rattle.certificate.specs.GivenUp.{without_bound}
 use Rattle.solve_run.specs.Runs.{IsMemoryDocument}
 use Rattle.solve_run.proofs.Texts.{fitted_without, fitted_long, fitted_memory_without}
 use Rattle.solve_run.proofs.telling.lessened.Goals as goal
@@ -15,7 +15,7 @@ pub returns-then-len-gt-MOST_BYTES : goal.returns-then-len-gt-MOST_BYTES
 returns-then-len-gt-MOST_BYTES c = λ job claim is long.
     let without = c.without_bound-report.ensures job claim is in
     IfOk-weaker c.noted_or_memory.result _ _ (λ doc told. fitted_long _ _ _ _ _ _ c.in-Ok.text doc long without c.in-Ok.ensures
-    (omega (arith, c.if-len-gt-MOST_BYTES.true, c.len.ensures)) (c.shortened.ensures job (unbounded claim) without) told) c.noted_or_memory.ensures
+    (omega (arith, c.if-len-gt-MOST_BYTES.true, c.len.ensures)) (c.shortened.ensures job (without_bound claim) without) told) c.noted_or_memory.ensures
 
 pub returns : goal.returns
 returns c = λ job claim is long.
@@ -23,7 +23,7 @@ returns c = λ job claim is long.
     (omega (arith, c.if-len-gt-MOST_BYTES.false, c.len.ensures)) told) c.noted_or_memory-2.ensures
 
 pub noted_or_memory-requires : goal.noted_or_memory-requires
-noted_or_memory-requires c = let (job, claim, is) = c.requires in ap (λ (r : Report). r.message) (c.shortened.ensures job (unbounded claim) (c.without_bound-report.ensures job claim is))
+noted_or_memory-requires c = let (job, claim, is) = c.requires in ap (λ (r : Report). r.message) (c.shortened.ensures job (without_bound claim) (c.without_bound-report.ensures job claim is))
 
 pub noted_or_memory-requires-2 : goal.noted_or_memory-requires-2
 noted_or_memory-requires-2 c = let (job, claim, is) = c.requires in ap (λ (r : Report). r.message) (c.without_bound-report.ensures job claim is)
