@@ -24,7 +24,7 @@ use Rattle.search_rules.proofs.NearSearches.{AllNumbered, to_carry, visit_number
 use Rattle.search_rules.proofs.AskedCases.{carry}
 
 -- what is told is proved
-told_proved : (P : Problem) (b d : Option ProvedBound) → TellsOf P b d → IfSome d (λ d. IsProvedBound P d)
+pub told_proved : (P : Problem) (b d : Option ProvedBound) → TellsOf P b d → IfSome d (λ d. IsProvedBound P d)
 told_proved P b None tells = tt
 told_proved P None (Some d) tells = absurd (cc)
 told_proved P (Some b) (Some d) tells = subst (IsProvedBound P) (sym tells.0) tells.1

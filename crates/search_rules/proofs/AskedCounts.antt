@@ -1,5 +1,5 @@
 -- As much is carried as there are open cases.
-use Rattle.std.proofs.Common.{◌≡◌, ℕ, ◌+◌, Option, None, List, [], ◌∷◌, ◌++◌, map, length, arith, refl, sym, ◌∙◌, ap}
+use Rattle.std.proofs.Common.{◌≡◌, Option, List, ◌∷◌, map, length, arith, refl, sym, ◌∙◌, ap}
 use Rattle.std.proofs.lemmas.List.{length-map}
 use Rattle.std.proofs.Math.ListN.{length-append}
 use Rattle.rational.specs.Ratio.{Ratio}

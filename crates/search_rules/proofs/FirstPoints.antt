@@ -71,7 +71,7 @@ searches_once P t good gs a b is other o p c d s u = from_once P t good gs a is 
 
 -- from none
 module _ (P : Problem) (t : Terms) where
-  from_none : (m : SearchMoment) → ComesFrom P t None m → ComesInSearch P t m
+  pub from_none : (m : SearchMoment) → ComesFrom P t None m → ComesInSearch P t m
   from_none m begins = Plain.begins
   from_none m (goes_on {m = before} k next) = Plain.goes_on (from_none before k) next
 

@@ -8,8 +8,8 @@ use Rattle.simplex_rules.specs.Rules.{Given}
 use Rattle.simplex_rules.specs.RuleRuns.{Finish, Ends, Passed}
 use Rattle.search_rules.specs.Branching.{Case}
 use Rattle.search_rules.specs.Cuts.{Trial, NoCut, WideCut, Cut}
-use Rattle.search_rules.specs.Search.{SearchMoment, NextOfSearch, Outcome}
-use Rattle.search_rules.specs.RuleSearch.{BranchView, SearchRules, MomentBy, NextBy, On, BranchesBy, MeetsBy, TriedBy, HopesBy, RoundsBy, BestBy, GoesBy, IsRunOfCase, IsNextBy, ComesBy, begins, goes_on, SearchBy, IsAnswerBy, searched, given_up, given_up_after}
+use Rattle.search_rules.specs.Search.{SearchMoment, Outcome}
+use Rattle.search_rules.specs.RuleSearch.{BranchView, SearchRules, MomentBy, NextBy, On, AfterRun, BranchesBy, MeetsBy, TriedBy, HopesBy, RoundsBy, BestBy, GoesBy, IsRunOfCase, IsNextBy, ComesBy, begins, goes_on, SearchBy, IsAnswerBy, searched, given_up, given_up_after}
 
 module _ (S : SearchRules) (Splits : BranchView → ℕ → ℤ → Type 0) (Divides : BranchView → ℕ → Type 0) (P : Problem) (t : Terms) where
   abbrev others : SearchRules
@@ -21,34 +21,35 @@ module _ (S : SearchRules) (Splits : BranchView → ℕ → ℤ → Type 0) (Div
     pub divides : (h : BranchView) (j : ℕ) → h.case.program ≡ J → S.Divides h j → Divides h j
 
   module _ (g : Given) (C : Case) (like : IsLike C.program) (rest : List Case) (m : SearchMoment) where
-    branches : (D : Case) → D.program ≡ C.program → (x : List Ratio) (n : NextOfSearch) → BranchesBy S P t g D rest m x n → BranchesBy others P t g D rest m x n
-    branches D e x n (inl (j, k, s, q)) = inl (j, k, like.splits (record { case = D; basis = g; point = x }) j k e s, q)
-    branches D e x n (inr (j, s, q)) = inr (j, like.divides (record { case = D; basis = g; point = x }) j e s, q)
+    branches : (D : Case) → D.program ≡ C.program → (x : List Ratio) (n : AfterRun) → BranchesBy S P t g D rest m x n → BranchesBy others P t g D rest m x n
+    branches D e x n (inl (j, k, s, low, q)) = inl (j, k, like.splits (record { case = D; basis = g; point = x }) j k e s, low, q)
+    branches D e x n (inr (inl (j, k, s, high, q))) = inr (inl (j, k, like.splits (record { case = D; basis = g; point = x }) j k e s, high, q))
+    branches D e x n (inr (inr (j, s, q))) = inr (inr (j, like.divides (record { case = D; basis = g; point = x }) j e s, q))
 
-    meets : (D : Case) → D.program ≡ C.program → (x : List Ratio) (ms : List Multiplier) (n : NextOfSearch) → MeetsBy S P t g D rest m x ms n → MeetsBy others P t g D rest m x ms n
+    meets : (D : Case) → D.program ≡ C.program → (x : List Ratio) (ms : List Multiplier) (n : AfterRun) → MeetsBy S P t g D rest m x ms n → MeetsBy others P t g D rest m x ms n
     meets D e x ms n (inl b) = inl (branches D e x n b)
     meets D e x ms n (inr p) = inr p
 
-    tries : (x : List Ratio) (trial : Trial) (n : NextOfSearch) → TriedBy S P t g C rest m x trial n → TriedBy others P t g C rest m x trial n
+    tries : (x : List Ratio) (trial : Trial) (n : AfterRun) → TriedBy S P t g C rest m x trial n → TriedBy others P t g C rest m x trial n
     tries x NoCut n b = branches C refl x n b
     tries x WideCut n e = e
     tries x (Cut ms cs k) n e = e
 
-    hopes : (b : Ratio) (x : List Ratio) (ms : List Multiplier) (n : NextOfSearch) → HopesBy S P t g C rest m b x ms n → HopesBy others P t g C rest m b x ms n
+    hopes : (b : Ratio) (x : List Ratio) (ms : List Multiplier) (n : AfterRun) → HopesBy S P t g C rest m b x ms n → HopesBy others P t g C rest m b x ms n
     hopes b x ms n (inl p) = inl p
     hopes b x ms n (inr (inl (never, p))) = inr (inl (never, branches C refl x n p))
     hopes b x ms n (inr (inr (ss, trial, may, unmet, e, from, p))) = inr (inr (ss, trial, may, unmet, e, from, tries x trial n p))
 
-    rounds : (b : Ratio) (x : List Ratio) (ms : List Multiplier) (n : NextOfSearch) → RoundsBy S P t g C rest m b x ms n → RoundsBy others P t g C rest m b x ms n
+    rounds : (b : Ratio) (x : List Ratio) (ms : List Multiplier) (n : AfterRun) → RoundsBy S P t g C rest m b x ms n → RoundsBy others P t g C rest m b x ms n
     rounds b x ms n (inl p) = inl p
     rounds b x ms n (inr (off, p)) = inr (off, hopes b x ms n p)
 
-    bests : (ray : Option (List Ratio)) (b : Ratio) (x : List Ratio) (ms : List Multiplier) (n : NextOfSearch) → BestBy S P t ray g C rest m b x ms n → BestBy others P t ray g C rest m b x ms n
+    bests : (ray : Option (List Ratio)) (b : Ratio) (x : List Ratio) (ms : List Multiplier) (n : AfterRun) → BestBy S P t ray g C rest m b x ms n → BestBy others P t ray g C rest m b x ms n
     bests None b x ms n (inl p) = inl p
     bests None b x ms n (inr (hope, p)) = inr (hope, rounds b x ms n p)
     bests (Some r) b x ms n p = meets C refl x ms n p
 
-    goes : (f : Finish) (n : NextOfSearch) → GoesBy S P t g C rest m f n → GoesBy others P t g C rest m f n
+    goes : (f : Finish) (n : AfterRun) → GoesBy S P t g C rest m f n → GoesBy others P t g C rest m f n
     goes (Ends (Clash c)) n e = e
     goes (Ends (Empty ms)) n e = e
     goes (Ends (Best b x ms)) n p = bests C.ray b x ms n p

@@ -10,7 +10,8 @@ use Rattle.evidence.specs.Instance.{Instance, Problem, IsInstance, IsProblem, mi
 use Rattle.evidence.specs.Point.{objective, IsFeasible}
 use Rattle.evidence.specs.Cases.{Multiplier, IsBound}
 use Rattle.evidence.specs.Narrower.{IsNarrower}
-use Rattle.evidence.specs.ProvedBounds.{ProvedBound, IsWithinGap}
+use Rattle.evidence.specs.Rounds.{Certificate}
+use Rattle.evidence.specs.ProvedBounds.{IsWithinGap}
 use Rattle.evidence.proofs.Numbers.{◌≈◌, ◌≲◌, ◌⊙◌, ◌▹◌, ≈-refl, ≲-from, ≲-trans, ≲-is, sum-number, sum-≈, sum-≲, sum-none, none-sum, sum_assoc, negative-sum}
 use Rattle.evidence.proofs.Inverses.{negative-≈, negative-negative, sum-negative}
 use Rattle.evidence.proofs.Duality.{minimising-number}
@@ -27,13 +28,13 @@ use Rattle.search_rules.specs.Bounds.{Carried, carried_after, shown_by, open_num
 use Rattle.search_rules.specs.Gaps.{Gap, number_after, IsNearBy}
 use Rattle.search_rules.specs.Asked.{Asked, ComesAsked, asked_first, asked_on, asked_level}
 use Rattle.search_rules.proofs.Nodes.{at_most-trans}
-use Rattle.search_rules.proofs.Moments.{Holds, this, best_number, next_holds}
+use Rattle.search_rules.proofs.Moments.{HoldsWith, Holds, this, best_number, next_holds}
 use Rattle.search_rules.proofs.OpenBounds.{AllCarry, bounds_of, goes_part, level_begins, open_proves}
 use Rattle.search_rules.proofs.BoundLaws.{meets_after, negatives_turn}
 use Rattle.search_rules.proofs.AskedSearches.{asked_hold}
 
 -- multipliers and the number that they show, or neither
-abbrev NumberedBy : Instance → Carried → Option Ratio → Type 0
+abbrev pub NumberedBy : Instance → Carried → Option Ratio → Type 0
 NumberedBy I None None = Unit {0}
 NumberedBy I (Some ms) (Some b) = IsNumber b × IsBound I ms b
 NumberedBy I k x = ⊥
@@ -49,7 +50,7 @@ numbered_in J K gj gk n None (Some b) h = absurd h
 numbered_in J K gj gk n (Some ms) None h = absurd h
 numbered_in J K gj gk n (Some ms) (Some b) h = (h.0, bound_in J K gj gk n ms b h.0 h.1)
 
-numbered_after : (J : Instance) (ray : Option (List Ratio)) (e : End) (k : Carried) (x : Option Ratio) → Shown (is_some ray) J e → NumberedBy J k x → NumberedBy J (carried_after ray e k) (number_after ray e x)
+pub numbered_after : (J : Instance) (ray : Option (List Ratio)) (e : End) (k : Carried) (x : Option Ratio) → Shown (is_some ray) J e → NumberedBy J k x → NumberedBy J (carried_after ray e k) (number_after ray e x)
 numbered_after J (Some r) e k x s h = h
 numbered_after J None (Clash c) k x s h = h
 numbered_after J None (Empty ms) k x s h = h
@@ -59,7 +60,7 @@ numbered_after J None TurnsOut k x s h = h
 numbered_after J None (TooWide w) k x s h = h
 numbered_after J None Stopped k x s h = h
 
-each_numbered : (J : Instance) (k : Carried) (x : Option Ratio) → IsInstance J → NumberedBy J k x → (new rest : List Case) (ks : List Carried) (xs : List (Option Ratio)) → All (λ (K : Case). IsNarrower K.program J) new → All (λ (K : Case). IsInstance K.program) (new ++ rest) → AllNumbered rest ks xs → AllNumbered (new ++ rest) (map (λ C. k) new ++ ks) (map (λ C. x) new ++ xs)
+pub each_numbered : (J : Instance) (k : Carried) (x : Option Ratio) → IsInstance J → NumberedBy J k x → (new rest : List Case) (ks : List Carried) (xs : List (Option Ratio)) → All (λ (K : Case). IsNarrower K.program J) new → All (λ (K : Case). IsInstance K.program) (new ++ rest) → AllNumbered rest ks xs → AllNumbered (new ++ rest) (map (λ C. k) new ++ ks) (map (λ C. x) new ++ xs)
 each_numbered J k x good h [] rest ks xs n i a = a
 each_numbered J k x good h (K ∷ new) rest ks xs n i a = (
   numbered_in J K.program good (All-head (λ (K : Case). IsInstance K.program) K (new ++ rest) i) (All-head (λ (K : Case). IsNarrower K.program J) K new n) k x h,
@@ -140,7 +141,8 @@ gap_left v g z pv pg e =
     let grouped = off ▹ sym (sum_assoc v (negative v) g) in
     (grouped ⊙ sum-≈ (sum-negative v pv) (≈-refl pg)) ▹ none-sum g
 
-module _ (P : Problem) (m : SearchMoment) (ks : List Carried) (xs : List (Option Ratio)) (good : IsProblem P) (h : Holds P m) (a : AllNumbered m.waiting ks xs) (g : Gap) (near : IsNearBy P g m xs) (from : IsAtMost none near.allowed) where
+-- whatever the nodes so far lead to
+module _ (P : Problem) (m : SearchMoment) (ks : List Carried) (xs : List (Option Ratio)) (good : IsProblem P) {A : Instance → Type 0} (h : HoldsWith P m A) (a : AllNumbered m.waiting ks xs) (g : Gap) (near : IsNearBy P g m xs) (from : IsAtMost none near.allowed) where
   abbrev value : Ratio
   value = minimising P.program (reached m.level near.found)
 
@@ -174,18 +176,25 @@ module _ (P : Problem) (m : SearchMoment) (ks : List Carried) (xs : List (Option
       let all = ≲-trans (≲-from left) (≲-is less (sum-none value)) in
       all.is
 
-  pub near_true : (y : List Ratio) → IsFeasible P.program y → IsWithinGap P.program (reached m.level near.found) (objective P.program y) near.allowed
-  near_true y f =
+  -- where the nodes so far and leaves for the open cases, told in this certificate, show each number that none of theirs is below
+  pub within_gap : (certificate : List (List Multiplier) → Certificate)
+      → ((mss : List (List Multiplier)) (w : Ratio) → ks ≡ map (λ ms. Some ms) mss → All (λ x. IsAtMost w x) (with_best m.level m.best (open_numbers m.waiting mss)) → CertificateProves m.level.program (certificate mss) (Some w))
+      → (y : List Ratio) → IsFeasible P.program y → IsWithinGap P.program (reached m.level near.found) (objective P.program y) near.allowed
+  within_gap certificate proves y f =
       let some = some_numbers m.waiting ks xs z a near.numbers in
-      let nodes = m.nodes ++ closing_leaves some.multipliers in
-      let no_bound : ProvedBound = record { number = z; certificate = record { rounds = m.rounds; nodes = nodes } } in
+      let c = certificate some.multipliers in
       let best : IsAtMost z (minimising m.level.program (reached m.level near.found)) = subst (λ I. IsAtMost z (minimising I (reached m.level near.found))) (sym on_first) below_value in
       let low : All (λ x. IsAtMost z x) (with_best m.level m.best (open_numbers m.waiting some.multipliers)) =
       subst (λ b. All (λ x. IsAtMost z x) (with_best m.level b (open_numbers m.waiting some.multipliers))) (sym near.best)
       (All-cons (λ x. IsAtMost z x) (minimising m.level.program (reached m.level near.found)) (open_numbers m.waiting some.multipliers) best some.low) in
-      let proved = open_proves P m ks h (to_carry m.waiting ks xs a) no_bound some.multipliers z some.are low in
-      let there : CertificateProves P.program (record { rounds = m.rounds; nodes = nodes }) (Some z) = subst (λ I. CertificateProves I (record { rounds = m.rounds; nodes = nodes }) (Some z)) on_first proved in
-      let meets = meets_after m.rounds P.program nodes (Some z) near.number good.program there y f in
+      let proved = proves some.multipliers z some.are low in
+      let there : CertificateProves P.program c (Some z) = subst (λ I. CertificateProves I c (Some z)) on_first proved in
+      let meets = meets_after c.rounds P.program c.nodes (Some z) near.number good.program there y f in
       let above : z ≲ minimising P.program (objective P.program y) = record { left = near.number; right = minimising-number P.program (objective P.program y) (objective-number P.program good.program y f); is = meets } in
       let all = ≲-trans (sum-≲ (≲-from (≈-refl value-number)) (negatives_turn above)) (≲-from (gap_left value near.allowed z value-number allowed-number left)) in
       all.is
+
+pub near_true : (P : Problem) (m : SearchMoment) (ks : List Carried) (xs : List (Option Ratio)) → IsProblem P → Holds P m → AllNumbered m.waiting ks xs → (g : Gap) (near : IsNearBy P g m xs) → IsAtMost none near.allowed → (y : List Ratio) → IsFeasible P.program y → IsWithinGap P.program (reached m.level near.found) (objective P.program y) near.allowed
+near_true P m ks xs good h a g near from y f =
+    within_gap P m ks xs good h a g near from (λ mss. record { rounds = m.rounds; nodes = m.nodes ++ closing_leaves mss })
+    (λ mss w e low. open_proves P m ks h (to_carry m.waiting ks xs a) mss w e low) y f

@@ -1,20 +1,21 @@
 -- What the nodes of a level show, with trees for the cases still open.
-use Rattle.std.proofs.Common.{◌≡◌, inl, ℕ, ◌+◌, ◌<◌, ℤ, pos, neg_ℤ, ◌+ℤ◌, ◌*ℤ◌, Option, None, Some, List, [], ◌∷◌, ◌++◌, map, append_assoc, append-nil, arith, refl, sym, ◌∙◌, ap, subst}
+use Rattle.std.proofs.Common.{◌≡◌, inl, ℕ, ◌+◌, ◌<◌, ℤ, pos, neg_ℤ, ◌+ℤ◌, ◌*ℤ◌, false, Option, None, Some, List, [], ◌∷◌, ◌++◌, map, append_assoc, append-nil, arith, refl, sym, ◌∙◌, ap, subst}
 use Rattle.std.proofs.lemmas.Int.{ints}
 use Rattle.rational.specs.Ratio.{Ratio, whole, sum, product, IsSame, IsBelow, IsNumber, IsAtMost}
 use Rattle.rational.proofs.Integers.{more-times, most-from_times, neg-times}
 use Rattle.rational.proofs.Scaling.{times_swap}
 use Rattle.evidence.specs.Instance.{Instance, Sense, Minimum, Maximum, width, height, column_at, minimising, minimising_by}
-use Rattle.evidence.specs.Cases.{Multiplier, Clash, Farkas, Bound, Grid, Zero, Node, ClashAt, FarkasBy, BoundBy, GridBy, SplitAt, ZeroAt, preorder, IsEmpty, IsFarkas, IsBound, IsGrid, IsBranch, IsZeroBranch, low_sum, at_most, high_case}
+use Rattle.evidence.specs.Cases.{Multiplier, Tree, Clash, Farkas, Bound, Grid, Zero, Node, ClashAt, FarkasBy, BoundBy, GridBy, SplitAt, ZeroAt, preorder, IsEmpty, IsFarkas, IsBound, IsGrid, IsBranch, IsZeroBranch, Shows, low_sum, at_most, high_case}
 use Rattle.evidence.specs.PendingNodes.{anything, ProvesAll as AllProve}
 use Rattle.evidence.proofs.RowBranches.{low_variable, high_variable}
 use Rattle.evidence.proofs.PendingNodes.{split_back}
 use Rattle.search_rules.specs.Branching.{Case, split_cases, divided_cases}
 use Rattle.search_rules.specs.Search.{Found, Level, undivided, reached}
 use Rattle.search_rules.specs.Outcomes.{Proves}
+use Rattle.search_rules.specs.Sides.{has_cases}
 
 -- the programs of cases
-abbrev programs : List Case → List Instance
+abbrev pub programs : List Case → List Instance
 programs cases = map (λ C. C.program) cases
 
 -- a tree for each case, one after the other, and nothing after them
@@ -47,21 +48,26 @@ Within l z None = Unit {0}
 Within l None (Some f) = ⊥
 Within l (Some w) (Some f) = IsAtMost w (minimising l.program (reached l f))
 
-pub clash_first : (C : Case) (rest : List Case) (c : ℕ) (after : List Node) (z : Option Ratio) → (c < width C.program + height C.program) × IsEmpty (column_at C.program c) → ProvesAll rest after z → ProvesAll (C ∷ rest) (ClashAt c ∷ after) z
-clash_first C rest c after z h o = (Clash c, after, refl, h, tt, o)
+-- a node is a tree that shows it of the instance
+abbrev pub IsLeaf : Instance → Node → Option Ratio → Type 0
+IsLeaf I n z = (T : Tree) × (preorder T ≡ n ∷ []) × (has_cases n ≡ false) × Shows I T z
 
-pub farkas_first : (C : Case) (rest : List Case) (ms : List Multiplier) (after : List Node) (z : Option Ratio) → IsFarkas C.program ms → ProvesAll rest after z → ProvesAll (C ∷ rest) (FarkasBy ms ∷ after) z
-farkas_first C rest ms after z h o = (Farkas ms, after, refl, h, tt, o)
+pub clash_leaf : (I : Instance) (c : ℕ) (z : Option Ratio) → (c < width I + height I) × IsEmpty (column_at I c) → IsLeaf I (ClashAt c) z
+clash_leaf I c z h = (Clash c, refl, refl, h)
 
-pub bound_first : (C : Case) (rest : List Case) (ms : List Multiplier) (b w : Ratio) (after : List Node) → IsNumber b → IsBound C.program ms b → IsAtMost w b → ProvesAll rest after (Some w) → ProvesAll (C ∷ rest) (BoundBy ms ∷ after) (Some w)
-bound_first C rest ms b w after n h le o =
-    let J = C.program in
-    (Bound ms, after, refl, record { legal = h.legal; costs = h.costs; reaches = at_most-trans w b (low_sum J (minimising J J.goal.constant) ms) n le h.reaches }, tt, o)
+pub farkas_leaf : (I : Instance) (ms : List Multiplier) (z : Option Ratio) → IsFarkas I ms → IsLeaf I (FarkasBy ms) z
+farkas_leaf I ms z h = (Farkas ms, refl, refl, h)
 
-pub grid_first : (C : Case) (rest : List Case) (g : Ratio) (ms : List Multiplier) (v w : Ratio) (after : List Node) → IsNumber v → IsGrid C.program g ms v → IsAtMost w v → ProvesAll rest after (Some w) → ProvesAll (C ∷ rest) (GridBy g ms ∷ after) (Some w)
-grid_first C rest g ms v w after n h le o =
-    let J = C.program in
-    (Grid g ms, after, refl, record { legal = h.legal; costs = h.costs; step = h.step; steps = h.steps; rounded = h.rounded; reaches = at_most-trans w v (sum (minimising J J.goal.constant) (product (whole h.steps) g)) n le h.reaches }, tt, o)
+pub bound_leaf : (I : Instance) (ms : List Multiplier) (b w : Ratio) → IsNumber b → IsBound I ms b → IsAtMost w b → IsLeaf I (BoundBy ms) (Some w)
+bound_leaf I ms b w n h le =
+    (Bound ms, refl, refl, record { legal = h.legal; costs = h.costs; reaches = at_most-trans w b (low_sum I (minimising I I.goal.constant) ms) n le h.reaches })
+
+pub grid_leaf : (I : Instance) (g : Ratio) (ms : List Multiplier) (v w : Ratio) → IsNumber v → IsGrid I g ms v → IsAtMost w v → IsLeaf I (GridBy g ms) (Some w)
+grid_leaf I g ms v w n h le =
+    (Grid g ms, refl, refl, record { legal = h.legal; costs = h.costs; step = h.step; steps = h.steps; rounded = h.rounded; reaches = at_most-trans w v (sum (minimising I I.goal.constant) (product (whole h.steps) g)) n le h.reaches })
+
+pub leaf_first : (C : Case) (rest : List Case) (n : Node) (after : List Node) (z : Option Ratio) → IsLeaf C.program n z → ProvesAll rest after z → ProvesAll (C ∷ rest) (n ∷ after) z
+leaf_first C rest n after z (T, e, leaf, s) o = (T, after, ap (λ (ns : List Node). ns ++ after) (sym e), s, tt, o)
 
 pub split_first : (C : Case) (rest : List Case) (j : ℕ) (k : ℤ) (after : List Node) (z : Option Ratio) → IsBranch C.program j k → ProvesAll (split_cases C j k rest) after z → ProvesAll (C ∷ rest) (SplitAt j k ∷ after) z
 split_first C rest j k after z br s =

@@ -180,8 +180,8 @@ module _ (I : Instance) where
     one_range : (S : SearchRules) → AreLegalSearches S → (s : MomentBy) → ComesBy S P t s → (C : Case) (rest : List Case) → s.moment.waiting ≡ C ∷ rest → HasOneRange C.program
     one_range S legal s comes C rest is j =
         let h = comes_hold S legal P t problem s comes in
-        let opened = this P C rest s.moment is h in
-        let same : (variable_at s.moment.level.program j).unless_zero ≡ (variable_at I j).unless_zero = ap (λ (vs : List Variable). (get_or vs j no_variable).unless_zero) h.level.variables in
+        let opened = this P C rest s.moment is h.holds in
+        let same : (variable_at s.moment.level.program j).unless_zero ≡ (variable_at I j).unless_zero = ap (λ (vs : List Variable). (get_or vs j no_variable).unless_zero) h.holds.level.variables in
         opened.case.further j ∙ same ∙ All-anywhere (λ v. v.unless_zero ≡ None) I.variables no_variable refl whole.ranges j
 
     like_on : (s : MomentBy) → ComesBy whole_search P t s → IsLikeAt whole_search bland_search.Splits bland_search.Divides P t s

@@ -4,7 +4,7 @@ use Rattle.std.specs.List.{All}
 use Rattle.std.specs.Option.{is_some}
 use Rattle.std.proofs.lemmas.List.Elements.{All-push}
 use Rattle.rational.specs.Ratio.{Ratio}
-use Rattle.evidence.specs.Instance.{Goal, Problem, IsProblem}
+use Rattle.evidence.specs.Instance.{Goal, Instance, Problem, IsProblem}
 use Rattle.evidence.specs.Levels.{RoundsAreOfOneGoal}
 use Rattle.evidence.specs.Cases.{Multiplier}
 use Rattle.certificate.specs.declared.causes.Cause.{Cause}
@@ -18,13 +18,13 @@ use Rattle.search_rules.specs.Outcomes.{CertificateProves, IsShown}
 use Rattle.search_rules.proofs.Cases.{IsOpen, feasible}
 use Rattle.search_rules.proofs.Nodes.{Within}
 use Rattle.search_rules.proofs.Levels.{Reaches, reaches_end, reaches_ray}
-use Rattle.search_rules.proofs.Moments.{HasNoRounds, Holds, found_point, this, open_along, clocked, closed_proves, best_proves, comes_hold}
+use Rattle.search_rules.proofs.Moments.{HasNoRounds, HoldsWith, Holds, found_point, this, open_along, clocked, closed_proves, best_proves, comes_hold}
 
 out_is : {o p : Outcome} {c d : Clock} → Out o c ≡ Out p d → p ≡ o
 out_is e = cc
 
 -- the cuts are of problems with one goal
-rounds_shown : (P : Problem) (m : SearchMoment) → Holds P m → RoundsAreOfOneGoal P m.level.shown
+rounds_shown : (P : Problem) (m : SearchMoment) {A : Instance → Type 0} → HoldsWith P m A → RoundsAreOfOneGoal P m.level.shown
 rounds_shown P m h = by h.rounds
   where
     by : (P.later ≡ []) ⊎ (All HasNoRounds m.level.shown × (m.rounds ≡ [])) → RoundsAreOfOneGoal P m.level.shown
@@ -38,7 +38,7 @@ rounds_closed P m h = by h.rounds
     by (inl e) = inl e
     by (inr (a, e)) = inr (All-push HasNoRounds m.level.shown (shown_at m) a e)
 
-module _ (P : Problem) (m : SearchMoment) (h : Holds P m) where
+module _ (P : Problem) (m : SearchMoment) {A : Instance → Type 0} (h : HoldsWith P m A) where
   -- the best point, where there is one
   pub early_shown : (best : Option Found) (c : Cause) → m.best ≡ best → IsShown P (early best c)
   early_shown None c e = tt
@@ -50,29 +50,6 @@ module _ (P : Problem) (m : SearchMoment) (h : Holds P m) where
   pub stops_shown : (t : Terms) (o : Outcome) (d : Clock) → StopsBefore P t m (Out o d) → IsShown P o
   stops_shown t o d (inl (limit, e)) = given_shown _ o d _ e
   stops_shown t o d (inr (within, stop, e)) = given_shown _ o d _ e
-
-  -- a level without open cases
-  module _ (none : m.waiting ≡ []) where
-    infeasible_shown : m.best ≡ None → IsShown P (Infeasible (shown_at m))
-    infeasible_shown e =
-        let first = h.first e in
-        let of_level : CertificateProves m.level.program (shown_at m) None = closed_proves P m h none None (subst (Within m.level None) (sym e) tt) in
-        let program = h.level.first first in
-        (subst (λ cs. RoundsAreOfOneGoal P (cs ++ shown_at m ∷ [])) first (rounds_closed P m h), subst (λ I. CertificateProves I (shown_at m) None) program.0 of_level)
-
-    optimal_shown : (f : Found) → m.best ≡ Some f → m.level.later ≡ [] → IsShown P (Optimal f.point f.values (m.level.shown ++ shown_at m ∷ []))
-    optimal_shown f e later =
-        let found = h.best f e in
-        let count : length f.values ≡ suc (length m.level.shown) = let v = found.values in let a = v.count in let n = h.level.count in let k = ap length later in omega arith in
-        let reaches = subst (λ gs. Reaches P.program P.later f.values m.level.shown m.level.program gs) later (h.level.reaches f.point f.values found.feasible found.values) in
-        (found_point P m.level f h.level found, rounds_closed P m h, reaches_end m.level.program (shown_at m) (reached m.level f) (best_proves P m h none f e) m.level.shown P.program P.later f.values count refl reaches)
-
-    pub closes_shown : (t : Terms) (o : Outcome) (d : Clock) (best : Option Found) (gs : List Goal) → m.best ≡ best → m.level.later ≡ gs → ClosesLevel P t m best gs (Out o d) → IsShown P o
-    closes_shown t o d None gs some later e = subst (IsShown P) (out_is e) (infeasible_shown some)
-    closes_shown t o d (Some f) [] some later e = subst (IsShown P) (out_is e) (optimal_shown f some later)
-    closes_shown t o d (Some f) (g ∷ gs) some later (inl (e, end, q)) = absurd (cc)
-    closes_shown t o d (Some f) (g ∷ gs) some later (inr (wide, inl s)) = stops_shown t o d s
-    closes_shown t o d (Some f) (g ∷ gs) some later (inr (wide, inr (goes, q))) = given_shown _ o d _ q
 
   -- case C is open
   module _ (t : Terms) (C : Case) (rest : List Case) (opened : IsOpen m.level.program C) where
@@ -107,6 +84,29 @@ module _ (P : Problem) (m : SearchMoment) (h : Holds P m) where
     best_shown before b x ms o d relaxed None (inr (hope, inr (inl (never, p)))) = branches_go_on x o d p
     best_shown before b x ms o d relaxed None (inr (hope, inr (inr (ss, trial, may, other, ends, tries, g)))) = trial_shown x trial o d g
     best_shown before b x ms o d relaxed (Some r) g = meets_shown x ms o d relaxed g
+
+-- a level without open cases
+module _ (P : Problem) (m : SearchMoment) (h : Holds P m) (none : m.waiting ≡ []) where
+  infeasible_shown : m.best ≡ None → IsShown P (Infeasible (shown_at m))
+  infeasible_shown e =
+      let first = h.first e in
+      let of_level : CertificateProves m.level.program (shown_at m) None = closed_proves P m h none None (subst (Within m.level None) (sym e) tt) in
+      let program = h.level.first first in
+      (subst (λ cs. RoundsAreOfOneGoal P (cs ++ shown_at m ∷ [])) first (rounds_closed P m h), subst (λ I. CertificateProves I (shown_at m) None) program.0 of_level)
+
+  optimal_shown : (f : Found) → m.best ≡ Some f → m.level.later ≡ [] → IsShown P (Optimal f.point f.values (m.level.shown ++ shown_at m ∷ []))
+  optimal_shown f e later =
+      let found = h.best f e in
+      let count : length f.values ≡ suc (length m.level.shown) = let v = found.values in let a = v.count in let n = h.level.count in let k = ap length later in omega arith in
+      let reaches = subst (λ gs. Reaches P.program P.later f.values m.level.shown m.level.program gs) later (h.level.reaches f.point f.values found.feasible found.values) in
+      (found_point P m.level f h.level found, rounds_closed P m h, reaches_end m.level.program (shown_at m) (reached m.level f) (best_proves P m h none f e) m.level.shown P.program P.later f.values count refl reaches)
+
+  pub closes_shown : (t : Terms) (o : Outcome) (d : Clock) (best : Option Found) (gs : List Goal) → m.best ≡ best → m.level.later ≡ gs → ClosesLevel P t m best gs (Out o d) → IsShown P o
+  closes_shown t o d None gs some later e = subst (IsShown P) (out_is e) (infeasible_shown some)
+  closes_shown t o d (Some f) [] some later e = subst (IsShown P) (out_is e) (optimal_shown f some later)
+  closes_shown t o d (Some f) (g ∷ gs) some later (inl (e, end, q)) = absurd (cc)
+  closes_shown t o d (Some f) (g ∷ gs) some later (inr (wide, inl s)) = stops_shown P m h t o d s
+  closes_shown t o d (Some f) (g ∷ gs) some later (inr (wide, inr (goes, q))) = given_shown P m h _ o d _ q
 
 module _ (P : Problem) (t : Terms) (m : SearchMoment) (C : Case) (rest : List Case) (is : m.waiting ≡ C ∷ rest) (h : Holds P m) where
   abbrev opened : IsOpen m.level.program C

@@ -1,176 +1,160 @@
 -- What holds at each moment of a search by legal rules stays so, and its outcome is shown.
-use Rattle.std.proofs.Common.{◌≡◌, inl, inr, pos, ◌+ℤ◌, false, Option, None, Some, List, [], ◌∷◌, refl, sym, ◌∙◌, ap, subst}
+use Rattle.std.proofs.Common.{◌≡◌, ℕ, inl, inr, false, Option, None, Some, List, [], ◌∷◌, length, refl, sym, ◌∙◌, ap, subst}
 use Rattle.std.specs.List.{All}
 use Rattle.std.specs.Option.{is_some}
 use Rattle.rational.specs.Ratio.{Ratio}
 use Rattle.evidence.specs.Instance.{Problem, IsProblem}
-use Rattle.evidence.specs.Cases.{Multiplier, ClashAt, FarkasBy, BoundBy, GridBy, SplitAt}
+use Rattle.evidence.specs.Cases.{Multiplier, ClashAt, FarkasBy, BoundBy, GridBy}
 use Rattle.simplex_rules.specs.declared.columns.Status.{Status}
 use Rattle.simplex_rules.specs.Ends.{Terms, Clock, Clash, Empty, Best, Endless, TurnsOut, TooWide, Stopped, IsRelaxed, IsBest}
 use Rattle.simplex_rules.specs.Runs.{looked_once}
 use Rattle.simplex_rules.specs.Rules.{Given}
 use Rattle.simplex_rules.specs.RuleRuns.{Finish, Ends, Passed, ShownBy}
 use Rattle.simplex_rules.proofs.RuleMoments.{run_true}
-use Rattle.search_rules.specs.Branching.{Case, split_cases}
+use Rattle.certificate.specs.declared.causes.Cause.{Cause}
+use Rattle.search_rules.specs.Branching.{Case}
 use Rattle.search_rules.specs.Cuts.{Trial, NoCut, WideCut, Cut, TriesBasis}
-use Rattle.search_rules.specs.Search.{SearchMoment, NextOfSearch, Outcome, To, Out, closed_by_leaf, branch, divide, with_cut, IsHopeful, MayCut, ClosesLevel, StopsBefore}
+use Rattle.search_rules.specs.Search.{SearchMoment, NextOfSearch, Outcome, To, Out, first, early, IsHopeful, MayCut, TakesPoint, ClosesLevel, StopsBefore}
 use Rattle.search_rules.specs.Outcomes.{IsShown}
-use Rattle.search_rules.specs.RuleSearch.{SearchRules, AreLegalSearches, MomentBy, On, Off, kept_for, with_basis, best_value, BranchesBy, MeetsBy, TriedBy, HopesBy, RoundsBy, BestBy, GoesBy, IsRunOfCase, IsNextBy, ComesBy, begins, goes_on, SearchBy, IsAnswerBy, searched, given_up, given_up_after}
-use Rattle.search_rules.proofs.Nodes.{Leads, clash_first, farkas_first, split_first}
-use Rattle.search_rules.proofs.Cases.{IsOpen, open_most, open_least}
-use Rattle.search_rules.proofs.Moments.{Holds, holds_first, clocked, passed_holds, rounded_holds, same_best, both_open, divide_holds, takes_hold, cut_of, this, others, so_far, open_along, cut_holds, closes_hold}
-use Rattle.search_rules.proofs.Outcomes.{early_shown, given_shown, stops_shown, closes_shown, takes_shown}
+use Rattle.search_rules.specs.RuleSearch.{SearchRules, AreLegalSearches, MomentBy, NextBy, On, Off, AfterRun, Onward, Upward, kept_for, with_basis, with_side, in_place, best_value, BranchesBy, TakesBy, MeetsBy, TriedBy, HopesBy, RoundsBy, BestBy, GoesBy, IsRunOfCase, IsNextBy, ComesBy, begins, goes_on, SearchBy, IsAnswerBy, searched, given_up, given_up_after}
+use Rattle.search_rules.proofs.Nodes.{clash_leaf, farkas_leaf}
+use Rattle.search_rules.proofs.Cases.{IsOpen}
+use Rattle.search_rules.proofs.Moments.{holds_first, clocked, passed_leaf, rounded_leaf, cut_of, this, others, open_along, closes_hold}
+use Rattle.search_rules.proofs.SidedNodes.{LeadsBy}
+use Rattle.search_rules.proofs.SidedMoments.{HoldsBy, begun_by, placed_holds, closes_begin, leaf_by, low_by, high_by, divide_by, takes_by, cut_by}
+use Rattle.search_rules.proofs.Outcomes.{early_shown, stops_shown, closes_shown, takes_shown}
+
+-- what comes of the end of a run holds, with these places so far and the place of a split, or is shown
+abbrev pub IsFine : Problem → List ℕ → ℕ → AfterRun → Type 0
+IsFine P ts k (Onward (To n)) = HoldsBy P n ts
+IsFine P ts k (Onward (Out o d)) = IsShown P o
+IsFine P ts k (Upward n) = HoldsBy P n (k ∷ ts)
+
+abbrev pub IsFineNext : Problem → NextBy → Type 0
+IsFineNext P (On n) = HoldsBy P n.moment n.turned
+IsFineNext P (Off o d) = IsShown P o
+
+side_fine : (P : Problem) (g : Given) (ts : List ℕ) (k : ℕ) (a : AfterRun) → IsFine P ts k a → IsFineNext P (with_side g ts k a)
+side_fine P g ts k (Onward (To n)) f = f
+side_fine P g ts k (Onward (Out o d)) f = f
+side_fine P g ts k (Upward n) f = f
 
 module _ (S : SearchRules) (legal : AreLegalSearches S) (P : Problem) (t : Terms) where
   -- case C is open before the rest
-  module _ (g : Given) (C : Case) (rest : List Case) (m : SearchMoment) (h : Holds P m) (opened : IsOpen m.level.program C) (unopened : All (IsOpen m.level.program) rest) (leads : Leads m.level h.cut (C ∷ rest) m.nodes m.best) where
-    branches_hold : (x : List Ratio) (n : SearchMoment) → BranchesBy S P t g C rest m x (To n) → Holds P n
-    branches_hold x n (inl (j, k, s, e)) =
-        let q : branch m C rest j k ≡ n = cc in
-        let b = legal.splits _ j k s in
-        subst (Holds P) q
-        (same_best P C rest m h opened unopened leads (split_cases C j k rest) (SplitAt j k) (both_open P C rest m h opened unopened leads _ _ (open_most m.level.program C opened j b.variable k) (open_least m.level.program C opened j b.variable (k +ℤ pos 1)))
-        (λ z w more o. split_first C rest j k more z b o))
-    branches_hold x n (inr (j, s, e)) = let q : divide m C rest j ≡ n = cc in subst (Holds P) q (divide_holds P C rest m h opened unopened leads j (legal.divides _ j s))
+  module _ (g : Given) (C : Case) (rest : List Case) (m : SearchMoment) (ts : List ℕ) (h : HoldsBy P m ts) (opened : IsOpen m.level.program C) (unopened : All (IsOpen m.level.program) rest) (leads : LeadsBy m.level h.holds.cut (C ∷ rest) ts m.nodes m.best) where
+    abbrev Fine : AfterRun → Type 0
+    Fine a = IsFine P ts (length m.nodes) a
 
-    meets_hold : (x : List Ratio) (ms : List Multiplier) (n : SearchMoment) → (C.ray ≡ None → ⊥) → MeetsBy S P t g C rest m x ms (To n) → Holds P n
-    meets_hold x ms n some (inl b) = branches_hold x n b
-    meets_hold x ms n some (inr p) = takes_hold P C rest m h opened unopened leads t x ms n (λ e. absurd (some e)) p
+    branches_fine : (x : List Ratio) (a : AfterRun) → BranchesBy S P t g C rest m x a → Fine a
+    branches_fine x a (inl (j, k, s, low, e)) = subst Fine (sym e) (low_by P C rest m ts h opened unopened leads j k (legal.splits _ j k s))
+    branches_fine x a (inr (inl (j, k, s, high, e))) = subst Fine (sym e) (high_by P C rest m ts h opened unopened leads j k (legal.splits _ j k s))
+    branches_fine x a (inr (inr (j, s, e))) = subst Fine (sym e) (divide_by P C rest m ts h opened unopened leads j (legal.divides _ j s))
 
-  module _ (g : Given) (C : Case) (rest : List Case) (m : SearchMoment) (is : m.waiting ≡ C ∷ rest) (h : Holds P m) where
+    takes_fine : (x : List Ratio) (ms : List Multiplier) (a : AfterRun) → IsRelaxed C.program x → (C.ray ≡ None → (b : Ratio) × IsBest C.program b x ms × IsHopeful m.level m.best b) → TakesBy S P t C rest m x ms a → Fine a
+    takes_fine x ms a relaxed is_best (n, p, e) = subst Fine (sym e) (so n p)
+      where
+        so : (n : NextOfSearch) → TakesPoint P t C rest m x ms n → Fine (Onward n)
+        so (To n) p = takes_by P C rest m ts h opened unopened leads t x ms n is_best p
+        so (Out o d) p = takes_shown P m h.holds t C rest opened x ms o d relaxed p
+
+    meets_fine : (x : List Ratio) (ms : List Multiplier) (a : AfterRun) → IsRelaxed C.program x → (C.ray ≡ None → ⊥) → MeetsBy S P t g C rest m x ms a → Fine a
+    meets_fine x ms a relaxed some (inl b) = branches_fine x a b
+    meets_fine x ms a relaxed some (inr p) = takes_fine x ms a relaxed (λ e. absurd (some e)) p
+
+  module _ (g : Given) (C : Case) (rest : List Case) (m : SearchMoment) (ts : List ℕ) (is : m.waiting ≡ C ∷ rest) (h : HoldsBy P m ts) where
     abbrev opened : IsOpen m.level.program C
-    opened = this P C rest m is h
+    opened = this P C rest m is h.holds
 
-    here_hold : (x : List Ratio) (n : SearchMoment) → BranchesBy S P t g C rest m x (To n) → Holds P n
-    here_hold x n b = branches_hold g C rest m h opened (others P C rest m is h) (so_far P C rest m is h) x n b
+    abbrev unopened : All (IsOpen m.level.program) rest
+    unopened = others P C rest m is h.holds
 
-    tried_holds : (x : List Ratio) (ss : List Status) (trial : Trial) (n : SearchMoment) → MayCut P t m → TriesBasis C.program x ss trial → TriedBy S P t g C rest m x trial (To n) → Holds P n
-    tried_holds x ss NoCut n may tries b = here_hold x n b
-    tried_holds x ss WideCut n may tries b = absurd (cc)
-    tried_holds x ss (Cut ms cs k) n may tries b =
-        let q : with_cut m C rest ms cs k ≡ n = cc in
-        subst (Holds P) q (cut_holds P C rest m is h ms cs k may.one_goal may.first_case (cut_of C.program x ss ms cs k tries))
+    leads : LeadsBy m.level h.holds.cut (C ∷ rest) ts m.nodes m.best
+    leads = subst (λ cs. LeadsBy m.level h.holds.cut cs ts m.nodes m.best) is h.holds.leads
 
-    hopes_hold : (b : Ratio) (x : List Ratio) (ms : List Multiplier) (n : SearchMoment) → IsBest C.program b x ms → IsHopeful m.level m.best b → HopesBy S P t g C rest m b x ms (To n) → Holds P n
-    hopes_hold b x ms n best hope (inl p) = takes_hold P C rest m h opened (others P C rest m is h) (so_far P C rest m is h) t x ms n (λ e. (b, best, hope)) p
-    hopes_hold b x ms n best hope (inr (inl (never, p))) = here_hold x n p
-    hopes_hold b x ms n best hope (inr (inr (ss, trial, may, other, e, tries, p))) = tried_holds x ss trial n may tries p
+    abbrev So : AfterRun → Type 0
+    So a = IsFine P ts (length m.nodes) a
 
-    rounds_hold : (b : Ratio) (x : List Ratio) (ms : List Multiplier) (n : SearchMoment) → IsBest C.program b x ms → IsHopeful m.level m.best b → RoundsBy S P t g C rest m b x ms (To n) → Holds P n
-    rounds_hold b x ms n best hope (inl (s, steps, p, e)) =
-        let q : closed_by_leaf m rest (GridBy s ms) ≡ n = cc in
-        subst (Holds P) q (rounded_holds P C rest m h opened (others P C rest m is h) (so_far P C rest m is h) p.found s ms p.is p.grid)
-    rounds_hold b x ms n best hope (inr (off, p)) = hopes_hold b x ms n best hope p
+    given : (c : Cause) (d : Clock) (a : AfterRun) → a ≡ Onward (Out (early m.best c) d) → So a
+    given c d a e = subst So (sym e) (early_shown P m h.holds m.best c refl)
 
-    best_holds : (b : Ratio) (x : List Ratio) (ms : List Multiplier) (n : SearchMoment) → (is_some C.ray ≡ false → IsBest C.program b x ms) → (ray : Option (List Ratio)) → C.ray ≡ ray → BestBy S P t ray g C rest m b x ms (To n) → Holds P n
-    best_holds b x ms n is_best None e (inl (p, f)) =
+    here_fine : (x : List Ratio) (a : AfterRun) → BranchesBy S P t g C rest m x a → So a
+    here_fine x a b = branches_fine g C rest m ts h opened unopened leads x a b
+
+    tried_fine : (x : List Ratio) (ss : List Status) (trial : Trial) (a : AfterRun) → MayCut P t m → TriesBasis C.program x ss trial → TriedBy S P t g C rest m x trial a → So a
+    tried_fine x ss NoCut a may tries b = here_fine x a b
+    tried_fine x ss WideCut a may tries e = given _ _ a e
+    tried_fine x ss (Cut ms cs k) a may tries e = subst So (sym e) (cut_by P C rest m ts is h ms cs k may.one_goal may.first_case (cut_of C.program x ss ms cs k tries))
+
+    hopes_fine : (b : Ratio) (x : List Ratio) (ms : List Multiplier) (a : AfterRun) → IsRelaxed C.program x → IsBest C.program b x ms → IsHopeful m.level m.best b → HopesBy S P t g C rest m b x ms a → So a
+    hopes_fine b x ms a relaxed best hope (inl p) = takes_fine g C rest m ts h opened unopened leads x ms a relaxed (λ e. (b, best, hope)) p
+    hopes_fine b x ms a relaxed best hope (inr (inl (never, p))) = here_fine x a p
+    hopes_fine b x ms a relaxed best hope (inr (inr (ss, trial, may, other, e, tries, p))) = tried_fine x ss trial a may tries p
+
+    rounds_fine : (b : Ratio) (x : List Ratio) (ms : List Multiplier) (a : AfterRun) → IsRelaxed C.program x → IsBest C.program b x ms → IsHopeful m.level m.best b → RoundsBy S P t g C rest m b x ms a → So a
+    rounds_fine b x ms a relaxed best hope (inl (s, steps, p, e)) = subst So (sym e) (leaf_by P C rest m ts h opened unopened leads (GridBy s ms) (rounded_leaf P C rest m h.holds opened unopened p.found s ms p.is p.grid))
+    rounds_fine b x ms a relaxed best hope (inr (off, p)) = hopes_fine b x ms a relaxed best hope p
+
+    best_fine : (b : Ratio) (x : List Ratio) (ms : List Multiplier) (a : AfterRun) → IsRelaxed C.program x → (is_some C.ray ≡ false → IsBest C.program b x ms) → (ray : Option (List Ratio)) → C.ray ≡ ray → BestBy S P t ray g C rest m b x ms a → So a
+    best_fine b x ms a relaxed is_best None e (inl (p, f)) =
         let best : IsBest C.program b x ms = is_best (ap is_some e) in
-        let q : closed_by_leaf m rest (BoundBy ms) ≡ n = cc in
-        subst (Holds P) q (passed_holds P C rest m h opened (others P C rest m is h) (so_far P C rest m is h) b ms best.number best.bound p)
-    best_holds b x ms n is_best None e (inr (hope, p)) = rounds_hold b x ms n (is_best (ap is_some e)) hope p
-    best_holds b x ms n is_best (Some r) e p = meets_hold g C rest m h opened (others P C rest m is h) (so_far P C rest m is h) x ms n (λ none. let no : Some r ≡ None = sym e ∙ none in absurd (cc)) p
+        subst So (sym f) (leaf_by P C rest m ts h opened unopened leads (BoundBy ms) (passed_leaf P C rest m h.holds opened unopened b ms best.number best.bound p))
+    best_fine b x ms a relaxed is_best None e (inr (hope, p)) = rounds_fine b x ms a relaxed (is_best (ap is_some e)) hope p
+    best_fine b x ms a relaxed is_best (Some r) e p = meets_fine g C rest m ts h opened unopened leads x ms a relaxed (λ none. let off : Some r ≡ None = sym e ∙ none in cc) p
 
-    goes_hold : (f : Finish) (n : SearchMoment) → ShownBy (is_some C.ray) C.program f → GoesBy S P t g C rest m f (To n) → Holds P n
-    goes_hold (Ends (Clash c)) n s e =
-        let q : closed_by_leaf m rest (ClashAt c) ≡ n = cc in
-        subst (Holds P) q (same_best P C rest m h opened (others P C rest m is h) (so_far P C rest m is h) rest (ClashAt c) (others P C rest m is h) (λ z w more o. clash_first C rest c more z s o))
-    goes_hold (Ends (Empty ms)) n s e =
-        let q : closed_by_leaf m rest (FarkasBy ms) ≡ n = cc in
-        subst (Holds P) q (same_best P C rest m h opened (others P C rest m is h) (so_far P C rest m is h) rest (FarkasBy ms) (others P C rest m is h) (λ z w more o. farkas_first C rest ms more z s o))
-    goes_hold (Ends (Best b x ms)) n s e = best_holds b x ms n s.1 C.ray refl e
-    goes_hold (Ends (Endless x d)) n s (inl (j, f, e)) =
-        let q : divide m C rest j ≡ n = cc in
-        subst (Holds P) q (divide_holds P C rest m h opened (others P C rest m is h) (so_far P C rest m is h) j (let i = f.moving in i.branch))
-    goes_hold (Ends (Endless x d)) n s (inr (inl (none, f, e))) = absurd (cc)
-    goes_hold (Ends (Endless x d)) n s (inr (inr (r, none, scaled, p))) =
-        meets_hold g (record C { ray = Some r }) rest m h (open_along P C rest m is h d r s.2 none scaled) (others P C rest m is h) (so_far P C rest m is h) x [] n (λ e. absurd (cc)) p
-    goes_hold (Ends TurnsOut) n s e = absurd (cc)
-    goes_hold (Ends (TooWide w)) n s e = absurd (cc)
-    goes_hold (Ends Stopped) n s e = absurd (cc)
-    goes_hold (Passed b ms) n s (p, e) =
-        let q : closed_by_leaf m rest (BoundBy ms) ≡ n = cc in
-        subst (Holds P) q (passed_holds P C rest m h opened (others P C rest m is h) (so_far P C rest m is h) b ms s.1 s.2 p)
+    goes_fine : (f : Finish) (a : AfterRun) → ShownBy (is_some C.ray) C.program f → GoesBy S P t g C rest m f a → So a
+    goes_fine (Ends (Clash c)) a s e = subst So (sym e) (leaf_by P C rest m ts h opened unopened leads (ClashAt c) (λ z w. clash_leaf C.program c z s))
+    goes_fine (Ends (Empty ms)) a s e = subst So (sym e) (leaf_by P C rest m ts h opened unopened leads (FarkasBy ms) (λ z w. farkas_leaf C.program ms z s))
+    goes_fine (Ends (Best b x ms)) a s p = best_fine b x ms a s.0 s.1 C.ray refl p
+    goes_fine (Ends (Endless x d)) a s (inl (j, f, e)) = subst So (sym e) (divide_by P C rest m ts h opened unopened leads j (let i = f.moving in i.branch))
+    goes_fine (Ends (Endless x d)) a s (inr (inl (none, f, e))) = given _ _ a e
+    goes_fine (Ends (Endless x d)) a s (inr (inr (r, none, scaled, p))) =
+        meets_fine g (record C { ray = Some r }) rest m ts h (open_along P C rest m is h.holds d r s.2 none scaled) unopened leads x [] a s.1 (λ e. cc) p
+    goes_fine (Ends TurnsOut) a s e = given _ _ a e
+    goes_fine (Ends (TooWide w)) a s e = given _ _ a e
+    goes_fine (Ends Stopped) a s e = given _ _ a e
+    goes_fine (Passed b ms) a s (p, e) = subst So (sym e) (leaf_by P C rest m ts h opened unopened leads (BoundBy ms) (passed_leaf P C rest m h.holds opened unopened b ms s.1 s.2 p))
 
-    -- and where the search ends
-    branches_go_on : (x : List Ratio) (o : Outcome) (d : Clock) → BranchesBy S P t g C rest m x (Out o d) → IsShown P o
-    branches_go_on x o d (inl (j, k, s, e)) = absurd (cc)
-    branches_go_on x o d (inr (j, s, e)) = absurd (cc)
-
-    tried_shown : (x : List Ratio) (trial : Trial) (o : Outcome) (d : Clock) → TriedBy S P t g C rest m x trial (Out o d) → IsShown P o
-    tried_shown x NoCut o d b = branches_go_on x o d b
-    tried_shown x WideCut o d e = given_shown P m h _ o d _ e
-    tried_shown x (Cut ms cs k) o d e = absurd (cc)
-
-    meets_shown : (D : Case) → IsOpen m.level.program D → (x : List Ratio) (ms : List Multiplier) (o : Outcome) (d : Clock) → IsRelaxed D.program x → MeetsBy S P t g D rest m x ms (Out o d) → IsShown P o
-    meets_shown D opens x ms o d relaxed (inl (inl (j, k, s, e))) = absurd (cc)
-    meets_shown D opens x ms o d relaxed (inl (inr (j, s, e))) = absurd (cc)
-    meets_shown D opens x ms o d relaxed (inr p) = takes_shown P m h t D rest opens x ms o d relaxed p
-
-    best_shown : (b : Ratio) (x : List Ratio) (ms : List Multiplier) (o : Outcome) (d : Clock) → IsRelaxed C.program x → (ray : Option (List Ratio)) → BestBy S P t ray g C rest m b x ms (Out o d) → IsShown P o
-    best_shown b x ms o d relaxed None (inl (p, e)) = absurd (cc)
-    best_shown b x ms o d relaxed None (inr (hope, inl (s, steps, p, e))) = absurd (cc)
-    best_shown b x ms o d relaxed None (inr (hope, inr (off, inl p))) = takes_shown P m h t C rest opened x ms o d relaxed p
-    best_shown b x ms o d relaxed None (inr (hope, inr (off, inr (inl (never, p))))) = branches_go_on x o d p
-    best_shown b x ms o d relaxed None (inr (hope, inr (off, inr (inr (ss, trial, may, other, e, tries, p))))) = tried_shown x trial o d p
-    best_shown b x ms o d relaxed (Some r) p = meets_shown C opened x ms o d relaxed p
-
-    goes_shown : (f : Finish) (o : Outcome) (d : Clock) → ShownBy (is_some C.ray) C.program f → GoesBy S P t g C rest m f (Out o d) → IsShown P o
-    goes_shown (Ends (Clash k)) o d s e = absurd (cc)
-    goes_shown (Ends (Empty ms)) o d s e = absurd (cc)
-    goes_shown (Ends (Best b x ms)) o d s p = best_shown b x ms o d s.0 C.ray p
-    goes_shown (Ends (Endless x y)) o d s (inl (j, f, e)) = absurd (cc)
-    goes_shown (Ends (Endless x y)) o d s (inr (inl (none, f, e))) = given_shown P m h _ o d _ e
-    goes_shown (Ends (Endless x y)) o d s (inr (inr (r, none, scaled, p))) =
-        meets_shown (record C { ray = Some r }) (open_along P C rest m is h y r s.2 none scaled) x [] o d s.1 p
-    goes_shown (Ends TurnsOut) o d s e = given_shown P m h _ o d _ e
-    goes_shown (Ends (TooWide w)) o d s e = given_shown P m h _ o d _ e
-    goes_shown (Ends Stopped) o d s e = given_shown P m h _ o d _ e
-    goes_shown (Passed b ms) o d s (p, e) = absurd (cc)
-
-  -- of what has a basis besides
-  on_is : (g : Given) (a : NextOfSearch) (n : MomentBy) → On n ≡ with_basis g a → a ≡ To n.moment
-  on_is g (To k) n e = cc
-  on_is g (Out o c) n e = absurd (cc)
-
-  off_is : (g : Given) (a : NextOfSearch) (o : Outcome) (c : Clock) → Off o c ≡ with_basis g a → a ≡ Out o c
-  off_is g (To k) o c e = absurd (cc)
-  off_is g (Out p d) o c e = cc
-
-  pub visit_true : (s : MomentBy) (f : Finish) (c : Clock) (b : Given) (v : IsRunOfCase S P t s f c b) → Holds P s.moment → ShownBy (is_some v.case.ray) v.case.program f
+  pub visit_true : (s : MomentBy) (f : Finish) (c : Clock) (b : Given) (v : IsRunOfCase S P t s f c b) → HoldsBy P s.moment s.turned → ShownBy (is_some v.case.ray) v.case.program f
   visit_true s f c b v h =
-      let opened = this P v.case v.rest s.moment v.is h in
+      let opened = this P v.case v.rest s.moment v.is h.holds in
       run_true S.runs v.case.program (is_some v.case.ray) t s.basis (best_value s.moment.level s.moment.best) (looked_once s.moment.clock) f c b legal.runs opened.case.numbers v.run
 
-  pub next_holds : (s n : MomentBy) → Holds P s.moment → IsNextBy S P t s (On n) → Holds P n.moment
-  next_holds s n h (inl (a, none, c, e)) = closes_hold P s.moment h none t n.moment s.moment.best s.moment.level.later refl refl (subst (λ a. ClosesLevel P t s.moment s.moment.best s.moment.level.later a) (on_is s.basis a n e) c)
-  next_holds s n h (inr (inl (a, some, p, e))) = absurd (stops_off (subst (λ a. StopsBefore P t s.moment a) (on_is s.basis a n e) p))
+  next_fine : (s : MomentBy) (n : NextBy) → HoldsBy P s.moment s.turned → IsNextBy S P t s n → IsFineNext P n
+  next_fine s n h (inl (a, none, c, e)) = subst (IsFineNext P) (sym e) (closes a c)
     where
-      stops_off : StopsBefore P t s.moment (To n.moment) → ⊥
-      stops_off (inl (limit, e)) = cc
-      stops_off (inr (within, stop, e)) = cc
-  next_holds s n h (inr (inr v)) =
+      closes : (a : NextOfSearch) → ClosesLevel P t (in_place s) s.moment.best s.moment.level.later a → IsFineNext P (with_basis s.basis [] a)
+      closes (To k) c = begun_by P k (closes_hold P (in_place s) (placed_holds P s.moment s.turned h none) none t k s.moment.best s.moment.level.later refl refl c) (closes_begin P t (in_place s) k s.moment.best s.moment.level.later c)
+      closes (Out o d) c = closes_shown P (in_place s) (placed_holds P s.moment s.turned h none) none t o d s.moment.best s.moment.level.later refl refl c
+  next_fine s n h (inr (inl (a, some, p, e))) = subst (IsFineNext P) (sym e) (stops a p)
+    where
+      stops : (a : NextOfSearch) → StopsBefore P t s.moment a → IsFineNext P (with_basis s.basis s.turned a)
+      stops (To k) (inl (limit, e)) = absurd (cc)
+      stops (To k) (inr (within, stop, e)) = absurd (cc)
+      stops (Out o d) p = stops_shown P s.moment h.holds t o d p
+  next_fine s n h (inr (inr v)) =
       let C = v.visit.case in
-      goes_hold v.basis C v.visit.rest (record (s.moment) { clock = v.clock }) v.visit.is (clocked P s.moment v.clock h) v.finish n.moment
-      (visit_true s v.finish v.clock v.basis v.visit h)
-      (subst (λ a. GoesBy S P t v.basis C v.visit.rest (record (s.moment) { clock = v.clock }) v.finish a) (on_is (kept_for (is_some C.ray) v.basis v.after) v.after n v.is) v.goes)
+      subst (IsFineNext P) (sym v.is)
+      (side_fine P (kept_for (is_some C.ray) v.basis v.after) s.turned (length s.moment.nodes) v.after
+      (goes_fine v.basis C v.visit.rest (record (s.moment) { clock = v.clock }) s.turned v.visit.is (record { holds = clocked P s.moment v.clock h.holds; below = h.below }) v.finish v.after
+      (visit_true s v.finish v.clock v.basis v.visit h) v.goes))
 
-  pub comes_hold : IsProblem P → (s : MomentBy) → ComesBy S P t s → Holds P s.moment
-  comes_hold n s begins = holds_first P n
+  pub next_holds : (s n : MomentBy) → HoldsBy P s.moment s.turned → IsNextBy S P t s (On n) → HoldsBy P n.moment n.turned
+  next_holds s n h p = next_fine s (On n) h p
+
+  pub next_shown : (s : MomentBy) (o : Outcome) (d : Clock) → HoldsBy P s.moment s.turned → IsNextBy S P t s (Off o d) → IsShown P o
+  next_shown s o d h p = next_fine s (Off o d) h p
+
+  pub first_by : IsProblem P → HoldsBy P (first P) []
+  first_by n = begun_by P (first P) (holds_first P n) refl
+
+  pub comes_hold : IsProblem P → (s : MomentBy) → ComesBy S P t s → HoldsBy P s.moment s.turned
+  comes_hold n s begins = first_by n
   comes_hold n s (goes_on {m = before} c next) = next_holds before s (comes_hold n before c) next
-
-  pub next_shown : (s : MomentBy) (o : Outcome) (d : Clock) → Holds P s.moment → IsNextBy S P t s (Off o d) → IsShown P o
-  next_shown s o d h (inl (a, none, c, e)) = closes_shown P s.moment h none t o d s.moment.best s.moment.level.later refl refl (subst (λ a. ClosesLevel P t s.moment s.moment.best s.moment.level.later a) (off_is s.basis a o d e) c)
-  next_shown s o d h (inr (inl (a, some, p, e))) = stops_shown P s.moment h t o d (subst (λ a. StopsBefore P t s.moment a) (off_is s.basis a o d e) p)
-  next_shown s o d h (inr (inr v)) =
-      let C = v.visit.case in
-      goes_shown v.basis C v.visit.rest (record (s.moment) { clock = v.clock }) v.visit.is (clocked P s.moment v.clock h) v.finish o d
-      (visit_true s v.finish v.clock v.basis v.visit h)
-      (subst (λ a. GoesBy S P t v.basis C v.visit.rest (record (s.moment) { clock = v.clock }) v.finish a) (off_is (kept_for (is_some C.ray) v.basis v.after) v.after o d v.is) v.goes)
 
   pub outcome_shown : (o : Outcome) (d : Clock) → IsProblem P → SearchBy S P t o d → IsShown P o
   outcome_shown o d n s = next_shown s.last o d (comes_hold n s.last s.comes) s.ends
 
   pub answer_shown : (o : Outcome) (d : Clock) → IsProblem P → IsAnswerBy S P t o d → IsShown P o
   answer_shown o d n (searched s) = outcome_shown o d n s
-  answer_shown o d n (given_up {m} c) = early_shown P m.moment (comes_hold n m c) m.moment.best _ refl
-  answer_shown o d n (given_up_after {m} c r) = early_shown P m.moment (comes_hold n m c) m.moment.best _ refl
+  answer_shown o d n (given_up {m} c) = let h = comes_hold n m c in early_shown P m.moment h.holds m.moment.best _ refl
+  answer_shown o d n (given_up_after {m} c r) = let h = comes_hold n m c in early_shown P m.moment h.holds m.moment.best _ refl

@@ -23,6 +23,10 @@ pub record Asked : Type 0 where
 abbrev pub nothing : Asked
 nothing = record { bound = false; gap = None }
 
+-- no gap, and the bound or not
+abbrev pub without_gap : Bool → Asked
+without_gap asks = record { bound = asks; gap = None }
+
 -- a sum for each open case: its constant and the ends of what it carries
 abbrev pub OpenSumsFit : List Case → List (List Multiplier) → Type 0
 OpenSumsFit [] mss = Unit {0}

@@ -109,7 +109,7 @@ module _ (I : Instance) (ss : List Status) (u : Entries) (x : List Ratio) where
   abbrev pub middle : ℕ → Ratio
   middle j = cond (is_none (sum (infinite (penalty j)) (finite (penalty j))).num) (let f = rest_of (value_at x j) in lesser_of f (to_one f)) none
 
-  -- the case of at least k + 1 is to come first where going up costs less; and where it costs as much as going down, from a value below 0: cases one in another then lead toward 0
+  -- the case of at least k + 1 comes first where going up costs less; and where it costs as much as going down, from a value below 0: cases one in another then lead toward 0
   abbrev pub goes_up : ℕ → Bool
   goes_up j = cond (is_cheaper (up_at j) (down_at j)) true (cond (is_cheaper (down_at j) (up_at j)) false (is_below (value_at x j) none))
 
@@ -140,6 +140,14 @@ pub record IsByPenalty (h : BranchView) (j : ℕ) (k : ℤ) : Type 0 where
   pub dictionary : HasDictionary h.case.program (is_some h.case.ray) statuses entries
   pub unbeaten : IsUnbeaten (width h.case.program) (IsFractional h.case.program statuses entries h.point) (BeatsBy h.case.program statuses entries h.point) j
 
+-- and going up costs less, or the same from a value below 0
+pub record IsByRise (h : BranchView) (j : ℕ) : Type 0 where
+  pub statuses : List Status
+  pub is : h.basis ≡ Some statuses
+  pub entries : Entries
+  pub dictionary : HasDictionary h.case.program (is_some h.case.ray) statuses entries
+  pub up : IsTrue (goes_up h.case.program statuses entries h.point j)
+
 -- g is the greatest step in which the goal's values go, in lowest terms; without costs there is none
 pub record IsStepOf (I : Instance) (g : Ratio) : Type 0 where
   pub step : HasStep I g
@@ -148,7 +156,7 @@ pub record IsStepOf (I : Instance) (g : Ratio) : Type 0 where
   pub greatest : (h : Ratio) → HasStep I h → IsAtMost h g
 
 abbrev pub fast_search : SearchRules
-fast_search = record { runs = fast; Splits = λ h j k. IsByPenalty h j k; Divides = λ h j. IsFirstUneither h j; Steps = λ I g. IsStepOf I g }
+fast_search = record { runs = fast; Splits = λ h j k. IsByPenalty h j k; Rises = λ h j. IsByRise h j; Divides = λ h j. IsFirstUneither h j; Steps = λ I g. IsStepOf I g }
 
 -- the search by the rules of this name
 abbrev pub search_rules_of : RuleName → SearchRules

@@ -1,5 +1,5 @@
 -- The search by rules from a point that is its best one from the start.
-use Rattle.std.specs.Prelude.{Option, None}
+use Rattle.std.specs.Prelude.{Option, None, []}
 use Rattle.evidence.specs.Instance.{Problem}
 use Rattle.certificate.specs.declared.causes.Cause.TheVariants.{Memory}
 use Rattle.simplex_rules.specs.Ends.{Terms, Clock}
@@ -13,7 +13,7 @@ use Rattle.search_rules.specs.RuleSearch.{SearchRules, MomentBy, On, Off, IsRunO
 module _ (S : SearchRules) (P : Problem) (t : Terms) (start : Option Found) where
   -- the moments of the search; in the beginning no run has ended
   pub data ComesFromBy : MomentBy → Type 0 where
-    begins : ComesFromBy (record { moment = first_with P start; basis = None })
+    begins : ComesFromBy (record { moment = first_with P start; basis = None; turned = [] })
     goes_on : {m n : MomentBy} → ComesFromBy m → IsNextBy S P t m (On n) → ComesFromBy n
 
   -- the search ends so, with this clock

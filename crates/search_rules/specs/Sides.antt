@@ -1,5 +1,5 @@
 -- In which order a certificate has the nodes of a search in which the second case of a split may come first.
-use Rattle.std.specs.Prelude.{◌≡◌, ℕ, ℤ, Bool, true, false, cond, List, [], ◌∷◌, ◌++◌}
+use Rattle.std.specs.Prelude.{◌≡◌, ℕ, suc, ℤ, Bool, true, false, cond, nat_eq, List, [], ◌∷◌, ◌++◌}
 use Rattle.evidence.specs.Cases.{Tree, Split, Zero, Node, ClashAt, FarkasBy, BoundBy, GridBy, FarkasByRows, BoundByRows, GridByRows, SplitAt, ZeroAt, preorder}
 
 -- a node as a search meets it, and whether the case of at least k + 1 comes first behind it
@@ -40,6 +40,20 @@ first_part (a ∷ rest) = a
 -- as the certificate has them: the case of at most k before the other one
 abbrev pub in_order : List Met → List Node
 in_order ms = first_part (parts_of ms)
+
+abbrev pub is_among : ℕ → List ℕ → Bool
+is_among i [] = false
+is_among i (k ∷ ks) = cond (nat_eq i k) true (is_among i ks)
+
+-- nodes from place i on, as they were met: the case of at least k + 1 came first behind those at these places
+abbrev pub sided : List ℕ → ℕ → List Node → List Met
+sided ts i [] = []
+sided ts i (n ∷ ns) = record { node = n; up = is_among i ts } ∷ sided ts (suc i) ns
+
+-- met nodes as a certificate has them; where that case came first behind none, they are so as they were met
+abbrev pub told : List ℕ → List Node → List Node
+told [] ns = ns
+told (t ∷ ts) ns = in_order (sided (t ∷ ts) 0 ns)
 
 -- a search meets the nodes of this tree so
 pub data IsMet : Tree → List Met → Type 0 where

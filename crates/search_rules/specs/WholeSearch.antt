@@ -31,6 +31,7 @@ abbrev pub whole_search : SearchRules
 whole_search = record {
   runs = bland;
   Splits = λ h j k. IsWholeSplit h.case.program h.point j k;
+  Rises = λ h j. ⊥;
   Divides = λ h j. ⊥;
   Steps = λ I g. ⊥;
 }

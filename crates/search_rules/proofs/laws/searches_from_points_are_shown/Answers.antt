@@ -1,4 +1,4 @@
-use Rattle.search_rules.proofs.FirstPoints.{from_shown, searches_once, plain_answer, answer_plain}
+use Rattle.search_rules.proofs.FirstPoints.{from_shown, searches_once, from_none, comes_from_none, plain_answer, answer_plain}
 use Rattle.search_rules.proofs.laws.searches_from_points_are_shown.Goals as goal
 
 pub returns-clause-shown : goal.returns-clause-shown
@@ -12,3 +12,9 @@ returns-clause-on c = λ P t o d a. plain_answer P t o d a
 
 pub returns-clause-back : goal.returns-clause-back
 returns-clause-back c = λ P t o d a. answer_plain P t o d a
+
+pub returns-clause-moments_on : goal.returns-clause-moments_on
+returns-clause-moments_on c = λ P t m comes. from_none P t m comes
+
+pub returns-clause-moments_back : goal.returns-clause-moments_back
+returns-clause-moments_back c = λ P t m comes. comes_from_none P t m comes
