@@ -3,8 +3,8 @@ use Rattle.std.proofs.Common.{◌≡◌, ◌∙◌, ℕ, inl, inr, ◌==◌, Boo
 use Rattle.std.specs.Prelude.{codes}
 use Rattle.tree_grammar.specs.Elements.{Nodes, none, Element, Event, Close, nodes_events, events}
 use Rattle.doc_tree.specs.Marks.{spread}
-use Rattle.doc_tree.specs.Reading.{Visits}
 use Rattle.tree_grammar.specs.Document.{Doc}
+use Rattle.document_tags.specs.Documents.{OfDocument}
 use Rattle.document_tags.specs.Texts.{IsDocument}
 use Rattle.document_tags.specs.Writing.{text_nodes, leaf, group, bare_root}
 use Rattle.fraction.specs.Frac.{ratio}
@@ -17,20 +17,21 @@ use Rattle.osol_grammar.specs.Back.{ComesBack}
 use Rattle.osol_grammar.proofs.WrittenText.{told_nodes, optimization, text_document, text_not_blank}
 use Rattle.handed_results.specs.declared.handed.Handed.{Handed}
 use Rattle.handed_results.specs.declared.handed.Handed.TheVariants.{Nothing}
-use Rattle.handed_results.specs.declared.standing.Place.TheVariants.{InRoot, InGeneral}
-use Rattle.handed_results.specs.declared.standing.Standing.{Standing}
-use Rattle.handed_results.specs.Leaving.{Leaves}
-use Rattle.handed_results.specs.Marked.{bare, start, left}
+use Rattle.handed_results.specs.declared.parse_state.Place.TheVariants.{InRoot, InGeneral}
+use Rattle.handed_results.specs.declared.parse_state.ParseState.{ParseState}
+use Rattle.mark_folds.specs.Folds.{IsFolded}
+use Rattle.handed_results.specs.Marked.{bare, start, left_by, left}
 use Rattle.handed_results.specs.Reading.{handed_by, MayHandIn, HandsIn}
 use Rattle.handed_results.proofs.Walks.{at, passed_left}
 
 -- what is left behind all marks is handed in, whatever the bytes are read as
-may_hand_in : (limit : ℕ) (bytes : List ℕ) (first s : Standing) (h : Handed) → first ≡ start → ((a b : Element) → Doc bytes a → Doc bytes b → a ≡ b) → h ≡ bare s.handed → Visits (λ ms. Leaves first s ms) limit bytes → MayHandIn bytes h
-may_hand_in limit bytes first s h begins one is visits = λ root doc.
-    is ∙ ap (λ (z : Standing). bare z.handed) (visits.told ∙ ap (λ (z : Standing). left z (spread (events visits.element))) begins) ∙ ap handed_by (one visits.element root visits.document doc.document)
+may_hand_in : (bytes : List ℕ) (first s : ParseState) (h : Handed) → first ≡ start → ((a b : Element) → Doc bytes a → Doc bytes b → a ≡ b) → h ≡ bare s.handed → OfDocument (IsFolded left_by first) bytes s → MayHandIn bytes h
+may_hand_in bytes first s h begins one is read = λ root doc.
+    let own = read.document in
+    is ∙ ap (λ (z : ParseState). bare z.handed) (read.is ∙ ap (λ (z : ParseState). left z (spread (events read.root))) begins) ∙ ap handed_by (one read.root root own.document doc.document)
 
-pub document_hands : (limit : ℕ) (bytes : List ℕ) (first s : Standing) (h : Handed) → (IsBlank bytes → ⊥) → first ≡ start → ((a b : Element) → Doc bytes a → Doc bytes b → a ≡ b) → h ≡ bare s.handed → Visits (λ ms. Leaves first s ms) limit bytes → HandsIn bytes h
-document_hands limit bytes first s h some begins one is visits = record { document = λ other. may_hand_in limit bytes first s h begins one is visits; blank = λ is_blank. absurd (some is_blank) }
+pub document_hands : (bytes : List ℕ) (first s : ParseState) (h : Handed) → (IsBlank bytes → ⊥) → first ≡ start → ((a b : Element) → Doc bytes a → Doc bytes b → a ≡ b) → h ≡ bare s.handed → OfDocument (IsFolded left_by first) bytes s → HandsIn bytes h
+document_hands bytes first s h some begins one is read = record { document = λ other. may_hand_in bytes first s h begins one is read; blank = λ is_blank. absurd (some is_blank) }
 
 -- a text that isn't empty has a character
 pub is_some : (b : Bool) (text : List ℕ) → b ≡ (length text == 0) → b ≡ false → text ≡ [] → ⊥
@@ -63,7 +64,7 @@ after_job (Some name) more k = passed_left (text_nodes name) (codes "jobID") InG
 nothing_by : (o : Options) → handed_by (bare_root (codes "osol") (options_nodes o)) ≡ Nothing
 nothing_by o =
     let k : List Event = Close (codes "osol") ∷ [] in
-    ap (λ (z : Standing). bare z.handed) (after_job o.job (time_nodes o.seconds (optimization o)) k ∙ after_time o.seconds (optimization o) k ∙ after_optimization o k)
+    ap (λ (z : ParseState). bare z.handed) (after_job o.job (time_nodes o.seconds (optimization o)) k ∙ after_time o.seconds (optimization o) k ∙ after_optimization o k)
 
 pub nothing_written : (o : Options) (h : Handed) → ComesBack o → HandsIn (options_text o) h → h ≡ Nothing
 nothing_written o h back hands = hands.document (text_not_blank o) (bare_root (codes "osol") (options_nodes o)) (text_document o back) ∙ nothing_by o

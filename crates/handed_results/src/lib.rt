@@ -9,8 +9,8 @@
 
 mod handed;
 mod laws;
+mod parse_state;
 mod reading;
-mod standing;
 
 pub use handed::Handed;
 pub use laws::{options_hand_in_one, written_options_hand_in_nothing};

@@ -6,17 +6,17 @@ use Rattle.std.proofs.lemmas.Slice.Eq.{bytes_eq-Decides}
 use Rattle.tree_grammar.specs.Document.{Doc}
 use Rattle.tree_grammar.specs.Elements.{Nodes, none, element, chars, Element, events}
 use Rattle.doc_tree.specs.Marks.{spread}
-use Rattle.doc_tree.specs.Reading.{Visits}
+use Rattle.document_tags.specs.Documents.{OfDocument}
 use Rattle.document_tags.specs.Elements.{named, children_named}
 use Rattle.document_tags.specs.OneChild.{only_one}
 use Rattle.document_tags.specs.Rests.{child_elements}
 use Rattle.osrl_writing.specs.declared.told_names.NameLists.{NameLists}
 use Rattle.osrl_writing.specs.Labels.{Labels}
-use Rattle.instance_names.specs.declared.standing.PartNames.{PartNames}
-use Rattle.instance_names.specs.declared.standing.PartNames.TheVariants.{Nothing, Plainly, Badly}
-use Rattle.instance_names.specs.declared.standing.Standing.{Standing}
-use Rattle.instance_names.specs.Leaving.{Leaves}
-use Rattle.instance_names.specs.Marked.{begun, with_item, item_begun, labels, again, start, left, found}
+use Rattle.instance_names.specs.declared.parse_state.PartNames.{PartNames}
+use Rattle.instance_names.specs.declared.parse_state.PartNames.TheVariants.{Nothing, Plainly, Badly}
+use Rattle.instance_names.specs.declared.parse_state.ParseState.{ParseState}
+use Rattle.mark_folds.specs.Folds.{IsFolded}
+use Rattle.instance_names.specs.Marked.{begun, with_item, item_begun, labels, again, start, left_by, left, found}
 use Rattle.instance_names.specs.Reading.{is_single, name_of, names_in, part_names, document_names, MayGiveNames}
 use Rattle.instance_names.proofs.Walks.{items_told, part_told, data_variables, data_rows, child_told, root_told, variables_told, rows_told}
 
@@ -149,6 +149,7 @@ names_found root =
     (ap labels (rows_told root) ∙ root_names data_rows (codes "constraints") (codes "con") root rows_are)
 
 -- behind the marks of a document its names are found, whatever it is read as
-pub may_be_found : (limit : ℕ) (bytes : List ℕ) (first s : Standing) (ns : NameLists) → first ≡ start → ((a b : Element) → Doc bytes a → Doc bytes b → a ≡ b) → ns ≡ found s → Visits (λ ms. Leaves first s ms) limit bytes → MayGiveNames bytes ns
-may_be_found limit bytes first s ns begins one is visits = λ root doc.
-    is ∙ ap found (visits.told ∙ ap (λ (z : Standing). left z (spread (events visits.element))) begins) ∙ names_found visits.element ∙ ap document_names (one visits.element root visits.document doc.document)
+pub may_be_found : (bytes : List ℕ) (first s : ParseState) (ns : NameLists) → first ≡ start → ((a b : Element) → Doc bytes a → Doc bytes b → a ≡ b) → ns ≡ found s → OfDocument (IsFolded left_by first) bytes s → MayGiveNames bytes ns
+may_be_found bytes first s ns begins one is read = λ root doc.
+    let own = read.document in
+    is ∙ ap found (read.is ∙ ap (λ (z : ParseState). left z (spread (events read.root))) begins) ∙ names_found read.root ∙ ap document_names (one read.root root own.document doc.document)

@@ -3,39 +3,32 @@ use Rattle.std.proofs.Common.{◌≡◌, ◌∙◌, ℕ, suc, ◌+◌, ◌-◌, 
 use Rattle.std.specs.Prelude.{codes}
 use Rattle.tree_grammar.specs.Elements.{Nodes, none, element, chars, Element, Event, Close, events, nodes_events}
 use Rattle.doc_tree.specs.Marks.{Mark, Char, spread}
-use Rattle.instance_names.specs.declared.standing.PartNames.{PartNames}
-use Rattle.instance_names.specs.declared.standing.PartNames.TheVariants.{Nothing}
-use Rattle.instance_names.specs.declared.standing.Place.{Place}
-use Rattle.instance_names.specs.declared.standing.Place.TheVariants.{InRoot, InData, InVariables, InRows}
-use Rattle.instance_names.specs.declared.standing.Standing.{Standing}
-use Rattle.instance_names.specs.Marked.{begun, again, item_begun, start, left}
+use Rattle.instance_names.specs.declared.parse_state.PartNames.{PartNames}
+use Rattle.instance_names.specs.declared.parse_state.PartNames.TheVariants.{Nothing}
+use Rattle.instance_names.specs.declared.parse_state.Place.{Place}
+use Rattle.instance_names.specs.declared.parse_state.Place.TheVariants.{InRoot, InData, InVariables, InRows}
+use Rattle.instance_names.specs.declared.parse_state.ParseState.{ParseState}
+use Rattle.mark_folds.proofs.PassedOver.{nodes_passed}
+use Rattle.instance_names.specs.Marked.{begun, again, item_begun, start, left_by, left}
 
-abbrev at : Place → ℕ → Bool → PartNames → PartNames → Standing
+abbrev at : Place → ℕ → Bool → PartNames → PartNames → ParseState
 at place over had vs rs = record { place = place; over = over; has_data = had; variables = vs; rows = rs }
 
 -- characters say nothing, also before other marks
-pub chars_alone : (text : List ℕ) (s : Standing) → left s (map Char text) ≡ s
+pub chars_alone : (text : List ℕ) (s : ParseState) → left s (map Char text) ≡ s
 chars_alone [] s = refl
 chars_alone (c ∷ cs) s = chars_alone cs s
 
-chars_left : (text : List ℕ) (s : Standing) (k : List Mark) → left s (map Char text ++ k) ≡ left s k
+chars_left : (text : List ℕ) (s : ParseState) (k : List Mark) → left s (map Char text ++ k) ≡ left s k
 chars_left [] s k = refl
 chars_left (c ∷ cs) s k = chars_left cs s k
 
 -- ---- in an element that is passed over
 
 over_left : (ns : Nodes) (place : Place) (d : ℕ) (had : Bool) (vs rs : PartNames) (k : List Event) → left (at place (suc d) had vs rs) (spread (nodes_events ns k)) ≡ left (at place (suc d) had vs rs) (spread k)
-over_left none place d had vs rs k = refl
-over_left (chars text more) place d had vs rs k = chars_left text (at place (suc d) had vs rs) (spread (nodes_events more k)) ∙ over_left more place d had vs rs k
-over_left (element name as' inside more) place d had vs rs k =
-    let inner : List Event = nodes_events inside (Close name ∷ nodes_events more k) in
-    let outer : List Event = nodes_events more k in
-    let one_more : suc d + 1 ≡ suc (suc d) = add-one (suc d) in
-    let one_less : suc (suc d) - 1 ≡ suc d = omega arith in
-    ap (λ (n : ℕ). left (at place n had vs rs) (spread inner)) one_more
-    ∙ over_left inside place (suc d) had vs rs (Close name ∷ outer)
-    ∙ ap (λ (n : ℕ). left (at place n had vs rs) (spread outer)) one_less
-    ∙ over_left more place d had vs rs k
+over_left ns place d had vs rs k =
+    nodes_passed left_by (λ n. at place (suc n) had vs rs) (λ n c. refl) (λ n name as'. ap (λ (m : ℕ). at place m had vs rs) (add-one (suc n)))
+    (λ n name. let one_less : suc (suc n) - 1 ≡ suc n = omega arith in ap (λ (m : ℕ). at place m had vs rs) one_less) ns d k
 
 -- one whole element that is passed over
 passed_left : (inside : Nodes) (name : List ℕ) (place : Place) (had : Bool) (vs rs : PartNames) (k : List Event) → left (at place 1 had vs rs) (spread (nodes_events inside (Close name ∷ k))) ≡ left (at place 0 had vs rs) (spread k)
@@ -129,7 +122,7 @@ root_left (element name as' inside more) had vs rs k =
 -- ---- the document
 
 pub variables_told : (root : Element) → (left start (spread (events root))).variables ≡ root_told data_variables false Nothing root.children
-variables_told root = ap (λ (s : Standing). s.variables) (root_left root.children false Nothing Nothing (Close root.name ∷ []))
+variables_told root = ap (λ (s : ParseState). s.variables) (root_left root.children false Nothing Nothing (Close root.name ∷ []))
 
 pub rows_told : (root : Element) → (left start (spread (events root))).rows ≡ root_told data_rows false Nothing root.children
-rows_told root = ap (λ (s : Standing). s.rows) (root_left root.children false Nothing Nothing (Close root.name ∷ []))
+rows_told root = ap (λ (s : ParseState). s.rows) (root_left root.children false Nothing Nothing (Close root.name ∷ []))

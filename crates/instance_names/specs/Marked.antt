@@ -3,13 +3,14 @@ use Rattle.std.specs.Prelude.{ℕ, zero, suc, ◌+◌, ◌-◌, Bool, true, fals
 use Rattle.tree_grammar.specs.Elements.{Attribute}
 use Rattle.doc_tree.specs.Marks.{Mark, Start, Char, Finish}
 use Rattle.document_tags.specs.Elements.{value_of}
+use Rattle.mark_folds.specs.Folds.{folded}
 use Rattle.osrl_writing.specs.declared.told_names.NameLists.{NameLists}
 use Rattle.osrl_writing.specs.Labels.{Labels}
-use Rattle.instance_names.specs.declared.standing.PartNames.{PartNames}
-use Rattle.instance_names.specs.declared.standing.PartNames.TheVariants.{Nothing, Plainly, Badly}
-use Rattle.instance_names.specs.declared.standing.Place.{Place}
-use Rattle.instance_names.specs.declared.standing.Place.TheVariants.{Outside, InRoot, InData, InVariables, InRows}
-use Rattle.instance_names.specs.declared.standing.Standing.{Standing}
+use Rattle.instance_names.specs.declared.parse_state.PartNames.{PartNames}
+use Rattle.instance_names.specs.declared.parse_state.PartNames.TheVariants.{Nothing, Plainly, Badly}
+use Rattle.instance_names.specs.declared.parse_state.Place.{Place}
+use Rattle.instance_names.specs.declared.parse_state.Place.TheVariants.{Outside, InRoot, InData, InVariables, InRows}
+use Rattle.instance_names.specs.declared.parse_state.ParseState.{ParseState}
 use Rattle.instance_names.specs.Reading.{is_one}
 
 -- a part begins once more
@@ -31,26 +32,26 @@ labels (Plainly names) = names
 labels Badly = []
 
 -- before all marks
-abbrev pub start : Standing
+abbrev pub start : ParseState
 start = record { place = Outside; over = 0; has_data = false; variables = Nothing; rows = Nothing }
 
 -- what a start tag leaves that is passed over
-abbrev pub passed : Standing → Standing
+abbrev pub passed : ParseState → ParseState
 passed s = record s { over = s.over + 1 }
 
 -- that of data: where there were data before, no part has names
 abbrev pub again : Bool → PartNames → PartNames
 again had part = cond had Badly part
 
-abbrev pub data_begun : Standing → Standing
+abbrev pub data_begun : ParseState → ParseState
 data_begun s = record { place = InData; over = s.over; has_data = true; variables = again s.has_data s.variables; rows = again s.has_data s.rows }
 
 -- one in the root: all but data are passed over
-abbrev pub child_begun : Standing → List ℕ → Standing
+abbrev pub child_begun : ParseState → List ℕ → ParseState
 child_begun s name = cond (bytes_eq name (codes "instanceData")) (data_begun s) (passed s)
 
 -- one in data: all but the two parts are passed over
-abbrev pub part_begun : Standing → List ℕ → Standing
+abbrev pub part_begun : ParseState → List ℕ → ParseState
 part_begun s name =
     cond (bytes_eq name (codes "variables"))
     (record s { place = InVariables; variables = begun s.variables })
@@ -61,7 +62,7 @@ abbrev pub item_begun : (item : List ℕ) → List ℕ → List Attribute → Pa
 item_begun item name as' part = cond (bytes_eq name item) (with_item as' part) part
 
 -- one in an element that is read
-abbrev pub begins_in : Place → Standing → List ℕ → List Attribute → Standing
+abbrev pub begins_in : Place → ParseState → List ℕ → List Attribute → ParseState
 begins_in Outside s name as' = record s { place = InRoot }
 begins_in InRoot s name as' = child_begun s name
 begins_in InData s name as' = part_begun s name
@@ -69,7 +70,7 @@ begins_in InVariables s name as' = passed (record s { variables = item_begun (co
 begins_in InRows s name as' = passed (record s { rows = item_begun (codes "con") name as' s.rows })
 
 -- one where so many elements are open that are passed over
-abbrev pub begins_over : ℕ → Standing → List ℕ → List Attribute → Standing
+abbrev pub begins_over : ℕ → ParseState → List ℕ → List Attribute → ParseState
 begins_over zero s name as' = begins_in s.place s name as'
 begins_over (suc d) s name as' = passed s
 
@@ -81,20 +82,19 @@ around InData = InRoot
 around InVariables = InData
 around InRows = InData
 
-abbrev pub ends_over : ℕ → Standing → Standing
+abbrev pub ends_over : ℕ → ParseState → ParseState
 ends_over zero s = record s { place = around s.place }
 ends_over (suc d) s = record s { over = s.over - 1 }
 
 -- what marks leave; characters say nothing of names
-abbrev pub left_by : Standing → Mark → Standing
+abbrev pub left_by : ParseState → Mark → ParseState
 left_by s (Start name as') = begins_over s.over s name as'
 left_by s (Char c) = s
 left_by s (Finish name) = ends_over s.over s
 
-abbrev pub left : Standing → List Mark → Standing
-left s [] = s
-left s (m ∷ ms) = left (left_by s m) ms
+abbrev pub left : ParseState → List Mark → ParseState
+left s marks = folded left_by s marks
 
 -- the names that were found
-abbrev pub found : Standing → NameLists
+abbrev pub found : ParseState → NameLists
 found s = record { variables = labels s.variables; rows = labels s.rows }

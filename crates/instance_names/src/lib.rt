@@ -6,8 +6,8 @@
 #![tactic(auto)]
 
 mod laws;
+mod parse_state;
 mod reading;
-mod standing;
 
 pub use laws::names_are_of_characters;
 pub use reading::read_names;

@@ -115,7 +115,7 @@ fn check_process(alloc: Global, call: &SoapCall, options: &Options) -> Result<()
 }
 
 /// What a call with these options asks.
-fn asked_by(call: SoapCall, options: &Options) -> Order
+fn order_with(call: SoapCall, options: &Options) -> Order
     ensures { IsAsked call options.now result }
 {
     let SoapCall { kind, parts } = call;
@@ -142,7 +142,7 @@ fn order_of(alloc: Global, call: SoapCall) -> Result<Order, OrderFault>
         Err(none) => return Err(none),
     };
     match check_process(alloc, &call, &options) {
-        Ok(()) => Ok(asked_by(call, &options)),
+        Ok(()) => Ok(order_with(call, &options)),
         Err(none) => Err(none),
     }
 }

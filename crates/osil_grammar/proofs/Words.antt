@@ -51,10 +51,10 @@ pub use Rattle.osil_grammar.specs.Refusals.{Refusal, number}
 pub use Rattle.osil_grammar.specs.Runs.{AreSame, ratio_at, ratio_run, whole_run}
 pub use Rattle.osil_grammar.specs.Saying.{IsEndText, IsLetterOf, IsOfDomain, SaysConstant, SaysDomain, SaysHigh, SaysIndex, SaysLow, SaysRow, SaysRowLow, SaysSense, SaysStep, SaysTimes, SaysWholeStep, letter_names, letters, senses}
 pub use Rattle.osil_grammar.specs.Sound.{AreCostsAt, AreGoals, AreGoalsLate, AreItems, AreWithin, HasGoals, HasGoalsIn, IsGoalOpen, IsInPart, IsSound, IsSoundAt, IsSoundIn, IsSoundSoFar, part_in}
-pub use Rattle.osil_grammar.specs.Standing.{State, start}
+pub use Rattle.osil_grammar.specs.ParseState.{State, start}
 pub use Rattle.osil_grammar.specs.Stepping.{BeginsAt, EndAnswers, EndsAt, IsNear, IsStepRun, IsTooFar, StepsAt, Stop, told_of, unread_refusal}
 pub use Rattle.osil_grammar.specs.Storing.{AreJoined, AreStored, AreSumsAt, line_entries, lists_of, matrix_lists, wholes}
-pub use Rattle.osil_grammar.specs.Table.{Kind, Test, ToldRefusal, around, attributes, bad, bad_text, begins, content, count_name, end_ordinal, ends, fields, great_cost, great_end, great_run, great_text, has, high_infinite, kind, leads, list_row, low_infinite, mark_name, no_index, no_sense, no_type, no_variable, numbers, other_count, otherwise, out_of_range, part_row, refusal, tests, text, too_great, too_many}
+pub use Rattle.osil_grammar.specs.Table.{Kind, Test, ToldRefusal, around, attributes, bad, bad_text, begins, content, count_name, end_ordinal, ends, fields, great_cost, great_end, great_run, great_text, has, high_infinite, kind, leads, list_rank, low_infinite, mark_name, no_index, no_sense, no_type, no_variable, numbers, other_count, otherwise, out_of_range, part_row, refusal, tests, text, too_great, too_many}
 pub use Rattle.osil_grammar.specs.Telling.{EndAttributes, EndsHaveTexts, LacksDecimal, Wrote, WroteRoot}
 pub use Rattle.osil_grammar.specs.VarTags.{IsVar, SaysVar, WritesVar, type_text, var_attributes, var_fields}
 pub use Rattle.osil_grammar.specs.Writing.{CountsCosts, EndHasText, GoalHasDecimals, HasDecimal, HasDecimals, IsWrittenText, WriteCosts, WriteGoals, WriteLists, WriteRows, WriteValues, WriteVars, WritesGoal, WritesInstance, counts_nodes, entries_below, holding_text, row_starts, sense_text}

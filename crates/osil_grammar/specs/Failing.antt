@@ -26,7 +26,7 @@ use Rattle.osil_grammar.specs.Matrix.{Lists, stored, HasWidePlace}
 use Rattle.osil_grammar.specs.Storing.{matrix_lists, Divide}
 use Rattle.osil_grammar.specs.Grammars.{IsOfGrammar, IsWideOf, HasSuch, IsBad, IsTooGreat}
 use Rattle.osil_grammar.specs.Saying.{senses, SaysTimes, SaysConstant, letter_names}
-use Rattle.osil_grammar.specs.Standing.{State}
+use Rattle.osil_grammar.specs.ParseState.{State}
 use Rattle.osil_grammar.specs.Table.{Test, other_root, no_data, no_variables, some_lists, beyond, in_further, second_data, late, late_list, no_index, has, no_sense, bad, bad_text, too_great, great_text, great_end, great_run, great_cost, great_entry, other_count, other_coefs, other_indices, no_variable, out_of_range, undivided, no_type, low_infinite, high_infinite, too_many, attributes}
 
 -- THE LIMITS: as many rows as columns, which are the lines that a matrix is stored by

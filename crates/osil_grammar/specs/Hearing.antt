@@ -17,7 +17,7 @@ use Rattle.osil_grammar.specs.declared.elements.Place.{Place}
 use Rattle.osil_grammar.specs.declared.elements.Place.TheVariants as places
 use Rattle.osil_grammar.specs.declared.elements.Part.TheVariants as parts
 use Rattle.osil_grammar.specs.declared.stop.Refused.{Refused}
-use Rattle.osil_grammar.specs.Standing.{State, start}
+use Rattle.osil_grammar.specs.ParseState.{State, start}
 use Rattle.osil_grammar.specs.Marked.{osil}
 use Rattle.osil_grammar.specs.Stepping.{told_of}
 use Rattle.osil_grammar.specs.Sound.{IsSound, HasGoals}

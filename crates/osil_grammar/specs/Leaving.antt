@@ -29,8 +29,8 @@ use Rattle.osil_grammar.specs.Meaning.{AreEntriesOf}
 use Rattle.osil_grammar.specs.Grammars.{SaysCount, nought}
 use Rattle.osil_grammar.specs.Saying.{SaysTimes, SaysConstant, SaysStep, SaysWholeStep, SaysRow, SaysSense, SaysIndex}
 use Rattle.osil_grammar.specs.VarTags.{SaysVar}
-use Rattle.osil_grammar.specs.Standing.{State}
-use Rattle.osil_grammar.specs.Table.{Kind, begins, text, ends, attributes, mark_name, part_row, list_row, count_name, around}
+use Rattle.osil_grammar.specs.ParseState.{State}
+use Rattle.osil_grammar.specs.Table.{Kind, begins, text, ends, attributes, mark_name, part_row, list_rank, count_name, around}
 use Rattle.osil_grammar.specs.Failing.{lists_so_far}
 
 -- a start tag is gone past, into this element; an end tag out of it
@@ -69,7 +69,7 @@ Begins s m Obj z = (sense : Sense) × (constant : Frac) × (d : Option ℕ) × (
     × (z ≡ record (into s Obj) { obj_at = s.count + 1; times = n; coefs = 0; declared_coefs = d; sense = sense; constant = constant; costs = replicate (length s.vars) nought })
 Begins s m Coef z = (j : ℕ) × SaysIndex (attributes m) j × (z ≡ record (into s Coef) { coefs = s.coefs + 1; variable = j; text = [] })
 Begins s m Con z = (r : Row) × (n : ℕ) × SaysRow (attributes m) r × SaysTimes (attributes m) n × (z ≡ record (into s Con) { rows = s.rows ++ replicate n r })
-Begins s m (Listed l) z = z ≡ record (with_list (into s (Listed l)) l) { list = list_row l; lists = s.lists + 1 }
+Begins s m (Listed l) z = z ≡ record (with_list (into s (Listed l)) l) { list = list_rank l; lists = s.lists + 1 }
 Begins s m (El l) z = SaysRun l (attributes m) (into s (El l)) z
 Begins s m p z = z ≡ into s p
 

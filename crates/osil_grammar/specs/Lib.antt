@@ -9,7 +9,7 @@ pub mod Orders
 pub mod Storing
 pub mod Telling
 pub mod Grammars
-pub mod Standing
+pub mod ParseState
 pub mod Table
 pub mod Saying
 pub mod VarTags

@@ -9,7 +9,7 @@ use Rattle.instance.specs.declared.parts.Sense.TheVariants.{Min}
 use Rattle.instance.specs.Parts.{Parts}
 use Rattle.osil_grammar.specs.Refusals.{Refusal}
 use Rattle.osil_grammar.specs.Grammars.{nought}
-use Rattle.osil_grammar.specs.Standing.{State, start}
+use Rattle.osil_grammar.specs.ParseState.{State, start}
 use Rattle.osil_grammar.specs.Table.{Test, ToldRefusal, kind, tests, told}
 use Rattle.osil_grammar.specs.Failing.{Fails}
 use Rattle.osil_grammar.specs.Leaving.{Leaves}

@@ -10,7 +10,7 @@ use Rattle.instance.specs.Parts.{AreEnds, IsAscending, IsInside}
 use Rattle.osil_grammar.specs.declared.elements.Place.{Place}
 use Rattle.osil_grammar.specs.declared.elements.Place.TheVariants as places
 use Rattle.osil_grammar.specs.declared.elements.Place.TheVariants.{Obj, Coef, El}
-use Rattle.osil_grammar.specs.Standing.{State}
+use Rattle.osil_grammar.specs.ParseState.{State}
 use Rattle.osil_grammar.specs.Table.{part_row}
 use Rattle.osil_grammar.specs.Failing.{most, most_lines, list_length}
 use Rattle.osil_grammar.specs.VarTags.{IsVar}

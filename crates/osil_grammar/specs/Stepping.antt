@@ -25,7 +25,7 @@ use Rattle.osil_grammar.specs.Refusals as refusals
 use Rattle.osil_grammar.specs.Refusals.{Refusal}
 use Rattle.osil_grammar.specs.Reading.{told_refusal}
 use Rattle.osil_grammar.specs.Runs.{ratio_run, ratio_at, AreSame}
-use Rattle.osil_grammar.specs.Standing.{State}
+use Rattle.osil_grammar.specs.ParseState.{State}
 use Rattle.osil_grammar.specs.Table.{begins, ends, Test, ToldRefusal, tests, refusal, begin_ordinal, end_ordinal}
 use Rattle.osil_grammar.specs.Failing.{Fails}
 use Rattle.osil_grammar.specs.Leaving.{Ends, Leaves}

@@ -19,7 +19,7 @@ use Rattle.osil_grammar.specs.Refusals.{Refusal}
 use Rattle.osil_grammar.specs.Grammars.{Grammar, count, whole, decimal, Field, field}
 pub use Rattle.osil_grammar.specs.Grammars.{lb, ub, mult}
 use Rattle.osil_grammar.specs.VarTags.{var_fields}
-use Rattle.osil_grammar.specs.Standing.{State}
+use Rattle.osil_grammar.specs.ParseState.{State}
 
 -- WHAT MAY STAND IN WHAT: the child elements that are read
 abbrev pub content : Place → List (Child Place)
@@ -85,11 +85,11 @@ part_row Objectives = 2
 part_row Constraints = 3
 part_row Coefficients = 4
 
-abbrev pub list_row : Listing → ℕ
-list_row Starts = 1
-list_row RowIndices = 2
-list_row ColumnIndices = 2
-list_row Values = 3
+abbrev pub list_rank : Listing → ℕ
+list_rank Starts = 1
+list_rank RowIndices = 2
+list_rank ColumnIndices = 2
+list_rank Values = 3
 
 -- the attribute in which a part declares how many items it has
 abbrev pub count_name : Part → List ℕ
@@ -160,7 +160,7 @@ tests (begins (To Var)) = numbers Var ++ (no_type ∷ low_infinite ∷ high_infi
 tests (begins (To Obj)) = no_sense ∷ (numbers Obj ++ (too_many Obj ∷ []))
 tests (begins (To Coef)) = no_index ∷ has (codes "mult") ∷ has (codes "incr") ∷ (numbers Coef ++ (no_variable ∷ []))
 tests (begins (To Con)) = numbers Con ++ (great_end (codes "lb") ∷ great_end (codes "ub") ∷ low_infinite ∷ high_infinite ∷ too_many Con ∷ [])
-tests (begins (To (Listed l))) = late_list (list_row l) ∷ []
+tests (begins (To (Listed l))) = late_list (list_rank l) ∷ []
 tests (begins (To (El l))) = numbers (El l) ++ (too_many (El l) ∷ [])
 tests (begins (To p)) = []
 tests text = []

@@ -3,14 +3,14 @@
 ghost use Rattle.std.specs.Prelude.{◌≡◌, ◌≤◌, ◌++◌, [], List, ℕ, None, Ok, Err, Some, OnOk, IfOk, IfErr, MatchOption, MatchResult};
 ghost use Rattle.doc_tree.specs.Relieved.{NoMarkWaits};
 ghost use Rattle.doc_tree.specs.declared.fault.TreeFault.{TreeFault};
-ghost use Rattle.osil_grammar.specs.Standing as states;
+ghost use Rattle.osil_grammar.specs.ParseState as states;
 ghost use Rattle.osil_grammar.specs.Marked.{instance_of};
 ghost use Rattle.osil_grammar.specs.Reading.{IsInstanceText, DecodeFails};
 ghost use Rattle.osil_grammar.specs.Hearing as hearing;
 ghost use Rattle.osil_grammar.specs.Hearing.{WasFed, tree_fault};
 
 use crate::fault::OsilFault;
-use crate::standing::Standing;
+use crate::parse_state::ParseState;
 use crate::stop::{Refused, Stop};
 use doc_tree::TreeFault;
 use element_tree::Attributes;
@@ -22,29 +22,29 @@ use tag_tests::{Decoder as MarkDecoder, MarkReader};
 /// What the marks so far leave, which makes an instance as far as it goes. Where one isn't taken it holds nothing.
 #[derive(Drop)]
 struct Reader {
-    standing: Standing,
+    parse_state: ParseState,
 }
 
 impl Model for Reader {
-    ghost use Rattle.osil_grammar.specs.Standing.{State};
+    ghost use Rattle.osil_grammar.specs.ParseState.{State};
     ghost use Rattle.osil_grammar.specs.Hearing.{MakesSoFar};
 
     ghost Value = { State };
 
-    ghost view = { λ r. r.standing };
+    ghost view = { λ r. r.parse_state };
 
-    ghost invariant = { λ r. MakesSoFar r.standing };
+    ghost invariant = { λ r. MakesSoFar r.parse_state };
 }
 
 /// What a mark came to. Behind one that isn't taken nothing is held.
-fn keep(alloc: Global, standing: &mut Standing, step: Result<(), Stop>) -> Result<(), Stop>
+fn keep(alloc: Global, parse_state: &mut ParseState, step: Result<(), Stop>) -> Result<(), Stop>
     ensures told { result ≡ step }
-    ensures held { MatchResult step (λ _. standing.new ≡ standing.old) (λ _. standing.new ≡ states.start) }
+    ensures held { MatchResult step (λ _. parse_state.new ≡ parse_state.old) (λ _. parse_state.new ≡ states.start) }
 {
     match step {
         Ok(()) => Ok(()),
         Err(stop) => {
-            *standing = Standing::new(alloc);
+            *parse_state = ParseState::new(alloc);
             Err(stop)
         }
     }
@@ -56,7 +56,7 @@ impl Reader {
         ensures { result ≡ states.start }
     {
         Reader {
-            standing: Standing::new(alloc),
+            parse_state: ParseState::new(alloc),
         }
     }
 
@@ -65,14 +65,14 @@ impl Reader {
         ensures is { result ≡ hearing.held self.now }
         ensures few { result ≤ 211009 }
     {
-        self.standing.numbers()
+        self.parse_state.numbers()
     }
 
     /// The instance that the marks say.
     fn instance(self) -> Result<Instance, AllocError>
         ensures { IfOk result (λ p. p ≡ instance_of self) }
     {
-        self.standing.instance()
+        self.parse_state.instance()
     }
 }
 
@@ -101,26 +101,26 @@ impl MarkReader<Refused> for Reader {
         name: &[u8],
         attributes: &Attributes<'_>,
     ) -> Result<(), Stop> {
-        if self.standing.is_full() {
+        if self.parse_state.is_full() {
             return Err(Stop::Memory);
         }
-        let step = self.standing.enter(name, attributes);
-        keep(alloc, &mut self.standing, step)
+        let step = self.parse_state.enter(name, attributes);
+        keep(alloc, &mut self.parse_state, step)
     }
 
     fn chars(&mut self, alloc: Global, text: &[u8]) -> Result<(), Stop> {
-        match self.standing.chars(text) {
+        match self.parse_state.chars(text) {
             Ok(()) => Ok(()),
             Err(_) => {
-                self.standing = Standing::new(alloc);
+                self.parse_state = ParseState::new(alloc);
                 Err(Stop::Memory)
             }
         }
     }
 
     fn close(&mut self, alloc: Global, _name: &[u8]) -> Result<(), Stop> {
-        let step = self.standing.close();
-        keep(alloc, &mut self.standing, step)
+        let step = self.parse_state.close();
+        keep(alloc, &mut self.parse_state, step)
     }
 }
 
@@ -144,7 +144,7 @@ pub struct Decoder {
 
 impl Model for Decoder {
     ghost use Rattle.tag_tests.specs.Readers.{Decoding};
-    ghost use Rattle.osil_grammar.specs.Standing.{State};
+    ghost use Rattle.osil_grammar.specs.ParseState.{State};
     ghost use Rattle.osil_grammar.specs.declared.stop.Refused.{Refused};
 
     ghost Value = { Decoding State Refused };

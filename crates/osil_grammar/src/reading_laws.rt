@@ -7,7 +7,7 @@ ghost use Rattle.tag_tests.specs.Firsts.{IsFirstDecided};
 ghost use Rattle.osil_grammar.specs.declared.fault.OsilFault.{OsilFault};
 ghost use Rattle.osil_grammar.specs.declared.fault.OsilFault.TheVariants.{Memory};
 ghost use Rattle.osil_grammar.specs.Refusals.{Refusal, number};
-ghost use Rattle.osil_grammar.specs.Standing.{start};
+ghost use Rattle.osil_grammar.specs.ParseState.{start};
 ghost use Rattle.osil_grammar.specs.Table.{ToldRefusal};
 ghost use Rattle.osil_grammar.specs.Marked.{osil, marks, StandsFor, IsRefusedSo, IsAccepted, IsRefused};
 ghost use Rattle.osil_grammar.specs.Reading.{IsInstanceText, IsRefusedText, DecodeFails, AreAlike, IsFaultText};

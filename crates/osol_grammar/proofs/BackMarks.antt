@@ -24,7 +24,7 @@ use Rattle.osol_grammar.specs.declared.limit.Limit.TheVariants.{Rounds, Names, F
 use Rattle.osol_grammar.specs.declared.options.Options.{Options}
 use Rattle.osol_grammar.specs.declared.place.Place.{Place}
 use Rattle.osol_grammar.specs.declared.place.Place.TheVariants.{Outside, Osol, General, JobId, Job, MaxTime, Optimization, Variables, InitialValues, Var, SolverOptions, SolverOption}
-use Rattle.osol_grammar.specs.declared.standing.Standing.{Standing as State}
+use Rattle.osol_grammar.specs.declared.parse_state.ParseState.{ParseState as State}
 use Rattle.osol_grammar.specs.Limits.{limit_row, amount_text}
 use Rattle.osol_grammar.specs.Options.{made, amount, with_amount, no_options, IsOption, IsGapOption, IsAmountText, SaysAmount}
 use Rattle.osol_grammar.specs.Marked.{osol}

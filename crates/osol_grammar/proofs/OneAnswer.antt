@@ -12,8 +12,8 @@ use Rattle.osol_grammar.specs.declared.fault.Refusal.{Refusal}
 use Rattle.osol_grammar.specs.declared.fault.OsolFault.{OsolFault}
 use Rattle.osol_grammar.specs.declared.fault.OsolFault.TheVariants.{Tree, Refused, Memory}
 use Rattle.osol_grammar.specs.declared.options.Options.{Options}
-use Rattle.osol_grammar.specs.declared.standing.Standing.{Standing as State}
-use Rattle.osol_grammar.specs.declared.standing.Refused as told
+use Rattle.osol_grammar.specs.declared.parse_state.ParseState.{ParseState as State}
+use Rattle.osol_grammar.specs.declared.parse_state.Refused as told
 use Rattle.osol_grammar.specs.Table.{start}
 use Rattle.osol_grammar.specs.Marked.{osol}
 use Rattle.osol_grammar.specs.Meaning.{IsOptions, IsRefused, IsBlank, IsOptionsText}

@@ -16,7 +16,7 @@ use Rattle.osol_grammar.specs.declared.place.Place.TheVariants.{Job, MaxTime, Va
 use Rattle.tag_tests.specs.declared.places.Led.{Led}
 use Rattle.osol_grammar.specs.declared.place.Place.{Place}
 use Rattle.tag_tests.specs.declared.places.Led.TheVariants.{To, OtherRoot}
-use Rattle.osol_grammar.specs.declared.standing.Standing.{Standing as State}
+use Rattle.osol_grammar.specs.declared.parse_state.ParseState.{ParseState as State}
 use Rattle.osol_grammar.specs.Options.{IsAmountText, SaysAmount, with_amount, with_first, SaysOption}
 use Rattle.osol_grammar.specs.Table.{kind, into, Begins, Ends, Leaves}
 use Rattle.tag_tests.specs.Places.{Kind, begins, ends}

@@ -23,7 +23,7 @@ use Rattle.osol_grammar.specs.declared.place.Place.{Place}
 use Rattle.osol_grammar.specs.declared.place.Place.TheVariants.{JobId, MaxTime, Var, SolverOption}
 use Rattle.tag_tests.specs.declared.places.Led.{Led}
 use Rattle.tag_tests.specs.declared.places.Led.TheVariants.{To, OtherRoot}
-use Rattle.osol_grammar.specs.declared.standing.Standing.{Standing as State}
+use Rattle.osol_grammar.specs.declared.parse_state.ParseState.{ParseState as State}
 use Rattle.osol_grammar.specs.Limits.{limit_row}
 use Rattle.osol_grammar.specs.Options.{amount, no_options, SaysOption}
 use Rattle.osol_grammar.specs.Gaps.{IsGapText, SaysGap}

@@ -5,8 +5,8 @@ use Rattle.tag_tests.specs.Kinds.{Kinds, form}
 use Rattle.tag_tests.specs.Places.{Kind}
 use Rattle.osol_grammar.specs.declared.fault.Refusal.{Refusal}
 use Rattle.osol_grammar.specs.declared.place.Place.{Place}
-use Rattle.osol_grammar.specs.declared.standing.Standing.{Standing as State}
-use Rattle.osol_grammar.specs.declared.standing.Refused.{Refused}
+use Rattle.osol_grammar.specs.declared.parse_state.ParseState.{ParseState as State}
+use Rattle.osol_grammar.specs.declared.parse_state.Refused.{Refused}
 use Rattle.osol_grammar.specs.Table.{kind, tests, Fails, told, Leaves}
 
 abbrev pub by_kinds : Kinds State Mark (Kind Place) Refusal Refused

@@ -7,7 +7,7 @@ use Rattle.tag_tests.specs.Forms.{AreTaken, AreRefused}
 use Rattle.tag_tests.specs.Readers.{marks}
 use Rattle.osol_grammar.specs.declared.fault.Refusal.{Refusal}
 use Rattle.osol_grammar.specs.declared.options.Options.{Options}
-use Rattle.osol_grammar.specs.declared.standing.Standing.{Standing as State}
+use Rattle.osol_grammar.specs.declared.parse_state.ParseState.{ParseState as State}
 use Rattle.osol_grammar.specs.Options.{no_options}
 use Rattle.osol_grammar.specs.Table.{start}
 use Rattle.osol_grammar.specs.Marked.{osol}

@@ -17,8 +17,8 @@ use Rattle.osol_grammar.specs.declared.limit.Limit.{Limit}
 use Rattle.osol_grammar.specs.declared.options.Options.{Options}
 use Rattle.osol_grammar.specs.declared.place.Place.{Place}
 use Rattle.osol_grammar.specs.declared.place.Place.TheVariants.{Outside, Osol, General, JobId, Job, MaxTime, Optimization, Variables, InitialValues, Var, SolverOptions, SolverOption}
-use Rattle.osol_grammar.specs.declared.standing.Standing.{Standing as State}
-use Rattle.osol_grammar.specs.declared.standing.Refused.{Refused}
+use Rattle.osol_grammar.specs.declared.parse_state.ParseState.{ParseState as State}
+use Rattle.osol_grammar.specs.declared.parse_state.Refused.{Refused}
 use Rattle.osol_grammar.specs.Options.{no_options, with_first, IsOption, IsGapOption, SaysAmount, SaysOption}
 use Rattle.osol_grammar.specs.Gaps.{SaysGap}
 use Rattle.osol_grammar.specs.FirstValues.{SaysIndex, SaysValue, HasFirst}

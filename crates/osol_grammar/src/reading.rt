@@ -6,7 +6,7 @@ ghost use Rattle.osol_grammar.specs.Reading.{DecodeFails};
 
 use crate::fault::OsolFault;
 use crate::options::Options;
-use crate::standing::{Refused, Standing};
+use crate::parse_state::{ParseState, Refused};
 use decimal_text::trim;
 use doc_tree::TreeFault;
 use std::alloc::Global;
@@ -24,8 +24,8 @@ pub fn decode(alloc: Global, bytes: &[u8]) -> Result<Options, OsolFault>
     if trim(bytes).is_empty() {
         return Ok(Options::none());
     }
-    match read_marks(alloc, bytes, Standing::new(alloc)) {
-        Ok(Ok(standing)) => Ok(standing.options),
+    match read_marks(alloc, bytes, ParseState::new(alloc)) {
+        Ok(Ok(parse_state)) => Ok(parse_state.options),
         Ok(Err(Refused { refusal, at })) => Err(OsolFault::Refused { refusal, at }),
         Err(TreeFault::Memory) => Err(OsolFault::Memory),
         Err(fault) => Err(OsolFault::Tree(fault)),

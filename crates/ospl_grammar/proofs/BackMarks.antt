@@ -14,7 +14,7 @@ use Rattle.ospl_grammar.specs.declared.process.Process.TheVariants.{Ask, Statist
 use Rattle.ospl_grammar.specs.declared.parts.Parts.{Parts}
 use Rattle.ospl_grammar.specs.declared.place.Place.{Place}
 use Rattle.ospl_grammar.specs.declared.place.Place.TheVariants as places
-use Rattle.ospl_grammar.specs.declared.standing.Standing.{Standing}
+use Rattle.ospl_grammar.specs.declared.parse_state.ParseState.{ParseState}
 use Rattle.ospl_grammar.specs.Words.{busy_text, state_text}
 use Rattle.ospl_grammar.specs.Parts.{no_parts}
 use Rattle.ospl_grammar.specs.Table.{is_text}
@@ -24,18 +24,18 @@ use Rattle.ospl_grammar.specs.Writing.{number_leaf, jobs_nodes, process_nodes, p
 use Rattle.ospl_grammar.specs.Back.{IsReadableProcess, ComesBack}
 use Rattle.ospl_grammar.proofs.BackText.{text_document}
 
-abbrev with : Place → Parts → List ℕ → Standing
+abbrev with : Place → Parts → List ℕ → ParseState
 with p q t = record { place = p; depth = 0; text = t; parts = q; asked = None; told = None }
 
-abbrev at : Place → Parts → Standing
+abbrev at : Place → Parts → ParseState
 at p q = with p q []
 
 -- from this state on these marks say this in the end
-abbrev Say : Standing → List Mark → Process → Type 0
-Say s ms p = (z : Standing) × AreTaken ospl s ms z × (Some p ≡ asked_or_told z.asked z.told)
+abbrev Say : ParseState → List Mark → Process → Type 0
+Say s ms p = (z : ParseState) × AreTaken ospl s ms z × (Some p ≡ asked_or_told z.asked z.told)
 
-chars_say : (text : List ℕ) (es : List Event) (s m : Standing) (p : Process) → AreTaken ospl s (map Char text) m → Say m (spread es) p → Say s (spread (nodes_events (text_nodes text) es)) p
-chars_say [] es s m p taken says = subst (λ (x : Standing). Say x (spread es) p) taken says
+chars_say : (text : List ℕ) (es : List Event) (s m : ParseState) (p : Process) → AreTaken ospl s (map Char text) m → Say m (spread es) p → Say s (spread (nodes_events (text_nodes text) es)) p
+chars_say [] es s m p taken says = subst (λ (x : ParseState). Say x (spread es) p) taken says
 chars_say (c ∷ cs) es s m p taken says = (says.0, taken_both ospl s m says.0 (map Char (c ∷ cs)) (spread es) taken says.1, says.2)
 
 -- an element whose text is read
@@ -66,9 +66,9 @@ module _ (busy : Bool) (current total : ℕ) where
       let one : Parts = record no_parts { busy = Some busy } in
       let two : Parts = record no_parts { busy = Some busy; current = Some current } in
       let three : Parts = record no_parts { busy = Some busy; current = Some current; total = Some total } in
-      let done : Standing = record (at places.Data no_parts) { told = Some p } in
-      let outer : Standing = record done { place = places.Ospl } in
-      let behind : Standing = record done { place = places.Outside } in
+      let done : ParseState = record (at places.Data no_parts) { told = Some p } in
+      let outer : ParseState = record done { place = places.Ospl } in
+      let behind : ParseState = record done { place = places.Outside } in
       let after : List Event = Close (codes "statistics") ∷ Close (codes "processData") ∷ Close (codes "ospl") ∷ [] in
       let listed = jobs_say jobs [] (Close (codes "jobs") ∷ after) p (behind, (at places.Statistics (full jobs), (tt, refl), (done, (tt, refl), (outer, (tt, refl), (behind, (tt, refl), refl)))), refl) in
       let list : Nodes = group (codes "jobs") (jobs_nodes jobs) none in
@@ -79,7 +79,7 @@ module _ (busy : Bool) (current total : ℕ) where
 
 process_said : (p : Process) → IsReadableProcess p → IsProcess (bare_root (codes "ospl") (process_nodes p)) p
 process_said (Ask text) is =
-    let asked : Place → Standing = λ q. record (at q no_parts) { asked = Some text } in
+    let asked : Place → ParseState = λ q. record (at q no_parts) { asked = Some text } in
     (asked places.Outside, (at places.Ospl no_parts, (tt, refl), (at places.Header no_parts, (tt, refl), (asked places.Request, (tt, refl), (asked places.Header, (tt, refl), (asked places.Ospl, (tt, refl), (asked places.Outside, (tt, refl), refl)))))), refl)
 process_said (Statistics busy current total jobs) is = statistics_say busy current total jobs is
 

@@ -10,7 +10,7 @@ use Rattle.tag_tests.proofs.Forms.{taken_once, not_both}
 use Rattle.ospl_grammar.specs.declared.fault.OsplFault.{OsplFault}
 use Rattle.ospl_grammar.specs.declared.fault.OsplFault.TheVariants.{Tree, Root, Missing, Memory}
 use Rattle.ospl_grammar.specs.declared.process.Process.{Process}
-use Rattle.ospl_grammar.specs.declared.standing.Standing.{Standing}
+use Rattle.ospl_grammar.specs.declared.parse_state.ParseState.{ParseState}
 use Rattle.ospl_grammar.specs.Table.{start}
 use Rattle.ospl_grammar.specs.Marked.{ospl}
 use Rattle.ospl_grammar.specs.Meaning.{asked_or_told, RootSays, IsProcess, IsProcessText}
@@ -18,7 +18,7 @@ use Rattle.ospl_grammar.specs.Refusals.{IsRefused, DecodeFails}
 use Rattle.ospl_grammar.proofs.OneState.{leaves_one}
 
 says_once : (root : Element) (o p : Option Process) → RootSays root o → RootSays root p → o ≡ p
-says_once root o p a b = a.2 ∙ ap (λ (z : Standing). asked_or_told z.asked z.told) (taken_once ospl leaves_one start (marks root) a.0 b.0 a.1 b.1) ∙ sym b.2
+says_once root o p a b = a.2 ∙ ap (λ (z : ParseState). asked_or_told z.asked z.told) (taken_once ospl leaves_one start (marks root) a.0 b.0 a.1 b.1) ∙ sym b.2
 
 pub process_once : (root : Element) (p q : Process) → IsProcess root p → IsProcess root q → p ≡ q
 process_once root p q a b = let same = says_once root (Some p) (Some q) a b in let one : p ≡ q = cc in one

@@ -11,7 +11,7 @@ use Rattle.ospl_grammar.specs.declared.place.Place.{Place}
 use Rattle.ospl_grammar.specs.declared.place.Place.TheVariants.{Request, CurrentState, CurrentCount, Total, State}
 use Rattle.tag_tests.specs.declared.places.Led.{Led}
 use Rattle.tag_tests.specs.declared.places.Led.TheVariants.{To, OtherRoot}
-use Rattle.ospl_grammar.specs.declared.standing.Standing.{Standing}
+use Rattle.ospl_grammar.specs.declared.parse_state.ParseState.{ParseState}
 use Rattle.ospl_grammar.specs.Words.{busy_text, state_text}
 use Rattle.ospl_grammar.specs.Parts.{with_busy, with_current, with_total, with_state}
 use Rattle.ospl_grammar.specs.Table.{kind, Begins, past, Ends, Leaves}
@@ -50,19 +50,19 @@ only_once P once None (Some y) a b = absurd (a y b)
 only_once P once (Some x) None a b = absurd (b x a)
 only_once P once (Some x) (Some y) a b = ap (λ z. Some z) (once x y a b)
 
-begins_once : (s : Standing) (as' : List Attribute) (l : Led Place) (a b : Standing) → Begins s as' l a → Begins s as' l b → a ≡ b
+begins_once : (s : ParseState) (as' : List Attribute) (l : Led Place) (a b : ParseState) → Begins s as' l a → Begins s as' l b → a ≡ b
 begins_once s as' (To Request) a b e f = e ∙ sym f
 begins_once s as' OtherRoot a b e f = absurd e
 begins_once s as' l a b e f = e ∙ sym f
 
-ends_once : (s : Standing) (p : Place) (a b : Standing) → Ends s p a → Ends s p b → a ≡ b
-ends_once s CurrentState a b (o, x, e) (q, y, f) = e ∙ ap (λ (i : Option Bool). let z : Standing = record (past s CurrentState) { parts = with_busy s.parts i } in z) (only_once _ (λ u v p r. same_busy u v (sym p ∙ r)) o q x y) ∙ sym f
-ends_once s CurrentCount a b (o, x, e) (q, y, f) = e ∙ ap (λ (i : Option ℕ). let z : Standing = record (past s CurrentCount) { parts = with_current s.parts i } in z) (only_once _ (λ u v p r. count_once s.text u v p.0 r.0) o q x y) ∙ sym f
-ends_once s Total a b (o, x, e) (q, y, f) = e ∙ ap (λ (i : Option ℕ). let z : Standing = record (past s Total) { parts = with_total s.parts i } in z) (only_once _ (λ u v p r. count_once s.text u v p r) o q x y) ∙ sym f
-ends_once s State a b (o, x, e) (q, y, f) = e ∙ ap (λ (i : Option JobState). let z : Standing = record (past s State) { parts = with_state s.parts i } in z) (only_once _ (λ u v p r. same_state u v (sym p ∙ r)) o q x y) ∙ sym f
+ends_once : (s : ParseState) (p : Place) (a b : ParseState) → Ends s p a → Ends s p b → a ≡ b
+ends_once s CurrentState a b (o, x, e) (q, y, f) = e ∙ ap (λ (i : Option Bool). let z : ParseState = record (past s CurrentState) { parts = with_busy s.parts i } in z) (only_once _ (λ u v p r. same_busy u v (sym p ∙ r)) o q x y) ∙ sym f
+ends_once s CurrentCount a b (o, x, e) (q, y, f) = e ∙ ap (λ (i : Option ℕ). let z : ParseState = record (past s CurrentCount) { parts = with_current s.parts i } in z) (only_once _ (λ u v p r. count_once s.text u v p.0 r.0) o q x y) ∙ sym f
+ends_once s Total a b (o, x, e) (q, y, f) = e ∙ ap (λ (i : Option ℕ). let z : ParseState = record (past s Total) { parts = with_total s.parts i } in z) (only_once _ (λ u v p r. count_once s.text u v p r) o q x y) ∙ sym f
+ends_once s State a b (o, x, e) (q, y, f) = e ∙ ap (λ (i : Option JobState). let z : ParseState = record (past s State) { parts = with_state s.parts i } in z) (only_once _ (λ u v p r. same_state u v (sym p ∙ r)) o q x y) ∙ sym f
 ends_once s p a b e f = e ∙ sym f
 
-leaves_once : (s : Standing) (k : Kind Place) (a b : Standing) → Leaves s k a → Leaves s k b → a ≡ b
+leaves_once : (s : ParseState) (k : Kind Place) (a b : ParseState) → Leaves s k a → Leaves s k b → a ≡ b
 leaves_once s (begins l as') a b e f = begins_once s as' l a b e f
 leaves_once s (ends p) a b e f = ends_once s p a b e f
 leaves_once s k a b e f = e ∙ sym f

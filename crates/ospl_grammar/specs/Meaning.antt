@@ -6,7 +6,7 @@ use Rattle.tag_tests.specs.Forms.{AreTaken}
 use Rattle.tag_tests.specs.Readers.{marks}
 use Rattle.ospl_grammar.specs.declared.process.Process.{Process}
 use Rattle.ospl_grammar.specs.declared.process.Process.TheVariants.{Ask}
-use Rattle.ospl_grammar.specs.declared.standing.Standing.{Standing}
+use Rattle.ospl_grammar.specs.declared.parse_state.ParseState.{ParseState}
 use Rattle.ospl_grammar.specs.Table.{start}
 use Rattle.ospl_grammar.specs.Marked.{ospl}
 
@@ -17,7 +17,7 @@ asked_or_told None told = told
 
 -- all marks of a document with this root are taken, and say this, or nothing
 abbrev pub RootSays : Element → Option Process → Type 0
-RootSays root o = (z : Standing) × AreTaken ospl start (marks root) z × (o ≡ asked_or_told z.asked z.told)
+RootSays root o = (z : ParseState) × AreTaken ospl start (marks root) z × (o ≡ asked_or_told z.asked z.told)
 
 -- the document with this root says this
 abbrev pub IsProcess : Element → Process → Type 0

@@ -13,12 +13,12 @@ use Rattle.tag_tests.specs.Characters.{heard}
 use Rattle.ospl_grammar.specs.declared.process.JobState.{JobState}
 use Rattle.ospl_grammar.specs.declared.place.Place.{Place}
 use Rattle.ospl_grammar.specs.declared.place.Place.TheVariants.{Outside, Ospl, Header, Request, Data, Statistics, CurrentState, CurrentCount, Total, Jobs, Job, State}
-use Rattle.ospl_grammar.specs.declared.standing.Standing.{Standing}
+use Rattle.ospl_grammar.specs.declared.parse_state.ParseState.{ParseState}
 use Rattle.ospl_grammar.specs.Words.{busy_text, state_text}
 use Rattle.ospl_grammar.specs.Parts.{no_parts, with_busy, with_current, with_total, with_list, with_state, with_job, whole}
 
 -- before all marks
-abbrev pub start : Standing
+abbrev pub start : ParseState
 start = record { place = Outside; depth = 0; text = []; parts = no_parts; asked = None; told = None }
 
 -- WHAT MAY STAND IN WHAT: the child elements that are read
@@ -52,7 +52,7 @@ around Job = Jobs
 around State = Job
 
 -- the kind of a mark
-abbrev pub kind : Standing → Mark → Kind Place
+abbrev pub kind : ParseState → Mark → Kind Place
 kind s m = kind_by (λ p name as'. leads_by content p name) s.depth s.place m
 
 -- THE TEST: a root of another name
@@ -76,11 +76,11 @@ abbrev pub first : {X : Type 0} → Option X → Option X → Option X
 first {X} None o = o
 first {X} (Some x) o = Some x
 
-abbrev pub into : Standing → Place → Standing
+abbrev pub into : ParseState → Place → ParseState
 into s p = record s { place = p }
 
 -- WHAT A START TAG LEAVES that leads there
-abbrev pub Begins : Standing → List Attribute → Led Place → Standing → Type 0
+abbrev pub Begins : ParseState → List Attribute → Led Place → ParseState → Type 0
 Begins s as' (To Request) z = z ≡ record (into s Request) { asked = first s.asked (Some (action as')) }
 Begins s as' (To Jobs) z = z ≡ record (into s Jobs) { parts = with_list s.parts }
 Begins s as' (To Job) z = z ≡ record (into s Job) { parts = record s.parts { id = value_of (codes "jobID") as' } }
@@ -96,11 +96,11 @@ is_text Total = true
 is_text State = true
 is_text p = false
 
-abbrev pub past : Standing → Place → Standing
+abbrev pub past : ParseState → Place → ParseState
 past s p = record s { place = around p; text = [] }
 
 -- WHAT THE END TAG OF SUCH AN ELEMENT LEAVES: what its text says is added, a job, and the first statistics that are whole
-abbrev pub Ends : Standing → Place → Standing → Type 0
+abbrev pub Ends : ParseState → Place → ParseState → Type 0
 Ends s CurrentState z = (o : Option Bool) × IsOnly (λ b. s.text ≡ busy_text b) o × (z ≡ record (past s CurrentState) { parts = with_busy s.parts o })
 Ends s CurrentCount z = (o : Option ℕ) × IsOnly (λ n. IsCount s.text n × (n < 2 ^ 32)) o × (z ≡ record (past s CurrentCount) { parts = with_current s.parts o })
 Ends s Total z = (o : Option ℕ) × IsOnly (λ n. IsCount s.text n) o × (z ≡ record (past s Total) { parts = with_total s.parts o })
@@ -110,7 +110,7 @@ Ends s Statistics z = z ≡ record (into s Data) { parts = no_parts; told = firs
 Ends s p z = z ≡ into s (around p)
 
 -- WHAT A MARK OF A KIND LEAVES
-abbrev pub Leaves : Standing → Kind Place → Standing → Type 0
+abbrev pub Leaves : ParseState → Kind Place → ParseState → Type 0
 Leaves s (begins l as') z = Begins s as' l z
 Leaves s (text c) z = z ≡ record s { text = heard (keeps_in is_text s.depth s.place) s.text c }
 Leaves s (ends p) z = Ends s p z

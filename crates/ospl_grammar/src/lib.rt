@@ -12,11 +12,11 @@
 
 mod fault;
 mod laws;
+mod parse_state;
 mod parts;
 mod place;
 mod process;
 mod reading;
-mod standing;
 mod texts;
 mod words;
 mod writing;

@@ -11,7 +11,7 @@ use Rattle.std.specs.Prelude.{IsSome}
 use Rattle.std.proofs.lemmas.List.{length-append}
 use Rattle.certificate.specs.Nodes.{certs_of}
 use Rattle.osrl_grammar.specs.Adding.{first_level}
-use Rattle.osrl_grammar.specs.Saying.{has_one_level, claim_of}
+use Rattle.osrl_grammar.specs.Saying.{has_one_level, told_claim}
 use Rattle.osrl_grammar.specs.Table.{part_led}
 use Rattle.osrl_grammar.proofs.WordValues.{each_status}
 use Rattle.osrl_grammar.proofs.SoundStates.{may_have, certs_in}
@@ -353,7 +353,7 @@ bare_said : (o : Option (List ℕ)) → IsBareOrNone o → nonempty o ≡ o
 bare_said None bare = refl
 bare_said (Some text) bare = unempty text bare.some
 
-claim_said : (s : State) (o : Option Claim) → ClaimComesBack o → claim_of (claimed s o) ≡ Some o
+claim_said : (s : State) (o : Option Claim) → ClaimComesBack o → told_claim (claimed s o) ≡ Some o
 claim_said s None back = refl
 claim_said s (Some (Optimal x vs [])) back = absurd back.1
 claim_said s (Some (Optimal x vs (c ∷ cs))) back = ap (λ (l : List Cert). let o : Option (Option Claim) = Some (Some (Optimal x vs l)) in o) (trees_are c cs back.1.levels)
@@ -371,7 +371,7 @@ all_said type e j k m l t s c o error job message status claim = rw (status, cla
 report_said : (r : Report) → ComesBack r → report_of (reported r) ≡ Some r
 report_said r back =
     let s : State = reported r in
-    all_said (general_type r.error) r.error (nonempty r.job) r.job (nonempty r.message) r.message (status_of s) r.status (claim_of s) r.claim (error_said r.error) (bare_said r.job back.job) (bare_said r.message back.message) (each_status r.status) (claim_said (told r.error r.job r.message (Some (status_text r.status)) places.Osrl) r.claim back.claim)
+    all_said (general_type r.error) r.error (nonempty r.job) r.job (nonempty r.message) r.message (status_of s) r.status (told_claim s) r.claim (error_said r.error) (bare_said r.job back.job) (bare_said r.message back.message) (each_status r.status) (claim_said (told r.error r.job r.message (Some (status_text r.status)) places.Osrl) r.claim back.claim)
 
 -- and no item isn't read
 none_bad : (b : Bool) → IsSome {T = BadItem} (cond b None None) → ⊥

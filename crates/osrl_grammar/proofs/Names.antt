@@ -48,7 +48,7 @@ pub use Rattle.osrl_grammar.specs.Order.{number}
 pub use Rattle.osrl_grammar.specs.Pieces.{Pair, more, parted, pieces}
 pub use Rattle.osrl_grammar.specs.Reading.{DecodeFails, IsReportText}
 pub use Rattle.osrl_grammar.specs.Saying.{bad_item, cert, certs, claim_as, has, items, next_level, nonempty, report_of, report_with, status_of}
-pub use Rattle.osrl_grammar.specs.Standing.{State, emptied, nothing_held, start}
+pub use Rattle.osrl_grammar.specs.ParseState.{State, emptied, nothing_held, start}
 pub use Rattle.osrl_grammar.specs.Stepping.{EndsAt}
 pub use Rattle.osrl_grammar.specs.Table.{around, item_refusal, kind, leads, refusal_of, tests, told}
 pub use Rattle.osrl_grammar.specs.Values.{BeginsWithWord, IsCause, IsFraction, IsMult, IsMultOf, IsOne, IsOneFraction, IsOutOfOrder, IsPlace, IsRound, IsTreeItem, SaysCause, SaysNode, SaysRound, SaysTree, cause_head, node_head, round_head, tree_head}

@@ -13,7 +13,7 @@ use Rattle.osrl_grammar.specs.declared.parts.TreeItem.{TreeItem}
 use Rattle.osrl_grammar.specs.declared.parts.TreeItem.TheVariants as trees
 use Rattle.osrl_grammar.specs.Items.{item_fields, is_level, ReadsTexts}
 use Rattle.osrl_grammar.specs.Values.{IsFraction, IsRound, IsTreeItem, IsCause, IsOutOfOrder}
-use Rattle.osrl_grammar.specs.Standing.{State, emptied}
+use Rattle.osrl_grammar.specs.ParseState.{State, emptied}
 use Rattle.osrl_grammar.specs.Saying.{cert, next_level, has_one_level}
 
 -- a node is added to the latest level, or a level begins behind it

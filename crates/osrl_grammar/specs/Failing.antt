@@ -2,7 +2,7 @@
 use Rattle.std.specs.Prelude.{◌≡◌, ℕ, ◌<◌, true, None, IsSome}
 use Rattle.osrl_writing.specs.declared.parts.Part.{Part}
 use Rattle.osrl_writing.specs.declared.parts.Part.TheVariants.{Point, Value, Ray, Cause, Bound, Rounds, Tree}
-use Rattle.osrl_grammar.specs.Standing.{State}
+use Rattle.osrl_grammar.specs.ParseState.{State}
 use Rattle.osrl_grammar.specs.Saying.{has, items, bad_item, report_of}
 use Rattle.osrl_grammar.specs.Table.{Test, other_root, unread, twice, miscounted, incomplete}
 

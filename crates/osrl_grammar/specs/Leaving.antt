@@ -12,7 +12,7 @@ use Rattle.osrl_writing.specs.declared.report.Report.{Report}
 use Rattle.osrl_grammar.specs.declared.held.Held.{Held}
 use Rattle.osrl_writing.specs.declared.parts.Part.{Part}
 use Rattle.osrl_writing.specs.declared.parts.Part.TheVariants.{Point, Value, Ray, Cause, Bound, Rounds, Tree}
-use Rattle.osrl_grammar.specs.Standing.{State, start}
+use Rattle.osrl_grammar.specs.ParseState.{State, start}
 use Rattle.osrl_grammar.specs.Saying.{type_of, has, report_of}
 use Rattle.osrl_grammar.specs.Adding.{AfterItem}
 use Rattle.osrl_grammar.specs.Table.{around}

@@ -7,7 +7,7 @@ pub mod Pieces
 pub mod Back
 pub mod Grounds
 pub mod Words
-pub mod Standing
+pub mod ParseState
 pub mod Saying
 pub mod Adding
 pub mod Table

@@ -6,7 +6,7 @@ use Rattle.tag_tests.specs.Forms.{Form, AreTaken, AreRefused}
 pub use Rattle.tag_tests.specs.Readers.{marks}
 use Rattle.osrl_writing.specs.declared.report.Report.{Report}
 use Rattle.osrl_grammar.specs.declared.fault.OsrlFault.{OsrlFault}
-use Rattle.osrl_grammar.specs.Standing.{State, start}
+use Rattle.osrl_grammar.specs.ParseState.{State, start}
 use Rattle.osrl_grammar.specs.Table.{Test, kind, tests, told}
 use Rattle.osrl_grammar.specs.Failing.{Fails}
 use Rattle.osrl_grammar.specs.Leaving.{Leaves}

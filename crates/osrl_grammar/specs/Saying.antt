@@ -21,7 +21,7 @@ use Rattle.osrl_writing.specs.declared.parts.Claiming.{Claiming}
 use Rattle.osrl_writing.specs.declared.parts.Claiming.TheVariants as claiming
 use Rattle.osrl_grammar.specs.Words.{all_statuses, all_claimings, worded}
 use Rattle.osrl_writing.specs.Words.{status_text, claiming_text}
-use Rattle.osrl_grammar.specs.Standing.{State}
+use Rattle.osrl_grammar.specs.ParseState.{State}
 
 -- the type that a start tag says, empty where it says none
 abbrev pub type_of : List Attribute → List ℕ
@@ -139,8 +139,8 @@ claim_as h claiming.BestSoFar = best_so_far (when h.has_point h.point) (when h.h
 claim_as h claiming.Unsure = unsure (only h.causes) (bound_of h)
 
 -- THE CLAIM, if there is one, where it can be told: not where a solution claims nothing, or a part isn't there
-abbrev pub claim_of : State → Option (Option Claim)
-claim_of s = cond s.has_solution (option_map Some (option_and_then (claim_as s.held) (claiming_of s))) (Some None)
+abbrev pub told_claim : State → Option (Option Claim)
+told_claim s = cond s.has_solution (option_map Some (option_and_then (claim_as s.held) (claiming_of s))) (Some None)
 
 -- THE REPORT, where all parts are there that it needs
 abbrev pub report_with : Option (List ℕ) → (job message : Option (List ℕ)) → Option JobStatus → Option (Option Claim) → Option Report
@@ -152,4 +152,4 @@ abbrev pub nonempty : Option (List ℕ) → Option (List ℕ)
 nonempty text = option_and_then unless_empty text
 
 abbrev pub report_of : State → Option Report
-report_of s = report_with s.general (nonempty s.job) (nonempty s.message) (status_of s) (claim_of s)
+report_of s = report_with s.general (nonempty s.job) (nonempty s.message) (status_of s) (told_claim s)

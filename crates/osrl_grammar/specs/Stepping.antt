@@ -17,7 +17,7 @@ use Rattle.osrl_grammar.specs.declared.parts.Misread.{Misread}
 use Rattle.osrl_grammar.specs.Numbers.{Exact, Field, IsBad, IsTooGreat}
 use Rattle.osrl_grammar.specs.Items.{field, misread_of, wrong_with, ReadsTexts}
 use Rattle.osrl_grammar.specs.Values.{IsFraction, IsMult}
-use Rattle.osrl_grammar.specs.Standing.{State}
+use Rattle.osrl_grammar.specs.ParseState.{State}
 use Rattle.osrl_grammar.specs.Saying.{has, items}
 use Rattle.tag_tests.specs.Places.{ends}
 use Rattle.osrl_grammar.specs.Table.{tests, told}

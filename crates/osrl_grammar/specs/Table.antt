@@ -17,7 +17,7 @@ use Rattle.osrl_grammar.specs.declared.parts.Misread.TheVariants.{NoShape, NoNum
 use Rattle.osrl_grammar.specs.declared.fault.OsrlFault.{OsrlFault}
 use Rattle.osrl_grammar.specs.declared.fault.OsrlFault.TheVariants as refusals
 use Rattle.osrl_writing.specs.Words.{part_name}
-use Rattle.osrl_grammar.specs.Standing.{State}
+use Rattle.osrl_grammar.specs.ParseState.{State}
 use Rattle.osrl_grammar.specs.Saying.{bad_item}
 
 -- WHAT IS READ IN WHAT: the child elements of these names

@@ -2,7 +2,7 @@
 
 ghost use Rattle.std.specs.Prelude.{◌≡◌, ◌↔◌, IsTrue, IfOk, OnOk, cond, None, Some, [], option_map};
 ghost use Rattle.certificate.specs.declared.claims.Claim.TheVariants.{Infeasible};
-ghost use Rattle.osrl_grammar.specs.Standing.{nothing_held, emptied};
+ghost use Rattle.osrl_grammar.specs.ParseState.{nothing_held, emptied};
 ghost use Rattle.osrl_grammar.specs.Saying as saying;
 ghost use Rattle.osrl_grammar.specs.Failing.{MayHoldItems};
 ghost use Rattle.osrl_grammar.specs.Adding.{with_tree_item};

@@ -13,11 +13,11 @@ mod held;
 mod item_reading;
 mod laws;
 mod numbers;
+mod parse_state;
 mod parts;
 mod pieces;
 mod reading;
 mod reading_laws;
-mod standing;
 mod texts;
 mod words;
 

@@ -4,7 +4,7 @@ ghost use Rattle.std.specs.Prelude.{IfOk, IfErr};
 ghost use Rattle.osrl_grammar.specs.Reading.{IsReportText, DecodeFails};
 
 use crate::fault::OsrlFault;
-use crate::standing::Standing;
+use crate::parse_state::ParseState;
 use doc_tree::TreeFault;
 use osrl_writing::Report;
 use std::alloc::Global;
@@ -19,8 +19,8 @@ pub fn decode(alloc: Global, bytes: &[u8]) -> Result<Report, OsrlFault>
     ensures ok { IfOk result (IsReportText bytes.now) }
     ensures err { IfErr result (DecodeFails bytes.now) }
 {
-    match read_marks(alloc, bytes, Standing::new(alloc)) {
-        Ok(Ok(standing)) => Ok(standing.report()),
+    match read_marks(alloc, bytes, ParseState::new(alloc)) {
+        Ok(Ok(parse_state)) => Ok(parse_state.report()),
         Ok(Err(fault)) => Err(fault),
         Err(TreeFault::Memory) => Err(OsrlFault::Memory),
         Err(fault) => Err(OsrlFault::Tree(fault)),

@@ -12,7 +12,7 @@ ghost use Rattle.osrl_grammar.specs.declared.fault.OsrlFault.{OsrlFault};
 ghost use Rattle.osrl_grammar.specs.declared.fault.OsrlFault.TheVariants.{Memory};
 ghost use Rattle.osrl_grammar.specs.Back.{ClaimComesBack};
 ghost use Rattle.osrl_grammar.specs.Order.{number};
-ghost use Rattle.osrl_grammar.specs.Standing.{start};
+ghost use Rattle.osrl_grammar.specs.ParseState.{start};
 ghost use Rattle.osrl_grammar.specs.Marked.{osrl, marks, IsReport, IsRefused};
 ghost use Rattle.osrl_grammar.specs.Reading.{IsReportText, DecodeFails};
 

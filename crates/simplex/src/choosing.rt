@@ -152,7 +152,7 @@ fn leave<L: Ledger>(
 }
 
 /// A column is to move up to the first limit.
-fn move_on<L: Ledger>(
+fn enter_column<L: Ledger>(
     dict: &Dict<L>,
     ends: &[Ends],
     statuses: &[Status],
@@ -208,7 +208,7 @@ fn improve<L: Ledger>(
 {
     match first_help(dict, ends, statuses, goal, Way::Fall, goal, steps) {
         None => Choice::Done(best(dict, ends, statuses, rest, start, goal, steps)),
-        Some(n) => move_on(dict, ends, statuses, values, n, goal, steps),
+        Some(n) => enter_column(dict, ends, statuses, values, n, goal, steps),
     }
 }
 

@@ -19,11 +19,11 @@ use Rattle.six_calls.proofs.Names.{is_named}
 use Rattle.soap_calls.specs.declared.call.SoapCall.{SoapCall}
 use Rattle.soap_calls.specs.declared.fault.SoapFault.{SoapFault}
 use Rattle.soap_calls.specs.declared.fault.SoapFault.TheVariants as faults
-use Rattle.soap_calls.specs.declared.standing.Told.{Told}
-use Rattle.soap_calls.specs.declared.standing.Told.TheVariants.{Nothing, Plainly, Badly}
-use Rattle.soap_calls.specs.declared.standing.PartsTold.{PartsTold}
-use Rattle.soap_calls.specs.declared.standing.Found.{Found}
-use Rattle.soap_calls.specs.declared.standing.Found.TheVariants.{NoBody, NoElement, Other, Call, NoEnvelope}
+use Rattle.soap_calls.specs.declared.parse_state.Told.{Told}
+use Rattle.soap_calls.specs.declared.parse_state.Told.TheVariants.{Nothing, Plainly, Badly}
+use Rattle.soap_calls.specs.declared.parse_state.PartsTold.{PartsTold}
+use Rattle.soap_calls.specs.declared.parse_state.Found.{Found}
+use Rattle.soap_calls.specs.declared.parse_state.Found.TheVariants.{NoBody, NoElement, Other, Call, NoEnvelope}
 use Rattle.soap_calls.specs.Envelope.{held_in, held}
 use Rattle.soap_calls.specs.Calls.{text_among, part_of_call, IsCall, IsCallText}
 use Rattle.soap_calls.specs.Refusals.{IsElementRefused, CallFails}

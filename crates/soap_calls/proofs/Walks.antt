@@ -5,18 +5,19 @@ use Rattle.tree_grammar.specs.Elements.{Nodes, none, element, chars, Element, Ev
 use Rattle.doc_tree.specs.Marks.{Mark, Char, spread}
 use Rattle.six_calls.specs.declared.part.Part.{Part}
 use Rattle.six_calls.specs.declared.part.Part.TheVariants.{Osil, Osol, Ospl}
-use Rattle.soap_calls.specs.declared.standing.Told.{Told}
-use Rattle.soap_calls.specs.declared.standing.Told.TheVariants.{Nothing, Plainly, Badly}
-use Rattle.soap_calls.specs.declared.standing.PartsTold.{PartsTold}
-use Rattle.soap_calls.specs.declared.standing.Found.{Found}
-use Rattle.soap_calls.specs.declared.standing.Found.TheVariants.{NoBody, NoElement, Other, Call, NoEnvelope}
-use Rattle.soap_calls.specs.declared.standing.Place.{Place}
-use Rattle.soap_calls.specs.declared.standing.Place.TheVariants.{Outside, InEnvelope, InBody, InElement, InPart}
-use Rattle.soap_calls.specs.declared.standing.Standing.{Standing}
-use Rattle.soap_calls.specs.Marked.{begun, longer, spoilt, changed, element_named, body_begun, element_begun, part_in, with_part, start, part_begun, said_in, said_over, said, left}
-use Rattle.soap_calls.specs.Leaving.{left_both}
+use Rattle.soap_calls.specs.declared.parse_state.Told.{Told}
+use Rattle.soap_calls.specs.declared.parse_state.Told.TheVariants.{Nothing, Plainly, Badly}
+use Rattle.soap_calls.specs.declared.parse_state.PartsTold.{PartsTold}
+use Rattle.soap_calls.specs.declared.parse_state.Found.{Found}
+use Rattle.soap_calls.specs.declared.parse_state.Found.TheVariants.{NoBody, NoElement, Other, Call, NoEnvelope}
+use Rattle.soap_calls.specs.declared.parse_state.Place.{Place}
+use Rattle.soap_calls.specs.declared.parse_state.Place.TheVariants.{Outside, InEnvelope, InBody, InElement, InPart}
+use Rattle.soap_calls.specs.declared.parse_state.ParseState.{ParseState}
+use Rattle.soap_calls.specs.Marked.{begun, longer, spoilt, changed, element_named, body_begun, element_begun, part_in, with_part, start, part_begun, said_in, said_over, said, left_by, left}
+use Rattle.mark_folds.specs.Folds.{folded_both}
+use Rattle.mark_folds.proofs.PassedOver.{nodes_passed}
 
-abbrev pub at : Place → ℕ → Found → Standing
+abbrev pub at : Place → ℕ → Found → ParseState
 at place over found = record { place = place; over = over; found = found }
 
 -- ---- characters
@@ -78,28 +79,20 @@ over_both zero place a b f = in_both place a b f
 over_both (suc d) place a b f = refl
 
 -- characters one by one are all at once
-pub chars_left : (text : List ℕ) (s : Standing) → left s (map Char text) ≡ said s text
+pub chars_left : (text : List ℕ) (s : ParseState) → left s (map Char text) ≡ said s text
 chars_left [] s = ap (λ (f : Found). at s.place s.over f) (sym (over_none s.over s.place s.found))
 chars_left (c ∷ cs) s = chars_left cs (said s (c ∷ [])) ∙ ap (λ (f : Found). at s.place s.over f) (over_both s.over s.place (c ∷ []) cs s.found)
 
 -- and so before others
-chars_then : (text : List ℕ) (s : Standing) (k : List Mark) → left s (map Char text ++ k) ≡ left (said s text) k
-chars_then text s k = left_both s (map Char text) k ∙ ap (λ (z : Standing). left z k) (chars_left text s)
+chars_then : (text : List ℕ) (s : ParseState) (k : List Mark) → left s (map Char text ++ k) ≡ left (said s text) k
+chars_then text s k = folded_both left_by s (map Char text) k ∙ ap (λ (z : ParseState). left z k) (chars_left text s)
 
 -- ---- nodes: in an element that is passed over
 
 over_left : (ns : Nodes) (place : Place) (d : ℕ) (f : Found) (k : List Event) → left (at place (suc d) f) (spread (nodes_events ns k)) ≡ left (at place (suc d) f) (spread k)
-over_left none place d f k = refl
-over_left (chars text more) place d f k = chars_then text (at place (suc d) f) (spread (nodes_events more k)) ∙ over_left more place d f k
-over_left (element name as' inside more) place d f k =
-    let inner : List Event = nodes_events inside (Close name ∷ nodes_events more k) in
-    let outer : List Event = nodes_events more k in
-    let one_more : suc d + 1 ≡ suc (suc d) = add-one (suc d) in
-    let one_less : suc (suc d) - 1 ≡ suc d = omega arith in
-    ap (λ (n : ℕ). left (at place n f) (spread inner)) one_more
-    ∙ over_left inside place (suc d) f (Close name ∷ outer)
-    ∙ ap (λ (n : ℕ). left (at place n f) (spread outer)) one_less
-    ∙ over_left more place d f k
+over_left ns place d f k =
+    nodes_passed left_by (λ n. at place (suc n) f) (λ n c. refl) (λ n name as'. ap (λ (m : ℕ). at place m f) (add-one (suc n)))
+    (λ n name. let one_less : suc (suc n) - 1 ≡ suc n = omega arith in ap (λ (m : ℕ). at place m f) one_less) ns d k
 
 -- one whole element that is passed over
 pub passed_left : (inside : Nodes) (name : List ℕ) (place : Place) (f : Found) (k : List Event) → left (at place 1 f) (spread (nodes_events inside (Close name ∷ k))) ≡ left (at place 0 f) (spread k)
@@ -178,4 +171,4 @@ abbrev pub root_found : Element → Found
 root_found root = envelope_nodes (cond (bytes_eq root.name (codes "Envelope")) NoBody NoEnvelope) root.children
 
 pub root_left : (root : Element) → (left start (spread (events root))).found ≡ root_found root
-root_left root = ap (λ (s : Standing). s.found) (envelope_left root.children (cond (bytes_eq root.name (codes "Envelope")) NoBody NoEnvelope) (Close root.name ∷ []))
+root_left root = ap (λ (s : ParseState). s.found) (envelope_left root.children (cond (bytes_eq root.name (codes "Envelope")) NoBody NoEnvelope) (Close root.name ∷ []))

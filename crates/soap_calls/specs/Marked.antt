@@ -2,6 +2,7 @@
 use Rattle.std.specs.Prelude.{ℕ, zero, suc, ◌+◌, ◌-◌, Bool, ◌&&◌, cond, bytes_eq, Option, None, Some, Result, Ok, Err, List, [], ◌∷◌, ◌++◌, codes, find}
 use Rattle.doc_tree.specs.Marks.{Mark, Start, Char, Finish}
 use Rattle.document_tags.specs.Faults.{told_name}
+use Rattle.mark_folds.specs.Folds.{folded}
 use Rattle.six_calls.specs.declared.call.CallKind.{CallKind}
 use Rattle.six_calls.specs.declared.part.Part as given
 use Rattle.six_calls.specs.declared.part.Part.TheVariants.{Osil, Osol, Ospl}
@@ -10,14 +11,14 @@ use Rattle.soap_calls.specs.declared.call.Parts.{Parts}
 use Rattle.soap_calls.specs.declared.call.SoapCall.{SoapCall}
 use Rattle.soap_calls.specs.declared.fault.SoapFault.{SoapFault}
 use Rattle.soap_calls.specs.declared.fault.SoapFault.TheVariants as faults
-use Rattle.soap_calls.specs.declared.standing.Told.{Told}
-use Rattle.soap_calls.specs.declared.standing.Told.TheVariants.{Nothing, Plainly, Badly}
-use Rattle.soap_calls.specs.declared.standing.PartsTold.{PartsTold}
-use Rattle.soap_calls.specs.declared.standing.Found.{Found}
-use Rattle.soap_calls.specs.declared.standing.Found.TheVariants.{NoBody, NoElement, Other, Call, NoEnvelope}
-use Rattle.soap_calls.specs.declared.standing.Place.{Place}
-use Rattle.soap_calls.specs.declared.standing.Place.TheVariants.{Outside, InEnvelope, InBody, InElement, InPart}
-use Rattle.soap_calls.specs.declared.standing.Standing.{Standing}
+use Rattle.soap_calls.specs.declared.parse_state.Told.{Told}
+use Rattle.soap_calls.specs.declared.parse_state.Told.TheVariants.{Nothing, Plainly, Badly}
+use Rattle.soap_calls.specs.declared.parse_state.PartsTold.{PartsTold}
+use Rattle.soap_calls.specs.declared.parse_state.Found.{Found}
+use Rattle.soap_calls.specs.declared.parse_state.Found.TheVariants.{NoBody, NoElement, Other, Call, NoEnvelope}
+use Rattle.soap_calls.specs.declared.parse_state.Place.{Place}
+use Rattle.soap_calls.specs.declared.parse_state.Place.TheVariants.{Outside, InEnvelope, InBody, InElement, InPart}
+use Rattle.soap_calls.specs.declared.parse_state.ParseState.{ParseState}
 
 -- a part begins once more
 abbrev pub begun : Told → Told
@@ -89,36 +90,36 @@ with_part p f (Call kind told) = Call kind (changed p f told)
 with_part p f found = found
 
 -- before all marks
-abbrev pub start : Standing
+abbrev pub start : ParseState
 start = record { place = Outside; over = 0; found = NoBody }
 
 -- what a start tag leaves that is passed over
-abbrev pub passed : Standing → Standing
+abbrev pub passed : ParseState → ParseState
 passed s = record s { over = s.over + 1 }
 
 -- that of the root: another one than `Envelope` is no envelope
-abbrev pub root_begun : Standing → List ℕ → Standing
+abbrev pub root_begun : ParseState → List ℕ → ParseState
 root_begun s name = record { place = InEnvelope; over = s.over; found = cond (bytes_eq name (codes "Envelope")) s.found NoEnvelope }
 
 -- one in the envelope: all but a body are passed over
-abbrev pub child_begun : Standing → List ℕ → Standing
+abbrev pub child_begun : ParseState → List ℕ → ParseState
 child_begun s name = cond (bytes_eq name (codes "Body")) (record { place = InBody; over = s.over; found = body_begun s.found }) (passed s)
 
 -- one in a body
-abbrev pub held_begun : Standing → List ℕ → Standing
+abbrev pub held_begun : ParseState → List ℕ → ParseState
 held_begun s name = record { place = InElement; over = s.over; found = element_begun (element_named name) s.found }
 
 -- one in the element there: all but the call's parts are passed over
-abbrev pub part_begun : Standing → Option given.Part → Standing
+abbrev pub part_begun : ParseState → Option given.Part → ParseState
 part_begun s None = passed s
 part_begun s (Some p) = record { place = InPart p; over = s.over; found = with_part p begun s.found }
 
 -- one in a part
-abbrev pub part_spoilt : Standing → given.Part → Standing
+abbrev pub part_spoilt : ParseState → given.Part → ParseState
 part_spoilt s p = passed (record s { found = with_part p spoilt s.found })
 
 -- one in an element that is read
-abbrev pub begins_in : Place → Standing → List ℕ → Standing
+abbrev pub begins_in : Place → ParseState → List ℕ → ParseState
 begins_in Outside s name = root_begun s name
 begins_in InEnvelope s name = child_begun s name
 begins_in InBody s name = held_begun s name
@@ -126,7 +127,7 @@ begins_in InElement s name = part_begun s (part_in s.found name)
 begins_in (InPart p) s name = part_spoilt s p
 
 -- one where so many elements are open that are passed over
-abbrev pub begins_over : ℕ → Standing → List ℕ → Standing
+abbrev pub begins_over : ℕ → ParseState → List ℕ → ParseState
 begins_over zero s name = begins_in s.place s name
 begins_over (suc d) s name = passed s
 
@@ -139,7 +140,7 @@ abbrev pub said_over : ℕ → Place → List ℕ → Found → Found
 said_over zero place text found = said_in place text found
 said_over (suc d) place text found = found
 
-abbrev pub said : Standing → List ℕ → Standing
+abbrev pub said : ParseState → List ℕ → ParseState
 said s text = record s { found = said_over s.over s.place text s.found }
 
 -- what an end tag leaves
@@ -150,19 +151,18 @@ around InBody = InEnvelope
 around InElement = InBody
 around (InPart p) = InElement
 
-abbrev pub ends_over : ℕ → Standing → Standing
+abbrev pub ends_over : ℕ → ParseState → ParseState
 ends_over zero s = record s { place = around s.place }
 ends_over (suc d) s = record s { over = s.over - 1 }
 
 -- what marks leave
-abbrev pub left_by : Standing → Mark → Standing
+abbrev pub left_by : ParseState → Mark → ParseState
 left_by s (Start name attributes) = begins_over s.over s name
 left_by s (Char c) = said s (c ∷ [])
 left_by s (Finish name) = ends_over s.over s
 
-abbrev pub left : Standing → List Mark → Standing
-left s [] = s
-left s (m ∷ ms) = left (left_by s m) ms
+abbrev pub left : ParseState → List Mark → ParseState
+left s marks = folded left_by s marks
 
 -- a part's text, if it stands as it may: the empty one where it doesn't stand there and isn't needed
 abbrev pub text_told : Bool → Told → Option (List ℕ)

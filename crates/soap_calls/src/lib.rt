@@ -14,10 +14,10 @@ mod envelope;
 mod fault;
 mod laws;
 mod listening;
+mod parse_state;
 mod parts;
 mod replies;
 mod replying;
-mod standing;
 mod telling;
 
 pub use call::{Parts, SoapCall};

@@ -7,7 +7,7 @@ ghost use Rattle.document_tags.specs.Documents.{OfDocument};
 ghost use Rattle.document_tags.specs.Texts.{document_limit};
 ghost use Rattle.soap_calls.specs.Leaving.{WasHeard, FindsIn};
 
-use crate::standing::{Found, Standing};
+use crate::parse_state::{Found, ParseState};
 use doc_tree::{Events, TreeFault, Visitor};
 use element_tree::Attributes;
 use os_io::{MOST_BYTES, Memory};
@@ -18,29 +18,30 @@ use std::marker::Model;
 #[derive(Drop)]
 struct Listener {
     alloc: Global,
-    standing: Standing,
+    parse_state: ParseState,
 }
 
 impl Visitor for Listener {
-    ghost use Rattle.std.proofs.Common.{refl};
-    ghost use Rattle.soap_calls.specs.Leaving.{Leaves, leaves_both};
+    ghost use Rattle.mark_folds.specs.Folds.{folds_none, folds_both};
+    ghost use Rattle.soap_calls.specs.Leaving.{Leaves};
+    ghost use Rattle.soap_calls.specs.Marked.{left_by};
 
-    ghost had = { λ u v ms. Leaves u.standing v.standing ms };
+    ghost had = { λ u v ms. Leaves u.parse_state v.parse_state ms };
 
-    ghost stays = { λ v. refl };
+    ghost stays = { λ v. folds_none left_by v.parse_state };
 
-    ghost joined = { λ u v w first second. leaves_both u.standing v.standing w.standing first second };
+    ghost joined = { λ u v w first second. folds_both left_by u.parse_state v.parse_state w.parse_state first second };
 
     fn enter(&mut self, name: &[u8], _attributes: &Attributes<'_>) -> Result<(), Memory> {
-        self.standing.enter(self.alloc, name)
+        self.parse_state.enter(self.alloc, name)
     }
 
     fn chars(&mut self, text: &[u8]) -> Result<(), Memory> {
-        self.standing.say(text)
+        self.parse_state.say(text)
     }
 
     fn close(&mut self, _name: &[u8]) -> Result<(), Memory> {
-        self.standing.end();
+        self.parse_state.end();
         Ok(())
     }
 }
@@ -56,7 +57,7 @@ impl Model for EnvelopeReader {
 
     ghost Value = { Listening };
 
-    ghost view = { λ r. listening r.events.reading r.events.visitor.standing };
+    ghost view = { λ r. listening r.events.reading r.events.visitor.parse_state };
 }
 
 impl EnvelopeReader {
@@ -67,7 +68,7 @@ impl EnvelopeReader {
     {
         let listener = Listener {
             alloc,
-            standing: Standing::new(),
+            parse_state: ParseState::new(),
         };
         EnvelopeReader {
             events: Events::new(alloc, MOST_BYTES, listener),
@@ -89,7 +90,7 @@ impl EnvelopeReader {
         ensures fails { IfErr result (λ fault. (bytes : List ℕ) → WasHeard self bytes → ReadingFails document_limit bytes fault) }
     {
         match self.events.finish() {
-            Ok(Listener { standing, .. }) => Ok(standing.found),
+            Ok(Listener { parse_state, .. }) => Ok(parse_state.found),
             Err(fault) => Err(fault),
         }
     }

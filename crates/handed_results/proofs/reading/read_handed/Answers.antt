@@ -1,9 +1,9 @@
-use Rattle.std.proofs.Common.{◌∙◌, []}
+use Rattle.std.proofs.Common.{◌∙◌}
 use Rattle.std.proofs.lemmas.Result.{IfOk-weaker}
 use Rattle.handed_results.proofs.OneResult.{document_hands, is_some}
 use Rattle.handed_results.proofs.reading.read_handed.Goals as goal
 
 pub returns-in-Ok : goal.returns-in-Ok
 returns-in-Ok c =
-    IfOk-weaker c.trimmed.result _ _ (λ h is. document_hands _ c.args.bytes.now c.new.result c.in-Ok.field-0.standing h (λ blank. is_some c.is_empty.result c.trim.result.now c.is_empty.ensures c.if-is_empty.false (c.trim.ensures ∙ blank)) c.new.ensures (c.documents_have_one_tree.ensures c.args.bytes.now) is
-    (c.in-Ok.ensures.visits (record { alloc = c.args.alloc; standing = c.new.result }) c.args.bytes.now (c.feed.ensures.fed (record { alloc = c.args.alloc; standing = c.new.result }) [] c.new-events.ensures.fed))) c.trimmed.ensures
+    IfOk-weaker c.trimmed.result _ _ (λ h is. document_hands c.args.bytes.now c.new.result c.in-Ok.parse_state h (λ blank. is_some c.is_empty.result c.trim.result.now c.is_empty.ensures c.if-is_empty.false (c.trim.ensures ∙ blank)) c.new.ensures (c.documents_have_one_tree.ensures c.args.bytes.now) is c.in-Ok.ensures.ok)
+    c.trimmed.ensures

@@ -10,14 +10,14 @@ use Rattle.simplex.proofs.PlainPrograms.{plain, plain_ends}
 use Rattle.simplex.proofs.Choices.{leads_map}
 use Rattle.simplex.proofs.choosing.improve.Goals as goal
 
-pub move_on-requires-clause-nonbasic_inside : goal.move_on-requires-clause-nonbasic_inside
-move_on-requires-clause-nonbasic_inside g c =
+pub enter_column-requires-clause-nonbasic_inside : goal.enter_column-requires-clause-nonbasic_inside
+enter_column-requires-clause-nonbasic_inside g c =
     let e = plain_ends c.args.ends.now in
     let h = c.in-Some.ensures (plain c.args.ends.now) (λ j. none) e in
     let i = h.inside in let n = e.count in let a = c.requires.ends in let g = c.requires.goal in omega arith
 
-pub move_on-requires-clause-nonbasic : goal.move_on-requires-clause-nonbasic
-move_on-requires-clause-nonbasic g c = let h = c.in-Some.ensures (plain c.args.ends.now) (λ j. none) (plain_ends c.args.ends.now) in h.helps.nonbasic
+pub enter_column-requires-clause-nonbasic : goal.enter_column-requires-clause-nonbasic
+enter_column-requires-clause-nonbasic g c = let h = c.in-Some.ensures (plain c.args.ends.now) (λ j. none) (plain_ends c.args.ends.now) in h.helps.nonbasic
 
 pub returns-in-None-clause-next : goal.returns-in-None-clause-next
 returns-in-None-clause-next g c = λ I zeroed t k e size entries starts.
@@ -34,4 +34,4 @@ returns-in-Some-clause-next g c = λ I zeroed t k e size entries starts.
     (MovesColumn I zeroed t (record { statuses = c.args.statuses.now; clock = k }) (entry_of c.args.dict.now) (values_in c.args.values.now) c.in-Some.n.col c.in-Some.n.way)
     (Improves I zeroed t (record { statuses = c.args.statuses.now; clock = k }) (entry_of c.args.dict.now) (values_in c.args.values.now))
     (λ next q. inr (inr (c.in-Some.n.col, c.in-Some.n.way, help, q)))
-    c.move_on.result (c.move_on.ensures.next I zeroed t k e size)
+    c.enter_column.result (c.enter_column.ensures.next I zeroed t k e size)

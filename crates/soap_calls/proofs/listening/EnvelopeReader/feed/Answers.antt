@@ -7,5 +7,5 @@ pub returns-clause-fed : goal.returns-clause-fed
 returns-clause-fed c =
     let old = c.self.inside.events in
     let new = c.feed.new.self in
-    fed_more (listening old.reading old.visitor.standing) c.args.self.now (listening new.reading new.visitor.standing) c.args.piece.now c.self.view_is c.feed.ensures.limit
-    (λ bytes h. c.feed.ensures.fed (record { alloc = old.visitor.alloc; standing = start }) bytes h)
+    fed_more (listening old.reading old.visitor.parse_state) c.args.self.now (listening new.reading new.visitor.parse_state) c.args.piece.now c.self.view_is c.feed.ensures.limit
+    (λ bytes h. c.feed.ensures.fed (record { alloc = old.visitor.alloc; parse_state = start }) bytes h)

@@ -1,5 +1,0 @@
-use Rattle.handed_results.proofs.Walks.{heard_left}
-use Rattle.handed_results.proofs.reading.ListenerVisitor.chars.Goals as goal
-
-pub returns : goal.returns
-returns c = heard_left c.hear.result c.args.text.now c.args.self.now.standing _ c.hear.ensures

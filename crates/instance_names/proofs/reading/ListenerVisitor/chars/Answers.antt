@@ -1,6 +1,0 @@
-use Rattle.std.proofs.Common.{sym}
-use Rattle.instance_names.proofs.Walks.{chars_alone}
-use Rattle.instance_names.proofs.reading.ListenerVisitor.chars.Goals as goal
-
-pub returns : goal.returns
-returns c = sym (chars_alone c.args._text.now c.args.self.now.standing)

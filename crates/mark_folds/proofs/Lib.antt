@@ -1,0 +1,2 @@
+pub mod FoldedDocuments
+pub mod PassedOver

@@ -1,0 +1,15 @@
+use Rattle.osil_grammar.proofs.Words.{◌≡◌, length, refl, ap, sym, ◌∙◌, arith, State}
+use Rattle.osil_grammar.specs.declared.elements.Place.TheVariants as places
+use Rattle.osil_grammar.proofs.Beginnings.{begin_refused, row_begun}
+use Rattle.osil_grammar.proofs.parse_state.ParseState.begin_con.Goals as goal
+
+pub returns-in_ok-push_times-in-Ok : goal.returns-in_ok-push_times-in-Ok
+returns-in_ok-push_times-in-Ok c =
+    let before : length c.self.inside.rows.items ≡ c.len.result = omega (arith, c.self.inside.rows.ok.0) in
+    row_begun _ c.args.self.now c.self.view_is c.args.name.now c.args.attributes.now c.in-Ok.row c.in-Ok.times _ c.go.new.self c.go.ensures c.in_ok-push_times-in-Ok.ensures
+    (c.in-Ok.ensures c.args.self.now c.args.name.now (ap (λ (s : State). length s.rows) (sym c.self.view_is) ∙ before))
+
+pub returns-in-Err : goal.returns-in-Err
+returns-in-Err c =
+    let before : length c.self.inside.rows.items ≡ c.len.result = omega (arith, c.self.inside.rows.ok.0) in
+    begin_refused c.args.self.now c.args.self.now c.args.name.now c.args.attributes.now places.Con c.in-Err.refusal _ c.refused.result c.refused.ensures refl (c.in-Err.ensures c.args.self.now c.args.name.now (ap (λ (s : State). length s.rows) (sym c.self.view_is) ∙ before))

@@ -1,9 +1,0 @@
-use Rattle.doc_tree.specs.Marks.{Finish}
-use Rattle.tag_tests.specs.Places.{ends}
-use Rattle.tag_tests.proofs.EndKinds.{end_here}
-use Rattle.tag_tests.proofs.Readers.{step_as}
-use Rattle.ospl_grammar.specs.Marked.{by_kinds}
-use Rattle.ospl_grammar.proofs.standing.StandingMarkReaderUnit.close.Goals as goal
-
-pub returns : goal.returns
-returns c = step_as by_kinds c.args.self.now c.end.new.self (Finish c.args._name.now) (ends c.args.self.now.place) c.end.result (end_here c.args.self.now.depth c.args.self.now.place c.if-self-gt0.false) c.end.ensures
