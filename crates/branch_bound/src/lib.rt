@@ -31,6 +31,7 @@ mod rays;
 mod relaxation;
 mod rounds;
 mod searching;
+mod standing;
 mod start;
 mod state;
 mod values;

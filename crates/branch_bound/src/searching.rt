@@ -34,6 +34,7 @@ use crate::gap::is_near;
 use crate::level::Level;
 use crate::limits::Limits;
 use crate::relaxation::{Relaxation, make_work, run_case};
+use crate::standing::look;
 use crate::state::SearchState;
 use crate::visit::visit;
 use crate::walk::Walk;
@@ -86,7 +87,7 @@ impl<L: Ledger> SearchState<L> {
         if is_near(instance, limits, &self.level, &self.walk, depth) {
             return Err(give_up(&mut self.walk, Cause::Gap));
         }
-        if watch.look() {
+        if look(watch, instance, &self.level, &self.walk, depth) {
             return Err(give_up(&mut self.walk, Cause::Killed));
         }
         let zero_goal = self.walk.ray.is_some();

@@ -49,7 +49,7 @@ returns-then-look-clause-moments g c =
       looks = 0;
       killed = true;
       is = c.give_up-then-look.ensures.killed;
-      came = subst (λ b. g.W.Watch.came a.watch.now c.look.new.self (b ∷ [])) c.if-look.true c.look.ensures.came;
+      came = subst (λ b. g.W.Watch.came a.watch.now c.look.new.watch (b ∷ [])) c.if-look.true c.look.ensures.came;
       carries = look_carries a.instance.now a.limits s.relaxation s.level s.walk a.depth at (may_close a.instance.now a.limits s c.requires.state) c.give_up-then-look.new.walk c.give_up-then-look.result c.requires.state.keeps low
           (λ K D k shown near. let h = c.is_near.ensures K D k shown in false≢true (sym c.if-is_near.false ∙ h.1 near)) c.give_up-then-look.ensures.is c.give_up-then-look.ensures.rest;
     }
@@ -61,7 +61,7 @@ returns-then-is_stop-clause-moments g c =
     let at = walk_at (length a.instance.now.vars) a.depth s.walk c.requires.state.walk c.requires.at in
     let r = c.run_case-end.new.relaxation in
     let low : s.level.before + length s.walk.nodes < a.limits.nodes = search rules in
-    let first = subst (λ b. g.W.Watch.came a.watch.now c.look.new.self (b ∷ [])) c.if-look.false c.look.ensures.came in
+    let first = subst (λ b. g.W.Watch.came a.watch.now c.look.new.watch (b ∷ [])) c.if-look.false c.look.ensures.came in
     let on : was_stopped c.run_case-end.result ≡ true = sym c.is_stop.ensures ∙ c.if-is_stop.true in
     let is : ended_with c.run_case-end.result r.work ≡ Ended.Stopped = stopped_is c.run_case-end.result r.work on in
     let (k, came, run) = rw (on, is, c.as_slice.ensures.value) at c.run_case-end.ensures.run in
@@ -69,7 +69,7 @@ returns-then-is_stop-clause-moments g c =
       looks = suc k;
       killed = true;
       is = c.give_up-then-is_stop.ensures.killed;
-      came = g.met.W.Watch.joined a.watch.now c.look.new.self c.run_case-end.new.watch (false ∷ []) (went_on k ++ true ∷ []) first came;
+      came = g.met.W.Watch.joined a.watch.now c.look.new.watch c.run_case-end.new.watch (false ∷ []) (went_on k ++ true ∷ []) first came;
       carries = stop_carries a.instance.now a.limits s.relaxation s.level s.walk a.depth at (may_close a.instance.now a.limits s c.requires.state) c.give_up-then-is_stop.new.walk c.give_up-then-is_stop.result c.requires.state.keeps low
           (λ K D k shown near. let h = c.is_near.ensures K D k shown in false≢true (sym c.if-is_near.false ∙ h.1 near)) c.give_up-then-is_stop.ensures.is c.give_up-then-is_stop.ensures.rest
           r _ c.run_case-end.ensures.given c.run_case-end.ensures.rows c.is_some-zero_goal.result k (sym c.is_some-zero_goal.ensures) (sym c.requires.state.most)
@@ -94,14 +94,14 @@ returns-clause-moments g c =
     let at = walk_at (length a.instance.now.vars) a.depth s.walk c.requires.state.walk c.requires.at in
     let r = c.run_case-end.new.relaxation in
     let low : s.level.before + length s.walk.nodes < a.limits.nodes = search rules in
-    let first = subst (λ b. g.W.Watch.came a.watch.now c.look.new.self (b ∷ [])) c.if-look.false c.look.ensures.came in
+    let first = subst (λ b. g.W.Watch.came a.watch.now c.look.new.watch (b ∷ [])) c.if-look.false c.look.ensures.came in
     let off : was_stopped c.run_case-end.result ≡ false = sym c.is_stop.ensures ∙ c.if-is_stop.false in
     let (k, came, run) = rw (off, c.as_slice.ensures.value) at c.run_case-end.ensures.run in
     record {
       looks = suc k;
       killed = false;
       is = not_killed c.visit.result c.visit.ensures.went_on;
-      came = g.met.W.Watch.joined a.watch.now c.look.new.self c.run_case-end.new.watch (false ∷ []) (went_on k) first came;
+      came = g.met.W.Watch.joined a.watch.now c.look.new.watch c.run_case-end.new.watch (false ∷ []) (went_on k) first came;
       carries = visit_carries a.instance.now a.limits s.relaxation s.level s.walk a.depth at (may_close a.instance.now a.limits s c.requires.state) r _ c.run_case-end.ensures.given c.run_case-end.ensures.rows low c.is_some-zero_goal.result (sym c.is_some-zero_goal.ensures) (sym c.requires.state.most) k c.run_case-end.result run
           c.requires.state.keeps (λ K D k shown near. let h = c.is_near.ensures K D k shown in false≢true (sym c.if-is_near.false ∙ h.1 near))
           c.visit.new.relaxation c.visit.new.level c.visit.new.walk c.visit.ensures.turns c.visit.ensures.certs c.visit.result c.visit.ensures.leaves c.visit.ensures.stays c.visit.ensures.ok c.visit.ensures.err;
