@@ -23,13 +23,19 @@ for name in $(sed -n 's/^\([a-z][a-z0-9_]*\):.*/\1/p' crates.txt); do
     echo "// $name" >"crates/$name/src/lib.rt"
 done
 
-# What stands in for the program: it writes a text, waits, and ends with a status.
+# What stands in for the program: it writes a text, waits, for so many tenths of a second for a file that is to end it too, and ends with a status.
 make_stub() {
     mkdir -p crates/os_main/out
     cat >crates/os_main/out/os_main <<'STUB'
 #!/bin/sh
 echo $$ >"$STUB_PID"
+[ -z "${STUB_SEEN-}" ] || echo "$*" >"$STUB_SEEN"
+[ -z "${STUB_TELLS-}" ] || echo "$STUB_TELLS" >&2
 [ -z "${STUB_HANGS-}" ] || exec sleep 30
+for _ in $(seq "${STUB_HALTS:-0}"); do
+    [ ! -e "${3-}" ] || break
+    sleep 0.1
+done
 [ "${1-}" != session ] || cat
 sleep "${STUB_SECONDS:-0}"
 printf '%s' "${STUB_TEXT-}"
@@ -83,6 +89,16 @@ at_terminal() {
     TERM=xterm script -qec "$1" /dev/null | tr -d '\r'
 }
 
+# FILE: Ctrl-C, once a program runs that has written its number there; half a minute is waited for it at most.
+press_ctrl_c() {
+    for _ in $(seq 300); do
+        [ ! -s "$1" ] || break
+        sleep 0.1
+    done
+    printf '\003'
+    sleep 1
+}
+
 # PATTERN TEXT: whether the text has the pattern.
 has() {
     case $2 in
@@ -110,12 +126,12 @@ expect 'completion of a file' "$(completed ./os check crates.t)" 'crates.txt'
 expect 'completion of help' "$(completed ./os help g)" 'generate'
 if command -v zsh >/dev/null; then
     told=$(zsh -fc 'words=(os solve --s) CURRENT=3 PREFIX=--s; compadd() { echo "$@" }; _files() { echo files }; . "$1"' zsh "$room/complete.zsh" 2>&1)
-    expect 'what zsh completes' "$told" '-- --options --result --seconds --safe --free --max --glpk --osrl'
+    expect 'what zsh completes' "$told" '-- --options --result --seconds --halt --safe --free --max --glpk --osrl'
 fi
 
 # ---- before the program is built
 
-all='./os solve OSIL [--options OSOL] [--result OSRL] [--seconds N] [--safe]'
+all='./os solve OSIL [--options OSOL] [--result OSRL] [--seconds N] [--halt FILE] [--safe]'
 says_no_command "$all"
 says_help "$all" help
 says_help "$all" --help
@@ -238,7 +254,8 @@ OUT='text and input' tries '-- session' '' session
 RT_STATUS=2 RT_TRIED='run=ended status=2 proved=no' tries '-- generate there' "os: these words are not those of generate: ./os generate N (./os help generate says more)" generate there
 ./os try solve nofile.osil >out 2>err
 expect 'status of a try without its file' $? 3
-expect 'line of a try without its file' "$(cat out err)" "os: can't read nofile.osil: there is no such file; name another file: ./os solve OSIL [--options OSOL] [--result OSRL] [--seconds N] [--safe]"
+expect 'line of a try without its file' "$(cat out err)" "os: can't read nofile.osil: there is no such file; name another file: ./os solve OSIL [--options OSOL] [--result OSRL] [--seconds N] [--halt FILE] [--safe]"
+cant_try 'os: not tried: what is tried sees the files that are there when it begins, and none that is to end it; ./os solve proves the program, and runs it then' solve there --halt now
 cant_try 'os: name a command to be tried: ./os try COMMAND .. (./os help try says which)'
 cant_try 'os: name a command to be tried: ./os try COMMAND .. (./os help try says which)' try
 cant_try 'os: name a command to be tried: ./os try COMMAND .. (./os help try says which)' fly
@@ -284,7 +301,8 @@ expect 'line of a build that is interrupted' "$(tail -n 1 err)" 'os: the build w
 kill -0 "$(cat rt_pid)" 2>/dev/null
 expect 'an interrupted build leaves nothing behind' $? 1
 
-seen=$({ sleep 2; printf '\003'; sleep 1; } | at_terminal 'trap : INT; RT_STOPS=yes ./os generate 1; echo status $?')
+rm -f rt_pid
+seen=$(press_ctrl_c rt_pid | at_terminal 'trap : INT; RT_STOPS=yes ./os generate 1; echo status $?')
 expect 'status of a build behind Ctrl-C' "$(has 'status 130' "$seen")" yes
 expect 'line of a build behind Ctrl-C' "$(has 'os: the build was interrupted; ./os begins it anew' "$seen")" yes
 kill -0 "$(cat rt_pid)" 2>/dev/null
@@ -349,10 +367,10 @@ says 0 '' solve there
 says 0 '' solve there --safe
 says 0 '' solve there --seconds 60 --safe
 says 1 '' solve there
-says 2 'os: these words are not those of solve: ./os solve OSIL [--options OSOL] [--result OSRL] [--seconds N] [--safe] (./os help solve says more)' solve there there
-says 2 'os: these words are not those of solve: ./os solve OSIL [--options OSOL] [--result OSRL] [--seconds N] [--safe] (./os help solve says more)' solve there --safe=1
+says 2 'os: these words are not those of solve: ./os solve OSIL [--options OSOL] [--result OSRL] [--seconds N] [--halt FILE] [--safe] (./os help solve says more)' solve there there
+says 2 'os: these words are not those of solve: ./os solve OSIL [--options OSOL] [--result OSRL] [--seconds N] [--halt FILE] [--safe] (./os help solve says more)' solve there --safe=1
 says 2 'os: these words are not those of generate: ./os generate N (./os help generate says more)' generate 1001
-solve='name another file: ./os solve OSIL [--options OSOL] [--result OSRL] [--seconds N] [--safe]'
+solve='name another file: ./os solve OSIL [--options OSOL] [--result OSRL] [--seconds N] [--halt FILE] [--safe]'
 says 3 "os: can't read nofile.osil: there is no such file; $solve" solve nofile.osil
 says 3 "os: can't read nofile.osil: there is no such file; $solve" solve --safe nofile.osil
 says 3 "os: can't read no.osol: there is no such file; $solve" solve there --safe --options no.osol
@@ -439,10 +457,52 @@ expect 'status behind TERM' $? 143
 expect 'lines behind TERM' "$(cat err)" ''
 kill -0 "$(cat pid)" 2>/dev/null
 expect 'TERM reaches the program' $? 1
-seen=$({ sleep 1; printf '\003'; sleep 1; } | at_terminal 'trap : INT; STUB_HANGS=yes ./os session; echo status $?')
+rm -f pid
+seen=$(press_ctrl_c pid | at_terminal 'trap : INT; STUB_HANGS=yes ./os session; echo status $?')
 expect 'status behind Ctrl-C' "$(has 'status 130' "$seen")" yes
 kill -0 "$(cat pid)" 2>/dev/null
 expect 'Ctrl-C reaches the program' $? 1
+
+# ---- a search that Ctrl-C ends
+
+mkdir rooms3
+rm -f pid
+seen=$({ press_ctrl_c pid; sleep 1; } | TMPDIR=$room/rooms3 STUB_HALTS=300 STUB_TEXT=document at_terminal 'trap : INT; ./os solve there; echo status $?')
+expect 'what a search has that Ctrl-C ends' "$(has document "$seen")" yes
+expect 'line behind Ctrl-C in a search' "$(has 'os: the search ends with what it has; Ctrl-C once more ends the program' "$seen")" yes
+expect 'status behind Ctrl-C in a search' "$(has 'status 0' "$seen")" yes
+expect 'nothing is left of the file that ends a search' "$(ls rooms3)" ''
+rm -f pid
+seen=$({ press_ctrl_c pid; press_ctrl_c pid; } | TMPDIR=$room/rooms3 STUB_HANGS=yes at_terminal 'trap : INT; ./os solve there; echo status $?')
+expect 'status behind Ctrl-C twice' "$(has 'status 130' "$seen")" yes
+kill -0 "$(cat pid)" 2>/dev/null
+expect 'Ctrl-C twice ends the program' $? 1
+expect 'nothing is left behind Ctrl-C twice' "$(ls rooms3)" ''
+rm -f pid
+seen=$(press_ctrl_c pid | STUB_HANGS=yes at_terminal 'trap : INT; ./os solve there 2>err; echo status $?')
+expect 'status behind Ctrl-C where no one sees the lines' "$(has 'status 130' "$seen")" yes
+rm -f pid
+seen=$(press_ctrl_c pid | STUB_HANGS=yes at_terminal 'trap : INT; ./os generate 1; echo status $?')
+expect 'status behind Ctrl-C in another command' "$(has 'status 130' "$seen")" yes
+seen=$(STUB_SECONDS=2.5 STUB_TEXT=document STUB_TELLS='7/2 -' at_terminal './os solve there; echo status $?' </dev/null)
+clear=$(printf '\033[K')
+expect 'a long search that tells its best value' "$seen" "os: 2 s, best 3.5${clear}document${clear}status 0"
+seen=$(STUB_SECONDS=2.5 STUB_TEXT=document STUB_TELLS='-12/1 -25/2' at_terminal './os solve there' </dev/null)
+expect 'a long search that tells its bound too' "$seen" "os: 2 s, best -12, bound -12.5${clear}document${clear}"
+seen=$(STUB_SECONDS=2.5 STUB_TEXT=document STUB_TELLS='- 1/3' at_terminal './os solve there' </dev/null)
+expect 'a long search that has no point yet' "$seen" "os: 2 s, bound 0.333333${clear}document${clear}"
+seen=$(STUB_TEXT=document STUB_TELLS='out of luck' at_terminal './os solve there' </dev/null)
+expect 'what the program says besides at a terminal' "$(has 'out of luck' "$seen")" yes
+STUB_TELLS='7/2 -' ./os solve there --halt mine >out 2>err </dev/null
+expect 'how a search stands elsewhere' "$(cat err)" '7/2 -'
+seen=$(STUB_SEEN=words at_terminal './os solve there --halt mine' </dev/null)
+expect 'a file of my own ends a search' "$(cat words) $seen" 'solve there --halt mine '
+seen=$(STUB_SEEN=words at_terminal './os solve there' </dev/null)
+expect 'words of a search at a terminal' "$(sed 's|/[^ ]*/||g' words)$seen" 'solve --halt now --options osol there'
+seen=$(STUB_SEEN=words at_terminal './os solve there --options mine' </dev/null)
+expect 'words of a search at a terminal with options' "$(sed 's|/[^ ]*/||g' words)$seen" 'solve --halt now there --options mine'
+STUB_SEEN=words ./os solve there >out 2>err </dev/null
+expect 'words of a search elsewhere' "$(cat words)" 'solve there'
 
 seen=$(STUB_SECONDS=3.5 STUB_TEXT=document at_terminal './os solve there; echo status $?' </dev/null)
 clear=$(printf '\033[K')

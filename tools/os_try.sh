@@ -7,6 +7,7 @@ why_not_tried() {
     case $asked in
         serve) echo "serve goes on without an end, and what is tried says nothing before it has ended" ;;
         compact) echo "compact writes a file, and what is tried leaves none" ;;
+        solve) [ -z "${halt+x}" ] || echo "what is tried sees the files that are there when it begins, and none that is to end it" ;;
         *) [ -z "${journal+x}" ] || echo "a journal is a file, and what is tried leaves none" ;;
     esac
 }

@@ -1,4 +1,4 @@
-# shellcheck shell=sh disable=SC2154
+# shellcheck shell=sh disable=SC2154,SC2034
 # Read by ./os: what it says of commands and statuses. All of it goes to the standard error, but for help that is asked for, the version, and
 # the usage where the words are no command's, which is the program's own.
 
@@ -110,7 +110,7 @@ answer_no_command() {
 # has no text.
 take_apart() {
     first='' second='' third=''
-    unset options result osil osol ospl journal
+    unset options result halt osil osol ospl journal
     while [ $# -gt 0 ] && [ "$1" != -- ]; do
         case $1 in
             --safe | --osrl | --free | --max | --glpk) ;;
@@ -141,6 +141,7 @@ keep_option() {
     case $1 in
         --options) options=$2 ;;
         --result) result=$2 ;;
+        --halt) halt=$2 ;;
         --osil) osil=$2 ;;
         --osol) osol=$2 ;;
         --ospl) ospl=$2 ;;

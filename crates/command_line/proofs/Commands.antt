@@ -20,7 +20,7 @@ use Rattle.clap.proofs.WalkLemmas.{both, walk_stopped}
 use Rattle.command_line.specs.CommandWords.{AreNew, Give, Given, AreWordsOf, given_in, has_name}
 use Rattle.command_line.specs.CommandWords as giving
 use Rattle.command_line.specs.Forms.{CommandForm, forms, program_form}
-use Rattle.command_line.specs.Words.{Command, asked_by, asked_with, asks}
+use Rattle.command_line.specs.Words.{Command, command_asked, asked_with, asks}
 use Rattle.std.proofs.Math.Bool.{or-true}
 use Rattle.std.proofs.lemmas.List.Folds.{list_any-append}
 use Rattle.clap.proofs.SimpleLemmas.{is_false}
@@ -363,13 +363,13 @@ none_refused (fault ∷ faults) found it asked = absurd (none-some it asked)
 
 module _ (f : CommandForm) (has : HasCommand f) (name : Text) (words : List Text) where
   -- words that give texts ask for what these mean
-  given_asks : (given : Given) → Give f.named f.flags f.needed words given → AreNew [] given → asks (name ∷ f.name ∷ words) ≡ asked_by f.name (given_in given)
+  given_asks : (given : Given) → Give f.named f.flags f.needed words given → AreNew [] given → asks (name ∷ f.name ∷ words) ≡ command_asked f.name (given_in given)
   given_asks given give new =
       let found = level_of f words given (gives f (form_is f has.fit) f.needed words given give 0 [] None (needs_all f has.fit) tt new) (all_given f.named f.flags f.needed words given [] give) in
-      has.heard name words ∙ ap₂ (heard_by f.name) found.0 found.1 ∙ ap (asked_by f.name) (λ i id. first_is given id i)
+      has.heard name words ∙ ap₂ (heard_by f.name) found.0 found.1 ∙ ap (command_asked f.name) (λ i id. first_is given id i)
 
   -- and words that ask for something do
-  asks_given : (it : Command) → asks (name ∷ f.name ∷ words) ≡ Some it → (given : Given) × Give f.named f.flags f.needed words given × AreNew [] given × (asked_by f.name (given_in given) ≡ Some it)
+  asks_given : (it : Command) → asks (name ∷ f.name ∷ words) ≡ Some it → (given : Given) × Give f.named f.flags f.needed words given × AreNew [] given × (command_asked f.name (given_in given) ≡ Some it)
   asks_given it asked =
       let none : level f words ≡ [] = first_none _ _ (none_refused _ _ it (sym (has.heard name words) ∙ asked)) in
       let form = form_is f has.fit in

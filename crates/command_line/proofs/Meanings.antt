@@ -15,7 +15,7 @@ use Rattle.clap.specs.declared.parser.matches.Found.{Found}
 use Rattle.clap.proofs.WalkLemmas.{first_value-rows}
 use Rattle.command_line.specs.declared.words.Asked.{Asked}
 use Rattle.command_line.specs.Forms.{program_form}
-use Rattle.command_line.specs.Words.{Command, IsNoCommand, asked_by, asked_with, asks, found_in, meant}
+use Rattle.command_line.specs.Words.{Command, IsNoCommand, command_asked, asked_with, asks, found_in, meant}
 
 -- clap says exactly what it makes of the program's words
 program_is_free : is_simple_and_free program_form ≡ true
@@ -29,13 +29,13 @@ program_is_simple = refl
 -- what words ask for that aren't refused
 pub asks_by_subcommand : (app : App) (words : List Text) (found : ArgMatches) → app ≡ program_form
     → (is_simple_and_free app ≡ true → fault_of app words ≡ []) → HasMatchesOf app words found
-    → option_and_then (λ f. asked_by f.0 (found_in f.1)) (subcommand_rows_of found) ≡ asks words
+    → option_and_then (λ f. command_asked f.0 (found_in f.1)) (subcommand_rows_of found) ≡ asks words
 unfolding asks
 asks_by_subcommand app words found is faults matches =
     let none : fault_of program_form words ≡ [] = subst (λ (a : App). fault_of a words ≡ []) is (faults (ap is_simple_and_free is ∙ program_is_free)) in
     let rows : subcommand_rows_of found ≡ subcommand_of program_form words =
     (matches (ap is_simple is ∙ program_is_simple)).1 ∙ ap (λ (a : App). subcommand_of a words) is in
-    ap (option_and_then (λ f. asked_by f.0 (found_in f.1))) rows ∙ ap (λ (faults : Kinds). asked_with faults (subcommand_of program_form words)) (sym none)
+    ap (option_and_then (λ f. command_asked f.0 (found_in f.1))) rows ∙ ap (λ (faults : Kinds). asked_with faults (subcommand_of program_form words)) (sym none)
 
 some_fault : (kind : ErrorKind) (faults : Kinds) (found : Option (Text × List Row)) → IsAmong kind faults
     → None ≡ asked_with faults found
@@ -60,14 +60,14 @@ asks_nothing app words error is kinds other =
 module _ {X : Type 0} (named : X → Text) (rows : X → List Row) where
   asked_found : (o : Option X) (name : Text) (f : Found) (it : Option Command) → Some name ≡ option_map named o
       → Some (rows_of f) ≡ option_map (λ (p : Text × List Row). p.1) (option_map (λ (b : X). (named b, rows b)) o)
-      → it ≡ asked_by name (first_value f) → it ≡ option_and_then (λ (q : Text × List Row). asked_by q.0 (found_in q.1)) (option_map (λ (b : X). (named b, rows b)) o)
+      → it ≡ command_asked name (first_value f) → it ≡ option_and_then (λ (q : Text × List Row). command_asked q.0 (found_in q.1)) (option_map (λ (b : X). (named b, rows b)) o)
   asked_found None name f it first second is = absurd (none-some name (sym first))
   asked_found (Some b) name f it first second is =
-      is ∙ (λ i. asked_by (same_Some _ _ first i) (λ id. (first_value-rows f id ∙ ap (first_of id) (same_Some _ _ second)) i))
+      is ∙ (λ i. command_asked (same_Some _ _ first i) (λ id. (first_value-rows f id ∙ ap (first_of id) (same_Some _ _ second)) i))
 
-pub asked_by_found : (m : ArgMatches) (name : Text) (f : Found) (it : Option Command) → Some name ≡ subcommand_name_of m → Some (rows_of f) ≡ option_map (λ (p : Text × List Row). p.1) (subcommand_rows_of m)
-    → it ≡ asked_by name (first_value f) → it ≡ option_and_then (λ (q : Text × List Row). asked_by q.0 (found_in q.1)) (subcommand_rows_of m)
-asked_by_found m name f it first second is =
+pub command_asked_found : (m : ArgMatches) (name : Text) (f : Found) (it : Option Command) → Some name ≡ subcommand_name_of m → Some (rows_of f) ≡ option_map (λ (p : Text × List Row). p.1) (subcommand_rows_of m)
+    → it ≡ command_asked name (first_value f) → it ≡ option_and_then (λ (q : Text × List Row). command_asked q.0 (found_in q.1)) (subcommand_rows_of m)
+command_asked_found m name f it first second is =
     asked_found (λ b. (out-SubCommand (box_value b)).name.now) (λ b. rows_of (found_of (out-SubCommand (box_value b)).matches)) (out-ArgMatches m).subcommand name f it first second is
 
 -- ---- what was asked for

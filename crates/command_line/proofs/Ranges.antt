@@ -14,7 +14,7 @@ use Rattle.effects.specs.Limits.{most_first}
 use Rattle.six_calls.specs.Names.{kind_named}
 use Rattle.command_line.specs.Forms.{program_form}
 use Rattle.command_line.specs.Numbers.{number_between, number_or}
-use Rattle.command_line.specs.Words.{Command, Said, Check, Solve, Generate, Call, Compact, Serve, AreNumbersWithin, asked_by, asked_with, asks, called_command, check_of, compact_of, found_in, generate_of, most_seconds, port_of, seconds_of, serve_of, session_of, solve_of}
+use Rattle.command_line.specs.Words.{Command, Said, Check, Solve, Generate, Call, Compact, Serve, AreNumbersWithin, command_asked, asked_with, asks, called_command, check_of, compact_of, found_in, generate_of, most_seconds, port_of, seconds_of, serve_of, session_of, solve_of}
 
 number_within : (least most : ℕ) (word : Text) (n : ℕ) → number_between least most word ≡ Some n → (least ≤ n) × (n ≤ most)
 number_within least most word n is = go (is_unsigned_in least most word) refl is
@@ -48,11 +48,11 @@ module _ (said : Said) (it : Command) where
       by None read is = absurd (none-some seconds is)
       by (Some n) read is = subst (λ (s : Option ℕ). IfSome s (λ m. m ≤ most_seconds)) (same_Some (Some n) seconds is) (number_within 0 most_seconds word n read).1
 
-  solve_within : (osil options handed : Option Text) (seconds : Option (Option ℕ)) (safe : Bool) → seconds_of (said (codes "seconds")) ≡ seconds
-      → option_and_then (λ (a : Text). option_map (λ (s : Option ℕ). Solve a options handed s safe) seconds) osil ≡ Some it → AreNumbersWithin it
-  solve_within None options handed seconds safe read is = absurd (none-some it is)
-  solve_within (Some osil) options handed None safe read is = absurd (none-some it is)
-  solve_within (Some osil) options handed (Some seconds) safe read is = subst AreNumbersWithin (same_Some (Solve osil options handed seconds safe) it is) (seconds_within (said (codes "seconds")) seconds read)
+  solve_within : (osil options handed halt : Option Text) (seconds : Option (Option ℕ)) (safe : Bool) → seconds_of (said (codes "seconds")) ≡ seconds
+      → option_and_then (λ (a : Text). option_map (λ (s : Option ℕ). Solve a options handed halt s safe) seconds) osil ≡ Some it → AreNumbersWithin it
+  solve_within None options handed halt seconds safe read is = absurd (none-some it is)
+  solve_within (Some osil) options handed halt None safe read is = absurd (none-some it is)
+  solve_within (Some osil) options handed halt (Some seconds) safe read is = subst AreNumbersWithin (same_Some (Solve osil options handed halt seconds safe) it is) (seconds_within (said (codes "seconds")) seconds read)
 
   -- a number that a word is, if one is there
   read_within : (least most : ℕ) (word : Option Text) (n : ℕ) → option_and_then (number_between least most) word ≡ Some n → (least ≤ n) × (n ≤ most)
@@ -98,7 +98,7 @@ module _ (said : Said) (it : Command) where
       → AreNumbersWithin it
   by_name true check solve generate call compact serve is = subst AreNumbersWithin (same_Some (session_of said) it is) tt
   by_name false true solve generate call compact serve is = check_within (said (codes "osil")) (said (codes "osrl")) is
-  by_name false false true generate call compact serve is = solve_within (said (codes "osil")) (said (codes "options")) (said (codes "result")) (seconds_of (said (codes "seconds"))) (is_some (said (codes "safe"))) refl is
+  by_name false false true generate call compact serve is = solve_within (said (codes "osil")) (said (codes "options")) (said (codes "result")) (said (codes "halt")) (seconds_of (said (codes "seconds"))) (is_some (said (codes "safe"))) refl is
   by_name false false false true call compact serve is = generate_within (option_and_then (number_between 1 1000) (said (codes "variables"))) refl is
   by_name false false false false true compact serve is = call_within (option_and_then kind_named (said (codes "name"))) (said (codes "host")) (port_of said) refl is
   by_name false false false false false true serve is = compact_within (said (codes "old")) (said (codes "new")) is
@@ -110,7 +110,7 @@ asked_within : (faults : Kinds) (found : Option (Text × List Row)) (it : Comman
 asked_within [] found it is =
     by found is
   where
-    by : (found : Option (Text × List Row)) → option_and_then (λ (f : Text × List Row). asked_by f.0 (found_in f.1)) found ≡ Some it → AreNumbersWithin it
+    by : (found : Option (Text × List Row)) → option_and_then (λ (f : Text × List Row). command_asked f.0 (found_in f.1)) found ≡ Some it → AreNumbersWithin it
     by None is = absurd (none-some it is)
     by (Some f) is = by_name (found_in f.1) it (bytes_eq f.0 (codes "session")) (bytes_eq f.0 (codes "check")) (bytes_eq f.0 (codes "solve")) (bytes_eq f.0 (codes "generate")) (bytes_eq f.0 (codes "call"))
         (bytes_eq f.0 (codes "compact")) (bytes_eq f.0 (codes "serve")) is

@@ -4,7 +4,7 @@ use Rattle.std.specs.List.{Any, list_any, zip}
 use Rattle.std.specs.Str.{bytes_eq, chars}
 use Rattle.clap.specs.Words.{Text}
 use Rattle.command_line.specs.Forms.{CommandForm, forms}
-use Rattle.command_line.specs.Words.{Command, Said, asked_by}
+use Rattle.command_line.specs.Words.{Command, Said, command_asked}
 
 -- the word is no flag: it doesn't begin with `-` (45), or no character stands behind that, as in `-` alone (POSIX.1, XBD 12.2,
 -- guideline 4)
@@ -55,4 +55,4 @@ pub record AreWordsOf (it : Command) (words : List Text) : Type 0 where
   pub are : words ≡ name ∷ form.name ∷ rest
   pub give : Give form.named form.flags form.needed rest given
   pub once : AreNew [] given
-  pub means : asked_by form.name (given_in given) ≡ Some it
+  pub means : command_asked form.name (given_in given) ≡ Some it

@@ -15,7 +15,7 @@ pub record CommandForm : Type 0 where
 abbrev pub forms : List CommandForm
 forms = record { name = codes "session"; needed = []; named = codes "journal" ∷ []; flags = [] }
     ∷ record { name = codes "check"; needed = codes "osil" ∷ codes "osrl" ∷ []; named = []; flags = [] }
-    ∷ record { name = codes "solve"; needed = codes "osil" ∷ []; named = codes "options" ∷ codes "result" ∷ codes "seconds" ∷ []; flags = codes "safe" ∷ [] }
+    ∷ record { name = codes "solve"; needed = codes "osil" ∷ []; named = codes "options" ∷ codes "result" ∷ codes "seconds" ∷ codes "halt" ∷ []; flags = codes "safe" ∷ [] }
     ∷ record { name = codes "generate"; needed = codes "variables" ∷ []; named = []; flags = [] }
     ∷ record { name = codes "call"; needed = codes "name" ∷ codes "host" ∷ codes "port" ∷ []; named = codes "osil" ∷ codes "osol" ∷ codes "ospl" ∷ []; flags = [] }
     ∷ record { name = codes "compact"; needed = codes "old" ∷ codes "new" ∷ []; named = []; flags = [] }

@@ -12,13 +12,13 @@ use Rattle.command_line.specs.declared.words.Asked.{Asked}
 use Rattle.command_line.specs.declared.words.Asked.TheVariants as asked
 
 -- what words may ask for: a session; a check of the files of these names; the result of an instance's file with the options of
--- another file, if one is named, and the result in one that is handed in, if there is one, within so many seconds, if they are said, and with or without the safe limit of turns; the instance of so many variables, solved; a call of the server at a host's port, with the
+-- another file, if one is named, and the result in one that is handed in, if there is one, until there is a file of this name, if one is named, within so many seconds, if they are said, and with or without the safe limit of turns; the instance of so many variables, solved; a call of the server at a host's port, with the
 -- files of its parts; a journal, written again; or a server there, with so many workers, so many conversations at once, up to so many connections, of whose links
 -- each waits for its peer for so many seconds at most, and whose first job has this number
 pub data Command : Type 0 where
   Session : (journal : Option Text) → Command
   Check : (osil osrl : Text) → Command
-  Solve : (osil : Text) → (options handed : Option Text) → (seconds : Option ℕ) → (safe : Bool) → Command
+  Solve : (osil : Text) → (options handed halt : Option Text) → (seconds : Option ℕ) → (safe : Bool) → Command
   Generate : (variables : ℕ) → Command
   Call : (kind : CallKind) → (host : Text) → (port : ℕ) → (osil osol ospl : Option Text) → Command
   Compact : (old new : Text) → Command
@@ -28,7 +28,7 @@ pub data Command : Type 0 where
 abbrev pub meant : Asked → Command
 meant (asked.Session journal) = Session (option_map (λ n. n.now) journal)
 meant (asked.Check osil osrl) = Check osil.now osrl.now
-meant (asked.Solve osil options handed seconds safe) = Solve osil.now (option_map (λ name. name.now) options) (option_map (λ name. name.now) handed) seconds safe
+meant (asked.Solve osil options handed halt seconds safe) = Solve osil.now (option_map (λ name. name.now) options) (option_map (λ name. name.now) handed) (option_map (λ name. name.now) halt) seconds safe
 meant (asked.Generate variables) = Generate variables
 meant (asked.Call words) = Call words.kind words.host.now words.port (option_map (λ name. name.now) words.osil) (option_map (λ name. name.now) words.osol) (option_map (λ name. name.now) words.ospl)
 meant (asked.Compact old new) = Compact old.now new.now
@@ -60,7 +60,7 @@ seconds_of None = Some None
 seconds_of (Some word) = option_map Some (number_between 0 most_seconds word)
 
 abbrev pub solve_of : Said → Option Command
-solve_of said = option_and_then (λ osil. option_map (λ seconds. Solve osil (said (codes "options")) (said (codes "result")) seconds (is_some (said (codes "safe")))) (seconds_of (said (codes "seconds")))) (said (codes "osil"))
+solve_of said = option_and_then (λ osil. option_map (λ seconds. Solve osil (said (codes "options")) (said (codes "result")) (said (codes "halt")) seconds (is_some (said (codes "safe")))) (seconds_of (said (codes "seconds")))) (said (codes "osil"))
 
 -- one to a thousand variables
 abbrev pub generate_of : Said → Option Command
@@ -82,8 +82,8 @@ serve_of said =
     (number_or 8 1 64 (said (codes "servers")))) (number_or 2 0 16 (said (codes "workers")))) (port_of said)) (said (codes "host"))
 
 -- what a command asks for, by its name and by the texts of its words
-abbrev pub asked_by : Text → Said → Option Command
-asked_by name said = if bytes_eq name (codes "session") then Some (session_of said)
+abbrev pub command_asked : Text → Said → Option Command
+command_asked name said = if bytes_eq name (codes "session") then Some (session_of said)
     else (if bytes_eq name (codes "check") then check_of said
     else (if bytes_eq name (codes "solve") then solve_of said
     else (if bytes_eq name (codes "generate") then generate_of said
@@ -99,7 +99,7 @@ found_in rows id = first_of id rows
 
 -- what is asked for where the words have these faults and name this subcommand
 abbrev pub asked_with : Kinds → Option (Text × List Row) → Option Command
-asked_with [] found = option_and_then (λ f. asked_by f.0 (found_in f.1)) found
+asked_with [] found = option_and_then (λ f. command_asked f.0 (found_in f.1)) found
 asked_with (fault ∷ faults) found = None
 
 -- what the words ask for, the first of which is the program's name; nothing where they are refused, or ask for help
@@ -118,15 +118,15 @@ IsNoCommand words = asks words ≡ None
 abbrev pub IsCheck : List Text → (osil osrl : Text) → Type 0
 IsCheck words osil osrl = asks words ≡ Some (Check osil osrl)
 
--- the words are `solve`'s, and name this file, one of options, if any, and one of a result that is handed in, if any, within so many seconds, if they say so, with or without the safe limit
-abbrev pub IsSolve : List Text → (osil : Text) → (options handed : Option Text) → (seconds : Option ℕ) → (safe : Bool) → Type 0
-IsSolve words osil options handed seconds safe = asks words ≡ Some (Solve osil options handed seconds safe)
+-- the words are `solve`'s, and name this file, one of options, if any, one of a result that is handed in, if any, and one that ends the search once it is there, if any, within so many seconds, if they say so, with or without the safe limit
+abbrev pub IsSolve : List Text → (osil : Text) → (options handed halt : Option Text) → (seconds : Option ℕ) → (safe : Bool) → Type 0
+IsSolve words osil options handed halt seconds safe = asks words ≡ Some (Solve osil options handed halt seconds safe)
 
 -- a command's numbers are within their ends
 abbrev pub AreNumbersWithin : Command → Type 0
 AreNumbersWithin (Session journal) = Unit {0}
 AreNumbersWithin (Check osil osrl) = Unit {0}
-AreNumbersWithin (Solve osil options handed seconds safe) = IfSome seconds (λ n. n ≤ most_seconds)
+AreNumbersWithin (Solve osil options handed halt seconds safe) = IfSome seconds (λ n. n ≤ most_seconds)
 AreNumbersWithin (Generate variables) = (1 ≤ variables) × (variables ≤ 1000)
 AreNumbersWithin (Call kind host port osil osol ospl) = port ≤ 65535
 AreNumbersWithin (Compact old new) = Unit {0}
@@ -138,7 +138,7 @@ AreNumbersWithin (Serve host port workers servers connections patience first jou
 abbrev pub names_files : Command → Bool
 names_files (Session journal) = false
 names_files (Check osil osrl) = true
-names_files (Solve osil options handed seconds safe) = true
+names_files (Solve osil options handed halt seconds safe) = true
 names_files (Generate variables) = false
 names_files (Call kind host port osil osol ospl) = is_some osil || (is_some osol || is_some ospl)
 names_files (Compact old new) = false
@@ -148,7 +148,7 @@ names_files (Serve host port workers servers connections patience first journal)
 abbrev pub asks_for_links : Command → Bool
 asks_for_links (Session journal) = false
 asks_for_links (Check osil osrl) = false
-asks_for_links (Solve osil options handed seconds safe) = false
+asks_for_links (Solve osil options handed halt seconds safe) = false
 asks_for_links (Generate variables) = false
 asks_for_links (Call kind host port osil osol ospl) = true
 asks_for_links (Compact old new) = false

@@ -81,7 +81,7 @@ pub(crate) fn program<'a>(alloc: Global) -> Result<Command<'a>, Memory>
         alloc,
         "solve",
         &["osil"],
-        &["options", "result", "seconds"],
+        &["options", "result", "seconds", "halt"],
         &["safe"],
     )?;
     let program = with_command(program, alloc, "generate", &["variables"], &[], &[])?;

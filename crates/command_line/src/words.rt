@@ -60,12 +60,13 @@ pub enum Asked<'w> {
         osrl: &'w str,
     },
     /// To solve the instance in a file, with the options in another one, if it is named, and the result in a third one that is handed in, if
-    /// there is one; within so many seconds, up to 2^63 - 1, in
-    /// place of their time, if that is asked for; with the safe limit of turns in place of theirs, if that is asked for and there is one.
+    /// there is one; until there is a file of a fourth name, if there is one; within so many seconds, up to 2^63 - 1, in place of their
+    /// time, if that is asked for; with the safe limit of turns in place of theirs, if that is asked for and there is one.
     Solve {
         osil: &'w str,
         options: Option<&'w str>,
         handed: Option<&'w str>,
+        halt: Option<&'w str>,
         seconds: Option<u64>,
         safe: bool,
     },
@@ -156,19 +157,22 @@ fn seconds_of(word: Option<&str>) -> Option<Option<u64>>
     }
 }
 
-/// The files that `solve`'s words name, the time, if one is asked for, and whether the safe limit of turns is.
+/// The files that `solve`'s words name, among them the one that ends the search, the time, if one is asked for, and whether the safe
+/// limit of turns is.
 fn solve_of<'w>(matches: &ArgMatches<'w>) -> Option<Asked<'w>>
     ensures { option_map says.meant result ≡ says.solve_of (first_value (found_of matches.now)) }
 {
     let osil = matches.get_str("osil")?;
     let options = matches.get_str("options");
     let handed = matches.get_str("result");
+    let halt = matches.get_str("halt");
     let safe = matches.get_str("safe").is_some();
     let seconds = seconds_of(matches.get_str("seconds"))?;
     Some(Asked::Solve {
         osil,
         options,
         handed,
+        halt,
         seconds,
         safe,
     })
@@ -230,7 +234,7 @@ fn serve_of<'w>(matches: &ArgMatches<'w>) -> Option<Asked<'w>>
 
 /// What a command of this name asks for.
 fn asked_of<'w>(name: &str, matches: &ArgMatches<'w>) -> Option<Asked<'w>>
-    ensures { option_map says.meant result ≡ says.asked_by name.now (first_value (found_of matches.now)) }
+    ensures { option_map says.meant result ≡ says.command_asked name.now (first_value (found_of matches.now)) }
 {
     if name == "session" {
         Some(session_of(matches))
@@ -252,8 +256,8 @@ fn asked_of<'w>(name: &str, matches: &ArgMatches<'w>) -> Option<Asked<'w>>
 }
 
 /// What the command asks for that was found.
-fn asked_by<'w>(matches: &ArgMatches<'w>) -> Option<Asked<'w>>
-    ensures { option_map says.meant result ≡ option_and_then (λ f. says.asked_by f.0 (says.found_in f.1)) (subcommand_rows_of matches.now) }
+fn subcommand_asked<'w>(matches: &ArgMatches<'w>) -> Option<Asked<'w>>
+    ensures { option_map says.meant result ≡ option_and_then (λ f. says.command_asked f.0 (says.found_in f.1)) (subcommand_rows_of matches.now) }
 {
     let (name, found) = matches.subcommand()?;
     asked_of(name, found)
@@ -269,7 +273,7 @@ pub fn read_words<'w>(alloc: Global, words: &'w [String]) -> Result<Option<Asked
         return Ok(None);
     }
     match program(alloc)?.try_get_matches_from(words) {
-        Ok(matches) => Ok(asked_by(&matches)),
+        Ok(matches) => Ok(subcommand_asked(&matches)),
         Err(error) => match error.kind() {
             ErrorKind::OutOfMemory => Err(AllocError),
             _ => Ok(None),

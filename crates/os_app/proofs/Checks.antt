@@ -146,7 +146,7 @@ check_runs same one status run osil_name osrl_name check ends untaken =
     ChecksOf : Command → Type 0
     ChecksOf (Check a b) = Checks status run a b
     ChecksOf (Session journal) = Unit {0}
-    ChecksOf (Solve osil options handed seconds safe) = Unit {0}
+    ChecksOf (Solve osil options handed halt seconds safe) = Unit {0}
     ChecksOf (Generate variables) = Unit {0}
     ChecksOf (Call kind host port osil osol ospl) = Unit {0}
     ChecksOf (Compact old new) = Unit {0}

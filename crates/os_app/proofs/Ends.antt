@@ -71,7 +71,7 @@ answer_small osil osrl due line (refused r is why says) = omega (arith, is)
 
 due_small : (run : ProgramRun) (it : Command) (due : ℕ) (text : List ℕ) → IsDue run.held it due text → due ≤ 1
 due_small run (Check osil osrl) due text is = answer_small _ _ due text is.answers
-due_small run (Solve osil options handed seconds safe) due text is = omega (arith, is.status_is, solve_small is.report.error)
+due_small run (Solve osil options handed halt seconds safe) due text is = omega (arith, is.status_is, solve_small is.report.error)
 due_small run (Generate variables) due text is = omega (arith, is.about.status_is, check_small is.about.is_accepted)
 due_small run (Session journal) due text is = absurd is
 due_small run (Call kind host port osil osol ospl) due text is = absurd is

@@ -1,8 +1,9 @@
 -- How a run ends that solves the job of files.
-use Rattle.std.proofs.Common.{◌≡◌, ◌∙◌, ℕ, ◌⊎◌, inl, inr, Bool, true, false, Option, None, List, ap, subst}
+use Rattle.std.proofs.Common.{◌≡◌, ◌∙◌, ℕ, zero, suc, ◌⊎◌, inl, inr, Bool, true, false, Option, None, Some, List, refl, ap, subst, arith}
 use Rattle.std.specs.Prelude.{option_map}
 use Rattle.std.specs.Borrow.{Bor}
 use Rattle.os_io.specs.Files.{Held, ReadsFirst}
+use Rattle.os_io.specs.Halts.{CameHalted}
 use Rattle.certificate.specs.declared.causes.Cause.TheVariants.{Memory}
 use Rattle.certificate.specs.declared.claims.Claim.TheVariants.{Unsure}
 use Rattle.osrl_writing.specs.declared.report.Report.{Report}
@@ -13,6 +14,7 @@ use Rattle.solve_run.specs.JobAnswers.{AreJobTexts, IsBestOfSearch, IsNoteOfJob,
 use Rattle.command_answers.specs.FileNames.{ReadsNamed}
 use Rattle.command_answers.proofs.Outputs.{held_by}
 use Rattle.os_app.specs.Besides.{TakesResult}
+use Rattle.os_app.specs.Halts.{MayHalt}
 use Rattle.os_app.specs.Safe.{IsSafeText, HasNoSafeText, TakesOptions}
 use Rattle.os_app.specs.Safe as safe
 use Rattle.os_app.specs.Solves.{IsDocumentAbout, IsRightWithin}
@@ -91,9 +93,9 @@ takes_file a osil osol shows true taken (inl s) = inl (safe_file a osil osol sho
 takes_file a osil osol shows true taken (inr (none, is)) = inr (no_safe_file a osil osol shows none, is)
 
 -- the document that answers what was read is one about the files
-pub document_about : (instance : Held) (options results : Option Held) (seconds : Option ℕ) (safe : Bool) (a osol : List ℕ) (beside : Option (List ℕ)) (status : ℕ) (doc : Document) → ReadsFirst 4194305 instance a → ReadsNamed options osol → TakesResult results osol beside → status ≡ solve_status doc.is_error
-    → IsRightWithin beside seconds safe a osol doc → IsDocumentAbout instance options results seconds safe status doc.text
-document_about instance options results seconds safe a osol beside status doc first second third is (timed, in_time, (taken, takes, (r, answers, written))) =
+pub document_about : (instance : Held) (options results halt : Option Held) (seconds : Option ℕ) (safe : Bool) (a osol : List ℕ) (beside : Option (List ℕ)) (status : ℕ) (doc : Document) → ReadsFirst 4194305 instance a → ReadsNamed options osol → TakesResult results osol beside → status ≡ solve_status doc.is_error
+    → IsRightWithin beside halt seconds safe a osol doc → IsDocumentAbout instance options results halt seconds safe status doc.text
+document_about instance options results halt seconds safe a osol beside status doc first second third is (timed, in_time, (taken, takes, (asked, halted, (r, answers, written)))) =
     let file = file_of instance a first in
     record {
       osil = file.0;
@@ -107,23 +109,52 @@ document_about instance options results seconds safe a osol beside status doc fi
       in_time = in_time;
       taken = taken;
       takes = takes_file a file.0 timed file.2 safe taken takes;
-      answers = answers_file a file.0 taken file.2 beside false r answers;
+      asked = asked;
+      halted = halted;
+      answers = answers_file a file.0 taken file.2 beside asked r answers;
       written = tells_file a file.0 taken file.2 r doc.text written.text;
       status_is = is ∙ ap solve_status written.error;
     }
 
 -- the same texts by other names
-pub right_of_texts : (beside : Option (List ℕ)) (seconds : Option ℕ) (safe : Bool) (a b x y : List ℕ) (doc : Document) → x ≡ a → y ≡ b → IsRightWithin beside seconds safe x y doc → IsRightWithin beside seconds safe a b doc
-right_of_texts beside seconds safe a b x y doc first second right =
-    subst (λ (t : List ℕ). IsRightWithin beside seconds safe t b doc) first (subst (λ (t : List ℕ). IsRightWithin beside seconds safe x t doc) second right)
+pub right_of_texts : (beside : Option (List ℕ)) (halt : Option Held) (seconds : Option ℕ) (safe : Bool) (a b x y : List ℕ) (doc : Document) → x ≡ a → y ≡ b → IsRightWithin beside halt seconds safe x y doc → IsRightWithin beside halt seconds safe a b doc
+right_of_texts beside halt seconds safe a b x y doc first second right =
+    subst (λ (t : List ℕ). IsRightWithin beside halt seconds safe t b doc) first (subst (λ (t : List ℕ). IsRightWithin beside halt seconds safe x t doc) second right)
+
+-- of files that hold the same
+pub right_still : (before after : List ℕ → Held) (name : Option (Bor (List ℕ))) (beside : Option (List ℕ)) (seconds : Option ℕ) (safe : Bool) (osil osol : List ℕ) (doc : Document) → after ≡ before
+    → IsRightWithin beside (option_map (λ n. after n.now) name) seconds safe osil osol doc → IsRightWithin beside (option_map (λ n. before n.now) name) seconds safe osil osol doc
+right_still before after name beside seconds safe osil osol doc same right =
+    subst (λ (held : List ℕ → Held). IsRightWithin beside (option_map (λ n. held n.now) name) seconds safe osil osol doc) same right
+
+-- ---- a job that a file ends
+
+-- it was asked to stop where a look said so
+abbrev pub was_asked : (stops : ℕ) → Bool
+was_asked zero = false
+was_asked (suc n) = true
+
+-- which saw one
+pub halted_so : (held : Held) (stops : ℕ) (answers : List Bool) → CameHalted held 0 stops answers → MayHalt (Some held) (was_asked stops)
+halted_so held zero answers came = tt
+halted_so held (suc n) answers came = λ none.
+    let quiet = came.seen none in
+    let counted = came.counted in
+    omega (arith, quiet, counted)
+
+-- and wasn't where none did
+pub unasked : (stops : ℕ) → was_asked stops ≡ false → stops ≡ 0
+unasked zero none = refl
+unasked (suc n) none = let x : true ≡ false = none in absurd (cc)
 
 -- what names that may be given hold
-pub about_named : (held : List ℕ → Held) (instance : Held) (name other : Option (Bor (List ℕ))) (seconds : Option ℕ) (safe : Bool) (status : ℕ) (text : List ℕ)
-    → IsDocumentAbout instance (option_map (λ n. held n.now) name) (option_map (λ n. held n.now) other) seconds safe status text
-    → IsDocumentAbout instance (option_map held (option_map (λ n. n.now) name)) (option_map held (option_map (λ n. n.now) other)) seconds safe status text
-about_named held instance name other seconds safe status text about =
-    subst (λ (o : Option Held). IsDocumentAbout instance (option_map held (option_map (λ n. n.now) name)) o seconds safe status text) (held_by held other)
-    (subst (λ (o : Option Held). IsDocumentAbout instance o (option_map (λ n. held n.now) other) seconds safe status text) (held_by held name) about)
+pub about_named : (held : List ℕ → Held) (instance : Held) (name other third : Option (Bor (List ℕ))) (seconds : Option ℕ) (safe : Bool) (status : ℕ) (text : List ℕ)
+    → IsDocumentAbout instance (option_map (λ n. held n.now) name) (option_map (λ n. held n.now) other) (option_map (λ n. held n.now) third) seconds safe status text
+    → IsDocumentAbout instance (option_map held (option_map (λ n. n.now) name)) (option_map held (option_map (λ n. n.now) other)) (option_map held (option_map (λ n. n.now) third)) seconds safe status text
+about_named held instance name other third seconds safe status text about =
+    subst (λ (o : Option Held). IsDocumentAbout instance (option_map held (option_map (λ n. n.now) name)) (option_map held (option_map (λ n. n.now) other)) o seconds safe status text) (held_by held third)
+    (subst (λ (o : Option Held). IsDocumentAbout instance (option_map held (option_map (λ n. n.now) name)) o (option_map (λ n. held n.now) third) seconds safe status text) (held_by held other)
+    (subst (λ (o : Option Held). IsDocumentAbout instance o (option_map (λ n. held n.now) other) (option_map (λ n. held n.now) third) seconds safe status text) (held_by held name) about))
 
 -- the same files hold the same
 pub result_still : (before after : List ℕ → Held) (name : Option (Bor (List ℕ))) (osol : List ℕ) (beside : Option (List ℕ)) → after ≡ before → TakesResult (option_map (λ n. after n.now) name) osol beside
@@ -136,7 +167,7 @@ result_of_text results read osol beside same is = subst (λ (t : List ℕ). Take
 
 -- ---- a run
 
-pub solve_runs : {Untouched Stored : Type 0} (same : Untouched) (status : ℕ) (run : ProgramRun) (osil_name : List ℕ) (options_name result_name : Option (List ℕ)) (seconds : Option ℕ) (safe : Bool) → IsSolve run.words osil_name options_name result_name seconds safe
-    → EndsText status run (Solve osil_name options_name result_name seconds safe) → IsUntaken run → EndsSo Untouched Stored status run
-solve_runs same status run osil_name options_name result_name seconds safe solve ends untaken =
-    text_runs same status run (Solve osil_name options_name result_name seconds safe) solve ends untaken (no_check status run (Solve osil_name options_name result_name seconds safe) solve tt)
+pub solve_runs : {Untouched Stored : Type 0} (same : Untouched) (status : ℕ) (run : ProgramRun) (osil_name : List ℕ) (options_name result_name halt_name : Option (List ℕ)) (seconds : Option ℕ) (safe : Bool) → IsSolve run.words osil_name options_name result_name halt_name seconds safe
+    → EndsText status run (Solve osil_name options_name result_name halt_name seconds safe) → IsUntaken run → EndsSo Untouched Stored status run
+solve_runs same status run osil_name options_name result_name halt_name seconds safe solve ends untaken =
+    text_runs same status run (Solve osil_name options_name result_name halt_name seconds safe) solve ends untaken (no_check status run (Solve osil_name options_name result_name halt_name seconds safe) solve tt)

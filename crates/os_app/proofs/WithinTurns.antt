@@ -39,7 +39,7 @@ use Rattle.osil_grammar.specs.Reading.{IsInstanceText}
 use Rattle.osil_grammar.specs.Reading as instances
 use Rattle.osrl_writing.specs.declared.report.Report.{Report}
 use Rattle.osrl_writing.specs.Writing.{told_text}
-use Rattle.certificate.specs.GivenUp.{given_up, unbounded}
+use Rattle.certificate.specs.GivenUp.{given_up, without_bound}
 use Rattle.solve_run.specs.declared.closing.Judged.{Judged}
 use Rattle.solve_run.specs.declared.closing.Judged.TheVariants.{Width, Bound}
 use Rattle.solve_run.specs.Judging.{checked, wide_check}
@@ -154,7 +154,7 @@ given_up_is (BestSoFar x vs c b) k = refl
 given_up_is (Unsure c b) k = refl
 
 -- a bound is no cause
-without_is : (c : Claim) → claims_turn_limit (unbounded c) ≡ claims_turn_limit c
+without_is : (c : Claim) → claims_turn_limit (without_bound c) ≡ claims_turn_limit c
 without_is (Optimal x vs cs) = refl
 without_is (Infeasible cert) = refl
 without_is (Unbounded x vs cs r) = refl
@@ -282,19 +282,19 @@ module _ (laws : Laws) (osil osol taken : List ℕ) (p : Parts) (text : IsInstan
       let clash : Nothing ≡ Once h.handed.taken.text = sym none ∙ h.handed.taken.one in
       absurd (cc)
 
-  pub answers_within : (r : Report) → TakesOptions true osil osol taken → AnswersJob osil taken false r → says_turn_limit r.claim ≡ false
-  answers_within r takes (no_options h) = ap (λ (x : Report). says_turn_limit x.claim) h.is
-  answers_within r takes (no_instance h) = ap (λ (x : Report). says_turn_limit x.claim) h.is
-  answers_within r takes (handed h) = handed_within r takes h
-  answers_within r takes (solved stop looks timed may s) = solved_within stop timed looks r takes s
-  answers_within r takes (gave_up g) = ap (λ (x : Report). says_turn_limit x.claim) g.is ∙ ap says_turn_limit (noted_claim g.note (claim_report g.job g.claim)) ∙ gave_up_is osil taken g.claim g.claims
+  pub answers_within : (asked : Bool) (r : Report) → TakesOptions true osil osol taken → AnswersJob osil taken asked r → says_turn_limit r.claim ≡ false
+  answers_within asked r takes (no_options h) = ap (λ (x : Report). says_turn_limit x.claim) h.is
+  answers_within asked r takes (no_instance h) = ap (λ (x : Report). says_turn_limit x.claim) h.is
+  answers_within asked r takes (handed h) = handed_within r takes h
+  answers_within asked r takes (solved stop looks timed may s) = solved_within stop timed looks r takes s
+  answers_within asked r takes (gave_up g) = ap (λ (x : Report). says_turn_limit x.claim) g.is ∙ ap says_turn_limit (noted_claim g.note (claim_report g.job g.claim)) ∙ gave_up_is osil taken g.claim g.claims
 
 -- ---- a run
 
-module _ (laws : Laws) (status : ℕ) (run : ProgramRun) (osil_name : List ℕ) (options_name : Option (List ℕ)) (osil : List ℕ) (p : Parts) (seconds : Option ℕ) (solve : IsSolve run.words osil_name options_name None seconds true) (nothing : HandInNothing (option_map run.held options_name)) (holds : run.held osil_name ≡ Holds osil) (text : IsInstanceText osil p) (single : length p.goals ≡ 1) (plain : IsPlain (program p)) (ranges : HaveOneRange (program p)) (feasible : BeginsFeasible (program p)) (few : length p.vars + length p.rows ≤ 13) where
-  due_within : (it : Command) (due : ℕ) (line : List ℕ) → it ≡ Solve osil_name options_name None seconds true → IsDue run.held it due line → IsTold due line status run.output run.output_after → WritesWithinTurns status run
+module _ (laws : Laws) (status : ℕ) (run : ProgramRun) (osil_name : List ℕ) (options_name : Option (List ℕ)) (osil : List ℕ) (p : Parts) (halt_name : Option (List ℕ)) (seconds : Option ℕ) (solve : IsSolve run.words osil_name options_name None halt_name seconds true) (nothing : HandInNothing (option_map run.held options_name)) (holds : run.held osil_name ≡ Holds osil) (text : IsInstanceText osil p) (single : length p.goals ≡ 1) (plain : IsPlain (program p)) (ranges : HaveOneRange (program p)) (feasible : BeginsFeasible (program p)) (few : length p.vars + length p.rows ≤ 13) where
+  due_within : (it : Command) (due : ℕ) (line : List ℕ) → it ≡ Solve osil_name options_name None halt_name seconds true → IsDue run.held it due line → IsTold due line status run.output run.output_after → WritesWithinTurns status run
   due_within it due line is asked told =
-      let about : IsDocumentAbout (run.held osil_name) (option_map run.held options_name) None seconds true due line = subst (λ (x : Command). IsDue run.held x due line) is asked in
+      let about : IsDocumentAbout (run.held osil_name) (option_map run.held options_name) None (option_map run.held halt_name) seconds true due line = subst (λ (x : Command). IsDue run.held x due line) is asked in
       let file : about.osil ≡ osil = subst (λ (h : Held). MayHold h about.osil) holds about.instance_file in
       let its : IsTold due (told_text about.written.names about.report) status run.output run.output_after = subst (λ (t : List ℕ). IsTold due t status run.output run.output_after) about.written.is told in
       let bare : about.beside ≡ None = about.result_file.2 ∙ ap one_handed (nothing about.osol about.result_file.0 about.options_file about.result_file.1) in
@@ -302,14 +302,14 @@ module _ (laws : Laws) (status : ℕ) (run : ProgramRun) (osil_name : List ℕ) 
         report = about.report;
         names = about.written.names;
         told = subst (λ (d : ℕ). IsTold d (told_text about.written.names about.report) status run.output run.output_after) about.status_is its;
-        within = answers_within laws about.osil about.timed about.taken p (subst (λ (t : List ℕ). IsInstanceText t p) (sym file) text) single plain ranges feasible few about.report about.takes (subst (λ (b : Option (List ℕ)). AnswersBeside b about.osil about.taken false about.report) bare about.answers);
+        within = answers_within laws about.osil about.timed about.taken p (subst (λ (t : List ℕ). IsInstanceText t p) (sym file) text) single plain ranges feasible few about.asked about.report about.takes (subst (λ (b : Option (List ℕ)). AnswersBeside b about.osil about.taken about.asked about.report) bare about.answers);
       })
 
-  one : (it : Command) → asks run.words ≡ Some it → it ≡ Solve osil_name options_name None seconds true
-  one it asked = one_command _ it (Solve osil_name options_name None seconds true) asked solve
+  one : (it : Command) → asks run.words ≡ Some it → it ≡ Solve osil_name options_name None halt_name seconds true
+  one it asked = one_command _ it (Solve osil_name options_name None halt_name seconds true) asked solve
 
   a_command : IsNoCommand run.words → ⊥
-  a_command other = none-some (Solve osil_name options_name None seconds true) (sym other ∙ solve)
+  a_command other = none-some (Solve osil_name options_name None halt_name seconds true) (sym other ∙ solve)
 
   unsent_within : (u : IsUnsent run) → status ≡ 4 → IsUsageDue run u.text ⊎ IsAnswerDue run u.text → WritesWithinTurns status run
   unsent_within u is (inl d) = absurd (a_command d.other)

@@ -33,7 +33,7 @@ more_words f words it asked = by_lt 1 (length words) (λ more. more) (λ few. ab
 abbrev pub IsOther : Command → Type 0
 IsOther (Check osil osrl) = ⊥
 IsOther (Session journal) = Unit {0}
-IsOther (Solve osil options handed seconds safe) = Unit {0}
+IsOther (Solve osil options handed halt seconds safe) = Unit {0}
 IsOther (Generate variables) = Unit {0}
 IsOther (Call kind host port osil osol ospl) = Unit {0}
 IsOther (Compact old new) = Unit {0}

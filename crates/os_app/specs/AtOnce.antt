@@ -7,11 +7,11 @@ use Rattle.os_app.specs.declared.command.Waits.{Waits}
 use Rattle.os_app.specs.declared.command.Waits.TheVariants.{Session, Serve}
 
 -- the words that ask for it
-abbrev pub asked_by : Waits → Asked
-asked_by (Session journal) = asked.Session journal
-asked_by (Serve to) = asked.Serve to
+abbrev pub asked_to_wait : Waits → Asked
+asked_to_wait (Session journal) = asked.Session journal
+asked_to_wait (Serve to) = asked.Serve to
 
 -- some words ask for it
 pub record IsAskedFor (waits : Waits) : Type 0 where
   pub words : List (List ℕ)
-  pub asked : asks words ≡ Some (meant (asked_by waits))
+  pub asked : asks words ≡ Some (meant (asked_to_wait waits))

@@ -2,6 +2,7 @@ pub mod AtOnce
 pub mod Checks
 pub mod CompactRuns
 pub mod Besides
+pub mod Halts
 pub mod Safe
 pub mod Timed
 pub mod Solves
@@ -9,6 +10,7 @@ pub mod Summaries
 pub mod Ends
 pub mod Grounds
 pub mod JournalFaults
+pub mod Paces
 pub mod ProgramRuns
 pub mod Runs
 pub mod StoredRuns

@@ -58,7 +58,7 @@ asks_to_serve host port setup journal = Serve host port setup.limits.workers set
 abbrev pub journal_of : Command → Option (List ℕ)
 journal_of (Session journal) = journal
 journal_of (Check osil osrl) = None
-journal_of (Solve osil options handed seconds safe) = None
+journal_of (Solve osil options handed halt seconds safe) = None
 journal_of (Generate variables) = None
 journal_of (Call kind host port osil osol ospl) = None
 journal_of (Compact old new) = Some old

@@ -33,7 +33,7 @@ use Rattle.command_line.specs.Words.{Command, Session, Check, Solve, Generate, C
 -- about a generated instance. The others ask for no text that is made beforehand
 abbrev pub IsDue : (List ℕ → Held) → Command → (status : ℕ) → (text : List ℕ) → Type 0
 IsDue held (Check osil osrl) status text = IsAnswerAbout (held osil) (held osrl) status text
-IsDue held (Solve osil options handed seconds safe) status text = IsDocumentAbout (held osil) (option_map held options) (option_map held handed) seconds safe status text
+IsDue held (Solve osil options handed halt seconds safe) status text = IsDocumentAbout (held osil) (option_map held options) (option_map held handed) (option_map held halt) seconds safe status text
 IsDue held (Generate variables) status text = IsSummaryOf variables status text
 IsDue held (Session journal) status text = ⊥
 IsDue held (Call kind host port osil osol ospl) status text = ⊥

@@ -6,7 +6,7 @@ ghost use Rattle.os_io.specs.Files.{Held};
 ghost use Rattle.os_io.specs.Streams.{SameInput, SameOutput, Tells};
 ghost use Rattle.command_answers.specs.Outputs.{IsTold};
 ghost use Rattle.command_line.specs.Words.{AsksForNoLink, NamesNoFile, asks, meant, usage};
-ghost use Rattle.os_app.specs.AtOnce.{IsAskedFor, asked_by};
+ghost use Rattle.os_app.specs.AtOnce.{IsAskedFor, asked_to_wait};
 ghost use Rattle.os_app.specs.Ends.{AnswerEnds, from_memory};
 ghost use Rattle.os_app.specs.Grounds.{AnswersAreOne};
 ghost use Rattle.os_app.specs.ProgramRuns.{NamesNoJournal, setup_of, stores_run};
@@ -112,8 +112,9 @@ pub enum Waits<'w> {
 }
 
 /// Does what the words ask for, as [`run`] does, where that waits for nobody but the files, disks, links and the output: it has no handle
-/// by which it might wait, start threads or run on for ever; the clock it may only read. Of words that ask for a session or a server it says so, and does nothing.
-pub fn run_at_once<'w, T: Clock, F: Files, K: Stores, O: Sink, N: Listener>(
+/// by which it might wait, start threads or run on for ever; the clock it may only read. A search that a file may end tells each second how
+/// it stands, and nothing else is written to where that is told. Of words that ask for a session or a server it says so, and does nothing.
+pub fn run_at_once<'w, T: Clock, F: Files, K: Stores, O: Sink, N: Listener, E: Sink>(
     clock: &T,
     alloc: Global,
     words: &'w [String],
@@ -121,6 +122,7 @@ pub fn run_at_once<'w, T: Clock, F: Files, K: Stores, O: Sink, N: Listener>(
     stores: &mut K,
     output: &mut O,
     net: &mut N,
+    told: &mut E,
 ) -> Result<u8, Waits<'w>>
     // What a run does, whatever its input tells, which it hasn't.
     ensures runs { IfOk result (λ status. (input : Tells) → Runs K.Store.Disk (stores.new ≡ stores.old) status (record {
@@ -135,7 +137,7 @@ pub fn run_at_once<'w, T: Clock, F: Files, K: Stores, O: Sink, N: Listener>(
       net = N.tells net.old;
       net_after = N.tells net.new;
     }) (stores_run K.held K.back K.opened K.faults stores.old stores.new)) }
-    ensures waits { IfErr result (λ it. asks (map string_bytes words.now) ≡ Some (meant (asked_by it))) }
+    ensures waits { IfErr result (λ it. asks (map string_bytes words.now) ≡ Some (meant (asked_to_wait it))) }
     ensures asked { IfErr result IsAskedFor }
     ensures untouched { OnErr result ((files.new ≡ files.old) × (stores.new ≡ stores.old) × (output.new ≡ output.old) × (net.new ≡ net.old)) }
     ensures input_of_output { SameInput (O.tells output.old) (O.tells output.new) }
@@ -159,6 +161,7 @@ pub fn run_at_once<'w, T: Clock, F: Files, K: Stores, O: Sink, N: Listener>(
                     osil,
                     options,
                     handed,
+                    halt,
                     seconds,
                     safe,
                 },
@@ -166,7 +169,9 @@ pub fn run_at_once<'w, T: Clock, F: Files, K: Stores, O: Sink, N: Listener>(
         ) => {
             Ok(tell(
                 output,
-                solve_files(clock, alloc, files, osil, options, handed, seconds, safe),
+                solve_files(
+                    clock, alloc, files, told, osil, options, handed, halt, seconds, safe,
+                ),
             ))
         }
         Ok(Some(Asked::Generate { variables })) => {
@@ -196,7 +201,7 @@ where
     N::Conn: Send + Drop,
     K::Store: Send + Sync,
     requires { IsAskedFor waits }
-    ensures runs { (words : List (List ℕ)) (held : List ℕ → Held) (faults : ℕ) → asks words ≡ Some (meant (asked_by waits.entry)) → Runs K.Store.Disk (stores.new ≡ stores.old) result (record {
+    ensures runs { (words : List (List ℕ)) (held : List ℕ → Held) (faults : ℕ) → asks words ≡ Some (meant (asked_to_wait waits.entry)) → Runs K.Store.Disk (stores.new ≡ stores.old) result (record {
       words = words;
       held = held;
       file_faults = faults;
@@ -210,8 +215,8 @@ where
     }) (stores_run K.held K.back K.opened K.faults stores.old stores.new) }
     ensures output_of_input { SameOutput (I.tells input.old) (I.tells input.new) }
     ensures input_of_output { SameInput (O.tells output.old) (O.tells output.new) }
-    ensures unlinked { (words : List (List ℕ)) → asks words ≡ Some (meant (asked_by waits.entry)) → AsksForNoLink words → net.new ≡ net.old }
-    ensures unkept { (words : List (List ℕ)) → asks words ≡ Some (meant (asked_by waits.entry)) → NamesNoJournal words → stores.new ≡ stores.old }
+    ensures unlinked { (words : List (List ℕ)) → asks words ≡ Some (meant (asked_to_wait waits.entry)) → AsksForNoLink words → net.new ≡ net.old }
+    ensures unkept { (words : List (List ℕ)) → asks words ≡ Some (meant (asked_to_wait waits.entry)) → NamesNoJournal words → stores.new ≡ stores.old }
 {
     match waits {
         Waits::Session { journal } => match journal {
@@ -249,7 +254,15 @@ where
 /// inside a request; and 9 where the journal is damaged, and `damaged at` and the place were written in a line. Where there was no
 /// memory to read the words or to make the text that they ask for, or the journal wasn't opened, nothing is taken and no link is asked
 /// for, and nothing but that line is written. Where there are no words behind the program's name the usage takes no memory.
-pub fn run<F: Files, K: Stores, I: Source, O: Sink, N: Listener, R: Threads + Wait + Clock + Sync>(
+pub fn run<
+    F: Files,
+    K: Stores,
+    I: Source,
+    O: Sink,
+    N: Listener,
+    E: Sink,
+    R: Threads + Wait + Clock + Sync,
+>(
     rt: &R,
     alloc: Global,
     words: &[String],
@@ -258,6 +271,7 @@ pub fn run<F: Files, K: Stores, I: Source, O: Sink, N: Listener, R: Threads + Wa
     input: &mut I,
     output: &mut O,
     net: &mut N,
+    told: &mut E,
 ) -> u8
 where
     N::Conn: Send + Drop,
@@ -282,7 +296,7 @@ where
     ensures unkept { NamesNoJournal (map string_bytes words.now) → stores.new ≡ stores.old }
     ensures usage { length words.now ≤ 1 → IsTold 2 usage result (O.tells output.old) (O.tells output.new) }
 {
-    match run_at_once(rt, alloc, words, files, stores, output, net) {
+    match run_at_once(rt, alloc, words, files, stores, output, net, told) {
         Ok(status) => status,
         Err(waits) => serve_for(rt, alloc, waits, stores, input, output, net),
     }

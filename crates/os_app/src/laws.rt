@@ -17,10 +17,10 @@ use no_cycles::safe_limits_are_enough_from_points;
 use osil_grammar::{documents_are_refused_in_one_way, documents_mean_one_instance};
 use osol_grammar::{comes_back, options_are_not_refused, read_options_come_back};
 
-/// Law: what `solve --safe` writes, within a time or without, never names the limit of turns, where neither its words nor its options hand in a result, the instance has one goal and no variables that are whole or may be 0
+/// Law: what `solve --safe` writes, within a time or without, be it ended by a file or not, never names the limit of turns, where neither its words nor its options hand in a result, the instance has one goal and no variables that are whole or may be 0
 /// besides, its first values keep each row between its ends, and it has at most 13 variables and rows together.
 pub fn safe_solves_stay_within_turns<K: Stores>()
-    ensures { (status : ℕ) (run : ProgramRun) (stores stores_after : K) (osil_name : List ℕ) (options_name : Option (List ℕ)) (osil : List ℕ) (p : Parts) (seconds : Option ℕ) → Runs K.Store.Disk (stores_after ≡ stores) status run (stores_run K.held K.back K.opened K.faults stores stores_after) → IsSolve run.words osil_name options_name None seconds true → HandInNothing (option_map run.held options_name) → run.held osil_name ≡ Holds osil → IsInstanceText osil p → length p.goals ≡ 1 → IsPlain (program p) → HaveOneRange (program p) → BeginsFeasible (program p) → length p.vars + length p.rows ≤ 13 → WritesWithinTurns status run }
+    ensures { (status : ℕ) (run : ProgramRun) (stores stores_after : K) (osil_name : List ℕ) (options_name halt_name : Option (List ℕ)) (osil : List ℕ) (p : Parts) (seconds : Option ℕ) → Runs K.Store.Disk (stores_after ≡ stores) status run (stores_run K.held K.back K.opened K.faults stores stores_after) → IsSolve run.words osil_name options_name None halt_name seconds true → HandInNothing (option_map run.held options_name) → run.held osil_name ≡ Holds osil → IsInstanceText osil p → length p.goals ≡ 1 → IsPlain (program p) → HaveOneRange (program p) → BeginsFeasible (program p) → length p.vars + length p.rows ≤ 13 → WritesWithinTurns status run }
 {
     programs_have_numbers();
     safe_limits_are_enough_from_points();

@@ -2,7 +2,7 @@
 //!
 //! `session` serves the requests that come on the standard input, and writes the answers to the standard output. `check OSIL
 //! OSRL` reads an instance and a result from two files and says whether what is claimed is shown, `solve OSIL [--options
-//! OSOL] [--result OSRL] [--seconds N] [--safe]` writes the result document of an instance, and `generate N` says how a generated one was solved. `serve`
+//! OSOL] [--result OSRL] [--seconds N] [--halt FILE] [--safe]` writes the result document of an instance, and `generate N` says how a generated one was solved. `serve`
 //! serves connections over TCP, and `call` makes a call of such a server; `--journal FILE` keeps jobs in a file, and
 //! `compact OLD NEW` writes such a file again without what jobs had that are gone. The program is [`os_app::run`] over the real words,
 //! files, input, output and links, and ends with its status; what waits for nobody is done by [`os_app::run_at_once`] before.
@@ -27,7 +27,7 @@ fn words_of(rt: &HostRuntime) -> Result<Vec<String>, Memory> {
     }
 }
 
-/// Runs over the disk's files, the standard input and output, and links over TCP.
+/// Runs over the disk's files, the standard input and output, and links over TCP. What a search tells while it runs goes to the standard error.
 fn main(rt: HostRuntime) -> ExitCode {
     let words = match words_of(&rt) {
         Ok(words) => words,
@@ -38,6 +38,7 @@ fn main(rt: HostRuntime) -> ExitCode {
     let mut input = StdSource::new(rt.stdin());
     let mut output = StdSink::new(rt.stdout());
     let mut net = TcpNet::new(&rt);
+    let mut told = StdSink::new(rt.stderr());
     let words = words.as_slice();
     let ran = run_at_once(
         &rt,
@@ -47,6 +48,7 @@ fn main(rt: HostRuntime) -> ExitCode {
         &mut stores,
         &mut output,
         &mut net,
+        &mut told,
     );
     exit_code(Ok(match ran {
         Ok(status) => status,
@@ -59,6 +61,7 @@ fn main(rt: HostRuntime) -> ExitCode {
             &mut input,
             &mut output,
             &mut net,
+            &mut told,
         ),
     }))
 }

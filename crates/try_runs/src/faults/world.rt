@@ -94,6 +94,7 @@ impl<'r, R: Threads + Wait + Clock + Sync, F: Files> World<'r, R, F> {
         let mut net = net_of(alloc, given.links, fails)?;
         let disk = MemDisk::new(alloc, &[], &[], u64::MAX)?;
         let mut stores = MemStores::new(alloc, "journal", disk)?;
+        let mut told = MemSink::new(alloc, ROOM, &[])?;
         let status = run(
             self.rt,
             alloc,
@@ -103,6 +104,7 @@ impl<'r, R: Threads + Wait + Clock + Sync, F: Files> World<'r, R, F> {
             &mut input,
             &mut output,
             &mut net,
+            &mut told,
         );
         let (back, of_links) = links_back(alloc, &mut net)?;
         let rose = if files.faults() > 0 {

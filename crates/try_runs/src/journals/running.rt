@@ -95,6 +95,7 @@ impl<'r, R: Threads + Wait + Clock + Sync> Keeper<'r, R> {
         let mut input = MemSource::new(alloc, input, 400, &[])?;
         let mut output = MemSink::new(alloc, ROOM, &[])?;
         let mut net = MemListener::new(alloc, &[])?;
+        let mut told = MemSink::new(alloc, ROOM, &[])?;
         let status = run(
             self.rt,
             alloc,
@@ -104,6 +105,7 @@ impl<'r, R: Threads + Wait + Clock + Sync> Keeper<'r, R> {
             &mut input,
             &mut output,
             &mut net,
+            &mut told,
         );
         let output = Text::from_slice(alloc, output.as_slice())?;
         Ok(Came { status, output })

@@ -92,6 +92,7 @@ impl<'r, R: Threads + Wait + Clock + Sync, F: Files> World<'r, R, F> {
         let mut output = output_of(alloc, room, fails)?;
         let disk = MemDisk::new(alloc, &[], &[fails.disk], u64::MAX)?;
         let mut stores = MemStores::new(alloc, "journal", disk)?;
+        let mut told = MemSink::new(alloc, ROOM, &[])?;
         let status = run(
             self.rt,
             alloc,
@@ -101,6 +102,7 @@ impl<'r, R: Threads + Wait + Clock + Sync, F: Files> World<'r, R, F> {
             &mut input,
             &mut output,
             net,
+            &mut told,
         );
         let mut text = Text::new(alloc);
         text.push(b'0'.saturating_add(status))?;

@@ -41,6 +41,7 @@ fn ran<R: Threads + Wait + Clock + Sync>(
     let mut input = MemSource::new(alloc, b"", 1, &[])?;
     let mut output = MemSink::new(alloc, ROOM, &[])?;
     let mut net = MemListener::new(alloc, &[])?;
+    let mut told = MemSink::new(alloc, ROOM, &[])?;
     let disk = MemDisk::new(alloc, &[], &[], u64::MAX)?;
     let mut stores = MemStores::new(alloc, "journal", disk)?;
     let status = run(
@@ -52,6 +53,7 @@ fn ran<R: Threads + Wait + Clock + Sync>(
         &mut input,
         &mut output,
         &mut net,
+        &mut told,
     );
     Ok((status, Text::from_slice(alloc, output.as_slice())?))
 }

@@ -10,7 +10,7 @@ returns-then-words-le1-clause-asked c = sym (name_asks_nothing _ (omega (arith, 
 
 pub returns-in-Ok-clause-asked : goal.returns-in-Ok-clause-asked
 returns-in-Ok-clause-asked c =
-    c.asked_by.ensures ∙ asks_by_subcommand _ _ c.in-Ok.matches c.in_ok-program.ensures c.in-Ok.ensures.kinds c.in-Ok.ensures.matches
+    c.subcommand_asked.ensures ∙ asks_by_subcommand _ _ c.in-Ok.matches c.in_ok-program.ensures c.in-Ok.ensures.kinds c.in-Ok.ensures.matches
 
 pub returns-clause-asked : goal.returns-clause-asked
 returns-clause-asked c =

@@ -20,9 +20,9 @@ returns-in-Ok-Some-Check-clause-runs g c = λ input.
 pub returns-in-Ok-Some-Solve-clause-runs : goal.returns-in-Ok-Some-Solve-clause-runs
 returns-in-Ok-Some-Solve-clause-runs g c = λ input.
     let solve = asks_it _ _ _ (c.in-Ok-Some-Solve.field-0-is ∙ ap Some c.in-Ok-Some-Solve.field-0-0-is) c.in-Ok-Some-Solve.ensures.asked in
-    solve_runs refl _ _ _ _ _ _ _ solve
+    solve_runs refl _ _ _ _ _ _ _ _ solve
     (ends_of _ _ _ _ c.solve_files.result _ _
-    (IfOk-weaker c.solve_files.result _ _ (λ a about. about_named (g.F.Files.held c.args.files.now) _ _ _ _ _ a.status a.text about) c.solve_files.ensures.ok)
+    (IfOk-weaker c.solve_files.result _ _ (λ a about. about_named (g.F.Files.held c.args.files.now) _ _ _ _ _ _ a.status a.text about) c.solve_files.ensures.ok)
     c.solve_files.ensures.counted c.tell-in-Ok-Some-Solve.ensures.told) (refl, refl)
 
 pub returns-in-Ok-None-clause-runs : goal.returns-in-Ok-None-clause-runs
