@@ -89,7 +89,7 @@ try_install() {
 
 try_words() {
     expect 'a file that is not there' "$(quiet gubnatris solve nofile.osil)" \
-        "gubnatris: can't read nofile.osil: there is no such file; name another file: gubnatris solve OSIL [--options OSOL] [--result OSRL] [--seconds N] [--safe]"
+        "gubnatris: can't read nofile.osil: there is no such file; name another file: gubnatris solve OSIL [--options OSOL] [--result OSRL] [--seconds N] [--halt FILE] [--safe]"
     expect 'the help names the command' "$(quiet gubnatris help generate | grep -x 'gubnatris generate N')" 'gubnatris generate N'
     expect 'no help names the checkout' "$(quiet gubnatris help | grep -c '\./os')" 0
     expect 'try is a word of the checkout' "$(quiet gubnatris try generate 1 | tail -n 1)" 'gubnatris: there is no command try; gubnatris help lists those that there are'
