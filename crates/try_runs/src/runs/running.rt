@@ -4,7 +4,7 @@ use super::ends::{Fails, ROOM, files_of, input_of, net_of, output_of};
 use crate::words::{behind, words_of};
 use cases::{bytes_of, number_of};
 use memory_disks::{MemDisk, MemStores};
-use memory_ends::MemListener;
+use memory_ends::{MemListener, MemSink};
 use os_app::run;
 use os_io::{Files, Memory, Text};
 use std::alloc::Global;
